@@ -1,0 +1,12 @@
+pub mod Tests
+pub mod Lists
+pub mod Counts
+pub mod Rounding
+pub mod Refusals
+pub mod Links
+pub mod Neighbours
+pub mod Stores
+pub mod Enumerations
+pub mod Order
+pub mod Extrema
+pub mod Fewer

@@ -1,0 +1,23 @@
+-- Rounding is monotone, and stays within what it divides. Assumes nothing.
+use Prim.Native.Nat.{ℕ, zero, suc, _+_, _*_, _/_, _≤_, _<_, zero-le}
+use mathlib.Core.Path.{_≡_, sym, _∙_}
+use native.Mathlib.Nat.{le-refl, le-trans, le-div-iff-mul-le, div-mul-le-self, div-zero, div-lt-iff-lt-mul, mul-le-mul-left, le-of-eq}
+use native.Mathlib.Omega.{arith}
+use Rattle.planes.specs.Rounding.{rounded}
+
+pub div-mono : (m : ℕ) {x y : ℕ} → x ≤ y → x / m ≤ y / m
+div-mono zero {x} {y} h = le-of-eq (div-zero x ∙ sym (div-zero y))
+div-mono (suc m) {x} {y} h = le-div-iff-mul-le {k = suc m} {x = x / suc m} {y = y} (omega arith) .1 (le-trans (div-mul-le-self x (suc m)) h)
+
+pub rounded-mono : (m : ℕ) {x y : ℕ} → x ≤ y → rounded x m ≤ rounded y m
+rounded-mono m h = div-mono (2 * m) (omega arith)
+
+pub rounded-le : (d m x : ℕ) → x ≤ m → rounded (d * x) m ≤ d
+rounded-le d zero x h = le-trans (le-of-eq (div-zero (2 * (d * x) + 0))) zero-le
+rounded-le d (suc m) x h =
+    let k : 2 * (d * x) + suc m < suc d * (2 * suc m) = omega (arith, mul-le-mul-left d h) in
+    let l : (2 * (d * x) + suc m) / (2 * suc m) < suc d = div-lt-iff-lt-mul {k = 2 * suc m} (omega arith) .1 k in
+    omega arith
+
+pub rounded-in : (d m x : ℕ) → x ≤ d * m → rounded x m ≤ d
+rounded-in d m x h = le-trans (rounded-mono m h) (rounded-le d m m (le-refl m))

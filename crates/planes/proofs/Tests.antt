@@ -1,0 +1,93 @@
+-- Laws of tests: Bool by `&&`, `||` and `not`, and equality and order of numbers as tests. Assumes nothing.
+use Prim.Native.Nat.{ℕ, _≤_, _<_}
+use mathlib.Core.Path.{_≡_, refl, sym}
+use mathlib.Core.Logic.{_⊎_, inl, inr}
+use mathlib.Core.Bool.{Bool, true, false, _&&_, _||_, false≢true, true≢false}
+use lib.Dec.{ltb, eqb}
+use borrow.Author.Tests.{eqb-true, eqb-false, eq-eqb, ltb-true, ltb-false}
+use Rattle.planes.specs.Extrema.{implies}
+
+pub or-cases : (s t : Bool) → (s || t) ≡ true → (s ≡ true) ⊎ (t ≡ true)
+or-cases true t e = inl refl
+or-cases false t e = inr e
+
+pub or-left : (s t : Bool) → s ≡ true → (s || t) ≡ true
+or-left s t e = rw e refl
+
+pub or-right : (s t : Bool) → t ≡ true → (s || t) ≡ true
+or-right true t e = refl
+or-right false t e = e
+
+pub and-left : (s t : Bool) → (s && t) ≡ true → s ≡ true
+and-left true t e = refl
+and-left false t e = e
+
+pub and-right : (s t : Bool) → (s && t) ≡ true → t ≡ true
+and-right true t e = e
+and-right false t e = absurd (false≢true e)
+
+pub and-both : {s t : Bool} → s ≡ true → t ≡ true → (s && t) ≡ true
+and-both e f = rw e f
+
+pub and-comm : (s t : Bool) → (s && t) ≡ (t && s)
+and-comm true true = refl
+and-comm true false = refl
+and-comm false true = refl
+and-comm false false = refl
+
+pub or-comm : (s t : Bool) → (s || t) ≡ (t || s)
+or-comm true true = refl
+or-comm true false = refl
+or-comm false true = refl
+or-comm false false = refl
+
+-- two tests that pass together are equal
+pub same-test : (s t : Bool) → (s ≡ true → t ≡ true) → (t ≡ true → s ≡ true) → s ≡ t
+same-test true t f g = sym (f refl)
+same-test false true f g = g refl
+same-test false false f g = refl
+
+pub eqb-sym : (i j : ℕ) → eqb i j ≡ eqb j i
+eqb-sym i j = same-test (eqb i j) (eqb j i) (λ e. eq-eqb j i (sym (eqb-true i j e))) (λ e. eq-eqb i j (sym (eqb-true j i e)))
+
+pub eq-or-not : (i j : ℕ) → (i ≡ j) ⊎ (i ≡ j → ⊥)
+eq-or-not i j = go (eqb i j) refl
+  where
+    go : (t : Bool) → eqb i j ≡ t → (i ≡ j) ⊎ (i ≡ j → ⊥)
+    go true e = inl (eqb-true i j e)
+    go false e = inr (eqb-false i j e)
+
+pub less-or-not : (i j : ℕ) → (i < j) ⊎ (j ≤ i)
+less-or-not i j = go (ltb i j) refl
+  where
+    go : (t : Bool) → ltb i j ≡ t → (i < j) ⊎ (j ≤ i)
+    go true e = inl (ltb-true i j e)
+    go false e = inr (ltb-false i j e)
+
+pub decide : (t : Bool) → (t ≡ true) ⊎ (t ≡ false)
+decide true = inl refl
+decide false = inr refl
+
+pub or-none : (s t : Bool) → (s || t) ≡ false → (s ≡ false) × (t ≡ false)
+or-none true t e = absurd (true≢false e)
+or-none false t e = (refl, e)
+
+pub or-false : (t : Bool) → (t || false) ≡ t
+or-false true = refl
+or-false false = refl
+
+pub and-false : (t : Bool) → (t && false) ≡ false
+and-false true = refl
+and-false false = refl
+
+pub and-true : (t : Bool) → (t && true) ≡ t
+and-true true = refl
+and-true false = refl
+
+pub implies-out : (s t : Bool) → implies s t ≡ true → s ≡ true → t ≡ true
+implies-out true t e h = e
+implies-out false t e h = absurd (false≢true h)
+
+pub implies-in : (s t : Bool) → (s ≡ true → t ≡ true) → implies s t ≡ true
+implies-in true t h = h refl
+implies-in false t h = refl

@@ -1,0 +1,7 @@
+pub mod Lists
+pub mod Rounding
+pub mod Refusals
+pub mod Neighbours
+pub mod Enumerations
+pub mod Order
+pub mod Extrema
