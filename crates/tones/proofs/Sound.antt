@@ -1,0 +1,92 @@
+-- Every tone rule is sound: on [a, b] it never falls, and it stays in [a, b]. What a rule adds to a is a part x of a
+-- whole y of b - a, rounded, and x grows with the value. The value b always becomes b. Assumes nothing.
+use Prim.Native.Nat.{ℕ, zero, suc, _+_, _-_, _*_, _≤_, _<_, min}
+use mathlib.Core.Path.{_≡_, refl, sym, ap, _∙_}
+use mathlib.Core.Bool.{Bool, true, false, cond}
+use mathlib.Core.List.{List}
+use native.Mathlib.Nat.{le-trans, min-le-left, mul-le-mul-left, mul-le-mul-right, mul-add}
+use native.Mathlib.Omega.{arith}
+use lib.ListN.{length}
+use lib.Dec.{leb, eqb}
+use borrow.Author.Tests.{leb-true, le-leb}
+use Rattle.planes.specs.Lists.{count}
+use Rattle.planes.specs.Rounding.{rounded}
+use Rattle.planes.proofs.Counts.{count-le, count-mono}
+use Rattle.planes.proofs.Rounding.{rounded-mono, rounded-le}
+use Rattle.tones.specs.Tones.{sum, sumTo, plainTone, clipped, limitedTone, tone, kept}
+use Rattle.tones.specs.Sound.{Sound}
+use Rattle.tones.specs.declared.Rule.{Rule}
+use Rattle.tones.specs.declared.Rule.the-variants.{Plain}
+use Rattle.tones.specs.declared.Rule.the-variants.{Limited}
+use Rattle.tones.proofs.Sums.{sum-mono, sum-le, sum-thousand, sum-counts-le, sumTo-mono}
+
+-- ## Parts of b - a
+
+-- a function that adds to a the part x v of y of b - a
+pub part-sound : (a b y : ℕ) (x : ℕ → ℕ) → a ≤ b
+    → ((v u : ℕ) → a ≤ v → v ≤ u → u ≤ b → x v ≤ x u)
+    → ((v : ℕ) → a ≤ v → v ≤ b → x v ≤ y)
+    → Sound a b (λ v. a + rounded ((b - a) * x v) y)
+part-sound a b y x ab rises within = record {
+  rises = λ v u av vu ub. omega (arith, rounded-mono y (mul-le-mul-left (b - a) (rises v u av vu ub)));
+  above = λ v av vb. omega arith;
+  below = λ v av vb. omega (arith, rounded-le (b - a) y (x v) (within v av vb));
+}
+
+-- ## The plain rule
+
+pub plain-sound : (a b : ℕ) (vs : List ℕ) → a ≤ b → Sound a b (plainTone a b vs)
+unfolding plainTone
+plain-sound a b vs ab = part-sound a b (length vs) (λ v. count (λ x. leb x v) vs) ab
+    (λ v u _ vu _. count-mono (λ x. leb x v) (λ x. leb x u) (λ x e. le-leb x u (le-trans (leb-true x v e) vu)) vs)
+    (λ v _ _. count-le (λ x. leb x v) vs)
+
+-- ## The limited rule
+
+-- the clipped counts are no more than 1000 for each pixel
+pub clipped-le : (k : ℕ) (vs : List ℕ) (a n : ℕ) → sum (clipped k vs) a n ≤ 1000 * length vs
+unfolding clipped
+clipped-le k vs a n =
+    let q : ℕ → ℕ = λ v. count (eqb v) vs in
+    let each : sum (clipped k vs) a n ≤ sum (λ v. 1000 * q v) a n
+    = sum-le (clipped k vs) (λ v. 1000 * q v) a n (λ v _ _. min-le-left (1000 * q v) (k * length vs)) in
+    omega (arith, each, sum-thousand q a n, sum-counts-le vs a n)
+
+-- w parts of the sum s, and n of what t leaves of the whole, are no more than w wholes
+pub shares-le : (s t n w whole : ℕ) → s ≤ t → t ≤ whole → n ≤ w → w * s + n * (whole - t) ≤ w * whole
+shares-le s t n w whole st tw nw =
+    let both : t + (whole - t) ≡ whole = omega arith in
+    omega (
+      arith,
+      mul-le-mul-left w st,
+      mul-le-mul-right (whole - t) nw,
+      mul-add w t (whole - t),
+      ap (w *_) both,
+    )
+
+pub limited-sound : (k a b : ℕ) (vs : List ℕ) → a ≤ b → Sound a b (limitedTone k a b vs)
+unfolding limitedTone
+limited-sound k a b vs ab =
+    let w = b - a + 1 in
+    let all = 1000 * length vs in
+    let e = all - sumTo (clipped k vs) a b in
+    part-sound a b (w * all) (λ v. w * sumTo (clipped k vs) a v + (v - a + 1) * e) ab
+    (λ v u _ vu _. omega (
+      arith,
+      mul-le-mul-left w (sumTo-mono (clipped k vs) a vu),
+      mul-le-mul-right {m = v - a + 1} {n = u - a + 1} e (omega arith),
+    ))
+    (λ v _ vb. shares-le (sumTo (clipped k vs) a v) (sumTo (clipped k vs) a b) (v - a + 1) w all
+    (sumTo-mono (clipped k vs) a vb) (clipped-le k vs a w) (omega arith))
+
+-- ## Rules
+
+pub tone-sound : (r : Rule) (a b : ℕ) (vs : List ℕ) → a ≤ b → Sound a b (tone r a b vs)
+unfolding tone
+tone-sound (Plain low high) a b vs ab = plain-sound a b vs ab
+tone-sound (Limited k) a b vs ab = limited-sound k a b vs ab
+
+-- where the old values are kept, too
+pub kept-sound : {a b : ℕ} {f : ℕ → ℕ} (t : Bool) → Sound a b f → Sound a b (λ v. cond t v (f v))
+kept-sound true s = record { rises = λ v u _ h _. h; above = λ v h _. h; below = λ v _ h. h }
+kept-sound false s = s

@@ -1,0 +1,108 @@
+-- Components as the first entries of a queue, their counts, and what becomes of a plane. Definitions only.
+--
+--   values      the values of a component's pixels, in the queue's order
+--   Component   the queue's first m entries are pixels of the plane, each once, with values in [a, b]
+--   Alike       two lists have the same values, perhaps in another order
+--   Inside      all values of a list lie in [a, b]
+--   Histogram   an array of counts, by the list of values
+--   Counted     the counts of some m pixels
+--   Tabled      a table of tones, by every list of values that has the counts
+--   Painted     the listed pixels have new values, and the others are as they were
+--   Retoned     what a tone rule makes of a component
+use Prim.Native.Nat.{ℕ, _+_, _-_, _*_, _≤_, _<_}
+use mathlib.Core.Path.{_≡_}
+use mathlib.Core.Bool.{Bool, not, cond}
+use mathlib.Core.List.{List, map}
+use lib.ListN.{length, take}
+use lib.Dec.{eqb}
+use Rattle.planes.specs.Lists.{count, at}
+use Rattle.planes.specs.Rounding.{rounded}
+use Rattle.tones.specs.Tones.{sumTo, tone, kept}
+use Rattle.tones.specs.declared.Rule.{Rule}
+
+-- ## Components
+
+abbrev pub values : List ℕ → List ℕ → ℕ → List ℕ
+values plane queue m = map (at plane) (take m queue)
+
+-- no two of the first m entries are the same
+abbrev pub Distinct : List ℕ → ℕ → Type 0
+Distinct queue m = (i j : ℕ) → i < j → j < m → at queue i ≡ at queue j → ⊥
+
+pub record Component (plane queue : List ℕ) (m a b : ℕ) : Type 0 where
+  pub order : a ≤ b
+  pub some : 1 ≤ m
+  pub few : m ≤ 1048576
+  pub room : m ≤ length queue
+  pub pixels : (i : ℕ) → i < m → at queue i < length plane
+  pub once : Distinct queue m
+  pub within : (i : ℕ) → i < m → (a ≤ at plane (at queue i)) × (at plane (at queue i) ≤ b)
+
+pub record Alike (vs ws : List ℕ) : Type 0 where
+  pub same : (v : ℕ) → count (eqb v) vs ≡ count (eqb v) ws
+  pub size : length vs ≡ length ws
+
+-- ## Counts
+
+pub record Inside (a b : ℕ) (vs : List ℕ) : Type 0 where
+  pub low : (v : ℕ) → v < a → count (eqb v) vs ≡ 0
+  pub high : (v : ℕ) → b < v → count (eqb v) vs ≡ 0
+
+-- the entries of [a, b] are the counts of the values vs, which all lie there
+pub record Histogram (a b : ℕ) (vs counts : List ℕ) : Type 0 where
+  pub entry : (v : ℕ) → a ≤ v → v ≤ b → at counts v ≡ count (eqb v) vs
+  pub inside : Inside a b vs
+
+-- the entries of [a, b] add up to m, which is neither 0 nor too large
+pub record Counted (counts : List ℕ) (m a b : ℕ) : Type 0 where
+  pub order : a ≤ b
+  pub some : 1 ≤ m
+  pub few : m ≤ 1048576
+  pub whole : sumTo (at counts) a b ≡ m
+
+-- r is the least value of [a, b] that occurs, and the greatest
+pub record Lowest (counts : List ℕ) (a b r : ℕ) : Type 0 where
+  pub from : a ≤ r
+  pub to : r ≤ b
+  pub here : at counts r ≡ 0 → ⊥
+  pub none : (v : ℕ) → a ≤ v → v < r → at counts v ≡ 0
+
+pub record Highest (counts : List ℕ) (a b r : ℕ) : Type 0 where
+  pub from : a ≤ r
+  pub to : r ≤ b
+  pub here : at counts r ≡ 0 → ⊥
+  pub none : (v : ℕ) → r < v → v ≤ b → at counts v ≡ 0
+
+-- after a store to each entry of [a, b]: those are by f, and the others are as they were
+pub record Refilled (f : ℕ → ℕ) (a b : ℕ) (l l' : List ℕ) : Type 0 where
+  pub new : (v : ℕ) → a ≤ v → v ≤ b → at l' v ≡ f v
+  pub old : (v : ℕ) → (a ≤ v → v ≤ b → ⊥) → at l' v ≡ at l v
+
+-- the limited rule's tone of v, by the sums of the clipped counts
+abbrev pub limitedBy : List ℕ → ℕ → ℕ → ℕ → ℕ → ℕ
+limitedBy sums m a b v =
+    let w = b - a + 1 in
+    let all = 1000 * m in
+    let e = all - at sums b in
+    let n = v - a + 1 in
+    a + rounded ((b - a) * (w * at sums v + n * e)) (w * all)
+
+-- the entries of [a, b] are the tones of the values there, for every list of values that has these counts
+pub record Tabled (tones : List ℕ → ℕ → ℕ) (a b : ℕ) (counts table : List ℕ) : Type 0 where
+  pub exact : (vs : List ℕ) → Histogram a b vs counts → (v : ℕ) → a ≤ v → v ≤ b → at table v ≡ tones vs v
+
+-- ## Planes
+
+pub record Painted (f : ℕ → ℕ) (plane queue plane' : List ℕ) (m : ℕ) : Type 0 where
+  pub size : length plane' ≡ length plane
+  pub drawn : (i : ℕ) → i < m → at plane' (at queue i) ≡ f (at plane (at queue i))
+  pub stays : (p : ℕ) → ((i : ℕ) → i < m → at queue i ≡ p → ⊥) → at plane' p ≡ at plane p
+
+-- a component whose values are vs: r says that it was not kept back; its pixels have their tones, or their old values
+-- if it was; all other pixels are as they were
+pub record Retoned (rule : Rule) (a b : ℕ) (vs plane queue plane' : List ℕ) (m : ℕ) (r : Bool) : Type 0 where
+  pub answer : r ≡ not (kept rule a b vs)
+  pub size : length plane' ≡ length plane
+  pub drawn : (i : ℕ) → i < m → at plane' (at queue i)
+      ≡ cond (kept rule a b vs) (at plane (at queue i)) (tone rule a b vs (at plane (at queue i)))
+  pub stays : (p : ℕ) → ((i : ℕ) → i < m → at queue i ≡ p → ⊥) → at plane' p ≡ at plane p
