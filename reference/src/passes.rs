@@ -1,0 +1,68 @@
+//! One pass over one section.
+
+use crate::components::Components;
+use crate::refusals::{self, refuse_if, Refusal, GREATEST_PIXELS};
+use crate::tones::{retoned, Rule};
+
+/// A pass: the section [a, b], the least area and the tone rule.
+#[derive(Clone, Copy, Debug, PartialEq, Eq)]
+pub struct Pass {
+    pub a: u8,
+    pub b: u8,
+    pub area: u32,
+    pub rule: Rule,
+}
+
+/// Retones every component of [a, b] that has the least area and isn't kept back. Answers how many were retoned.
+pub fn pass(
+    plane: &mut [u8],
+    marks_len: usize,
+    queue_len: usize,
+    w: usize,
+    h: usize,
+    pass: &Pass,
+) -> Result<u64, Refusal> {
+    lent_plane(plane, marks_len, queue_len, w, h)?;
+    sound(pass)?;
+    Ok(run(plane, w, h, pass))
+}
+
+/// 1 to 4, in this order: what a pass and a list are lent.
+pub(crate) fn lent_plane(plane: &[u8], marks_len: usize, queue_len: usize, w: usize, h: usize) -> Result<(), Refusal> {
+    let n = refusals::size(w, h, GREATEST_PIXELS)?;
+    refuse_if(plane.len() != n, 3)?;
+    refusals::memory(marks_len, queue_len, n)
+}
+
+/// 5 to 8, in this order: the numbers of the pass.
+pub(crate) fn sound(pass: &Pass) -> Result<(), Refusal> {
+    refuse_if(pass.a > pass.b, 5)?;
+    refusals::area(pass.area)?;
+    refusals::rule(&pass.rule)
+}
+
+/// The pass itself. All components are found before the first one is retoned.
+pub(crate) fn run(plane: &mut [u8], w: usize, h: usize, pass: &Pass) -> u64 {
+    let components = Components::new(w, h).of_section(plane, pass.a, pass.b);
+    let mut count = 0;
+    for component in components {
+        if component.len() >= pass.area as usize && retone(plane, &component, pass.a, pass.b, &pass.rule) {
+            count += 1;
+        }
+    }
+    count
+}
+
+/// Gives the pixels of one component their new values. Answers no if the rule keeps it back.
+pub(crate) fn retone(plane: &mut [u8], component: &[usize], a: u8, b: u8, rule: &Rule) -> bool {
+    let values: Vec<u8> = component.iter().map(|&p| plane[p]).collect();
+    match retoned(&values, a, b, rule) {
+        None => false,
+        Some(new) => {
+            for (&p, v) in component.iter().zip(new) {
+                plane[p] = v;
+            }
+            true
+        }
+    }
+}

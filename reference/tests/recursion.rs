@@ -1,0 +1,146 @@
+//! The recursion over components equals the list of passes level by level, in the plane and in the count, and no
+//! chain disturbs the shapes of a plane.
+
+use mlhe_reference::extrema::{keeps_shapes, reversed_channels};
+use mlhe_reference::random::Random;
+use mlhe_reference::{enhance, intensity, level_by_level, pass, recolour, run_passes, Pass, Rule, Settings};
+
+const RULES: [Rule; 7] = [
+    Rule::Plain { low: 0, high: 25_500 },
+    Rule::Plain { low: 80, high: 300 },
+    Rule::Plain { low: 0, high: 150 },
+    Rule::Plain { low: 100, high: 100 },
+    Rule::Limited { k: 0 },
+    Rule::Limited { k: 300 },
+    Rule::Limited { k: 1_000 },
+];
+
+/// Enhances a grey frame of these intensities and runs the list on the same plane.
+fn compare(greys: &[u8], w: usize, settings: &Settings) {
+    let (n, h) = (greys.len(), greys.len() / w);
+    let frame: Vec<u8> = greys.iter().flat_map(|&v| [v, v, v]).collect();
+    let (mut plane, mut output) = (vec![0; n], vec![0; 3 * n]);
+    let count = enhance(&frame, w, h, settings, &mut plane, n, n, &mut output).expect("accepted");
+
+    let mut last = greys.to_vec();
+    let sum = run_passes(&level_by_level(settings), &mut last, n, n, w, h).expect("accepted");
+    assert_eq!((&plane, count), (&last, sum), "{greys:?}, {w} columns, {settings:?}");
+    assert!(keeps_shapes(greys, &plane, w, h), "{greys:?}, {w} columns, {settings:?}");
+}
+
+/// Every plane of w by h pixels with these values.
+fn every_plane(w: usize, h: usize, values: &[u8], mut tell: impl FnMut(&[u8])) {
+    let n = (w * h) as u32;
+    for number in 0..values.len().pow(n) {
+        let digit = |p: u32| values[number / values.len().pow(p) % values.len()];
+        let plane: Vec<u8> = (0..n).map(digit).collect();
+        tell(&plane);
+    }
+}
+
+/// Every plane of this size with these values, every rule and every one of these levels and areas.
+fn exhaust(w: usize, h: usize, values: &[u8], levels: &[u32], areas: &[u32]) {
+    every_plane(w, h, values, |plane| {
+        for &last_level in levels {
+            for &area in areas {
+                for rule in RULES {
+                    compare(plane, w, &Settings { last_level, area, rule });
+                }
+            }
+        }
+    });
+}
+
+#[test]
+fn one_pixel() {
+    let values: Vec<u8> = (0..=255).collect();
+    exhaust(1, 1, &values, &[0, 1, 2, 3, 4, 5, 6, 7], &[1, 2]);
+}
+
+#[test]
+fn rows_of_two() {
+    let values: Vec<u8> = (0..=255).step_by(5).chain([1, 2, 127, 128, 254]).collect();
+    exhaust(2, 1, &values, &[7], &[1, 2]);
+    exhaust(2, 1, &[0, 1, 2, 63, 64, 127, 128, 255], &[0, 1, 2, 3, 4, 5, 6], &[1, 2, 20]);
+}
+
+#[test]
+fn rows_and_columns_of_three() {
+    exhaust(3, 1, &[0, 1, 60, 127, 128, 190, 255], &[7], &[1, 2]);
+    exhaust(1, 3, &[0, 90, 127, 128, 254], &[2, 7], &[1, 2]);
+}
+
+#[test]
+fn squares_of_four() {
+    exhaust(2, 2, &[0, 3, 100, 128, 255], &[1, 7], &[1, 2]);
+}
+
+#[test]
+fn three_by_two() {
+    exhaust(3, 2, &[0, 120, 200], &[7], &[1, 2]);
+    exhaust(2, 3, &[10, 11], &[1, 4, 7], &[1, 3]);
+}
+
+#[test]
+fn three_by_three_of_two_values() {
+    exhaust(3, 3, &[40, 90], &[7], &[1, 3]);
+}
+
+/// A random plane with flat zones, steps and grain.
+fn random_plane(random: &mut Random, n: usize) -> Vec<u8> {
+    let values: Vec<u8> = (0..random.between(1, 12)).map(|_| random.byte()).collect();
+    let grain = random.one_of(&[1, 1, 3, 20]);
+    (0..n).map(|_| random.one_of(&values).saturating_add(random.below(grain) as u8)).collect()
+}
+
+fn random_rule(random: &mut Random) -> Rule {
+    let numbers = [0, 1, 50, 80, 100, 120, 300, 1_000, 25_500];
+    if random.below(3) > 0 {
+        let (low, high) = (random.one_of(&numbers), random.one_of(&numbers));
+        Rule::Plain { low: low.min(high), high: low.max(high) }
+    } else {
+        Rule::Limited { k: random.between(0, 1_000) as u32 }
+    }
+}
+
+#[test]
+fn larger_planes_at_random() {
+    let mut random = Random::new(1);
+    for _ in 0..600 {
+        let (w, h) = (random.between(1, 24), random.between(1, 24));
+        let plane = random_plane(&mut random, w * h);
+        let settings = Settings {
+            last_level: random.between(0, 7) as u32,
+            area: random.one_of(&[1, 2, 3, 5, 20, 100]),
+            rule: random_rule(&mut random),
+        };
+        compare(&plane, w, &settings);
+    }
+}
+
+/// A chain from the intensities of a coloured frame, with refused calls among its calls.
+#[test]
+fn chains_at_random() {
+    let mut random = Random::new(2);
+    for _ in 0..600 {
+        let (w, h) = (random.between(1, 12), random.between(1, 12));
+        let n = w * h;
+        let frame = random_plane(&mut random, 3 * n);
+        let mut plane = vec![0; n];
+        intensity(&frame, w, h, &mut plane).expect("accepted");
+        let first = plane.clone();
+        for _ in 0..random.between(0, 8) {
+            let (a, b) = (random.byte(), random.byte());
+            let call = Pass { a, b, area: random.between(0, 5) as u32, rule: random_rule(&mut random) };
+            let before = plane.clone();
+            let answer = pass(&mut plane, n, n + random.below(3), w, h, &call);
+            let expected = if a > b { Some(5) } else { (call.area == 0).then_some(6) };
+            assert_eq!(answer.err(), expected);
+            assert!(answer.is_ok() || plane == before);
+        }
+        assert!(keeps_shapes(&first, &plane, w, h));
+        let mut output = vec![0; 3 * n];
+        recolour(&frame, w, h, &plane, &mut output).expect("accepted");
+        assert_eq!(reversed_channels(&frame, &output), 0);
+    }
+}

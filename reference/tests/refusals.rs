@@ -1,0 +1,506 @@
+//! The table of refusals, row by row, and the orders of the tests. Each order is shown by all pairs of faults at once:
+//! the earlier one answers. Every refusal leaves the lent bytes as they were.
+
+use mlhe_reference::{enhance, intensity, list_bytes, pass, program, read, recolour, run_list, run_passes, write};
+use mlhe_reference::{Frame, Pass, Rule, Settings, GREATEST_PIXELS};
+
+const FREE: Rule = Rule::Plain { low: 0, high: 25_500 };
+const SOUND: Pass = Pass { a: 0, b: 255, area: 1, rule: FREE };
+
+/// A fault: its number and how it is made.
+type Fault<Call> = (u8, fn(&mut Call));
+
+/// Runs a sound call with each fault and with each pair of faults, given in the order of the tests. Faults of one pair
+/// must not undo each other: the later one of the order is made first.
+fn faults_answer_in_order<Call: Clone>(
+    sound: &Call,
+    faults: &[Fault<Call>],
+    excluded: &[(u8, u8)],
+    answer: impl Fn(&Call) -> Result<u64, u8>,
+) {
+    assert!(answer(sound).is_ok());
+    for (place, (number, make)) in faults.iter().enumerate() {
+        let mut call = sound.clone();
+        make(&mut call);
+        assert_eq!(answer(&call), Err(*number), "fault {place} alone");
+        for (later, (other, make_other)) in faults.iter().enumerate().skip(place + 1) {
+            if number == other || excluded.contains(&(*number, *other)) {
+                continue;
+            }
+            let mut call = sound.clone();
+            make_other(&mut call);
+            make(&mut call);
+            assert_eq!(answer(&call), Err(*number), "faults {place} and {later}: {number} and {other}");
+        }
+    }
+}
+
+/// The arguments of every call that is lent a plane. A call uses what it needs.
+#[derive(Clone)]
+struct Call {
+    w: usize,
+    h: usize,
+    frame: usize,
+    plane: usize,
+    marks: usize,
+    queue: usize,
+    output: usize,
+    list: Vec<u8>,
+    pass: Pass,
+    settings: Settings,
+}
+
+/// A sound call on 2 by 2 pixels with an output of exactly 12 bytes.
+fn sound_call() -> Call {
+    Call {
+        w: 2,
+        h: 2,
+        frame: 12,
+        plane: 4,
+        marks: 4,
+        queue: 4,
+        output: 12,
+        list: list_bytes(&[SOUND, SOUND]),
+        pass: SOUND,
+        settings: Settings { last_level: 7, area: 20, rule: FREE },
+    }
+}
+
+/// Distinct bytes to lend.
+fn bytes(length: usize) -> Vec<u8> {
+    (0..length).map(|i| (37 * i + 11) as u8).collect()
+}
+
+/// Runs a call on a lent plane and a lent output, and asserts that a refusal changes neither.
+fn guarded(call: &Call, run: impl Fn(&mut [u8], &mut [u8]) -> Result<u64, u8>) -> Result<u64, u8> {
+    let (mut plane, mut output) = (bytes(call.plane), bytes(call.output));
+    let answer = run(&mut plane, &mut output);
+    if answer.is_err() {
+        assert_eq!(plane, bytes(call.plane));
+        assert_eq!(output, bytes(call.output));
+    }
+    answer
+}
+
+fn run_intensity(call: &Call) -> Result<u64, u8> {
+    guarded(call, |plane, _| intensity(&bytes(call.frame), call.w, call.h, plane).map(|()| 0))
+}
+
+fn run_pass(call: &Call) -> Result<u64, u8> {
+    guarded(call, |plane, _| pass(plane, call.marks, call.queue, call.w, call.h, &call.pass))
+}
+
+fn run_recolour(call: &Call) -> Result<u64, u8> {
+    let plane = bytes(call.plane);
+    guarded(call, |_, output| recolour(&bytes(call.frame), call.w, call.h, &plane, output).map(|()| 0))
+}
+
+fn run_enhance(call: &Call) -> Result<u64, u8> {
+    guarded(call, |plane, output| {
+        let frame = bytes(call.frame);
+        enhance(&frame, call.w, call.h, &call.settings, plane, call.marks, call.queue, output)
+    })
+}
+
+fn run_list_call(call: &Call) -> Result<u64, u8> {
+    guarded(call, |plane, _| run_list(&call.list, plane, call.marks, call.queue, call.w, call.h))
+}
+
+fn run_write(call: &Call) -> Result<u64, u8> {
+    guarded(call, |_, output| write(&bytes(call.frame), call.w, call.h, output).map(|length| length as u64))
+}
+
+const NO_WIDTH: Fault<Call> = (1, |call| call.w = 0);
+const NO_HEIGHT: Fault<Call> = (1, |call| call.h = 0);
+const GREAT_WIDTH: Fault<Call> = (1, |call| call.w = 4_097);
+const GREAT_HEIGHT: Fault<Call> = (1, |call| call.h = 4_097);
+const HUGE_SIDES: Fault<Call> = (1, |call| (call.w, call.h) = (usize::MAX, usize::MAX));
+const MANY_PIXELS: Fault<Call> = (2, |call| (call.w, call.h) = (4_096, 257));
+const LONG_PLANE: Fault<Call> = (3, |call| call.plane = 5);
+const SHORT_PLANE: Fault<Call> = (3, |call| call.plane = 3);
+const LONG_FRAME: Fault<Call> = (3, |call| call.frame = 13);
+const SHORT_FRAME: Fault<Call> = (3, |call| call.frame = 11);
+const SHORT_MARKS: Fault<Call> = (4, |call| call.marks = 3);
+const SHORT_QUEUE: Fault<Call> = (4, |call| call.queue = 3);
+const SHORT_OUTPUT: Fault<Call> = (14, |call| call.output -= 1);
+
+#[test]
+fn intensity_1_2_3() {
+    let faults = [
+        NO_WIDTH,
+        NO_HEIGHT,
+        GREAT_WIDTH,
+        GREAT_HEIGHT,
+        HUGE_SIDES,
+        MANY_PIXELS,
+        LONG_PLANE,
+        SHORT_PLANE,
+        LONG_FRAME,
+        SHORT_FRAME,
+    ];
+    faults_answer_in_order(&sound_call(), &faults, &[], run_intensity);
+}
+
+#[test]
+fn pass_1_to_8() {
+    let faults: Vec<Fault<Call>> = vec![
+        NO_WIDTH,
+        NO_HEIGHT,
+        GREAT_WIDTH,
+        GREAT_HEIGHT,
+        HUGE_SIDES,
+        MANY_PIXELS,
+        LONG_PLANE,
+        SHORT_PLANE,
+        SHORT_MARKS,
+        SHORT_QUEUE,
+        (5, |call| (call.pass.a, call.pass.b) = (9, 8)),
+        (6, |call| call.pass.area = 0),
+        (6, |call| call.pass.area = 1_048_577),
+        (6, |call| call.pass.area = u32::MAX),
+        (7, |call| call.pass.rule = Rule::Plain { low: 81, high: 80 }),
+        (7, |call| call.pass.rule = Rule::Plain { low: 0, high: 25_501 }),
+        (8, |call| call.pass.rule = Rule::Limited { k: 1_001 }),
+    ];
+    faults_answer_in_order(&sound_call(), &faults, &[(7, 8)], run_pass);
+}
+
+#[test]
+fn recolour_1_2_3_14() {
+    let faults = [NO_WIDTH, NO_HEIGHT, HUGE_SIDES, MANY_PIXELS, LONG_PLANE, SHORT_PLANE, LONG_FRAME, SHORT_FRAME];
+    let faults: Vec<Fault<Call>> = faults.into_iter().chain([SHORT_OUTPUT, (14, |call| call.output = 0)]).collect();
+    faults_answer_in_order(&sound_call(), &faults, &[], run_recolour);
+}
+
+#[test]
+fn enhancement_1_2_3_4_14_9_6_7_8() {
+    let faults: Vec<Fault<Call>> = vec![
+        NO_WIDTH,
+        NO_HEIGHT,
+        GREAT_WIDTH,
+        GREAT_HEIGHT,
+        HUGE_SIDES,
+        MANY_PIXELS,
+        LONG_PLANE,
+        SHORT_PLANE,
+        LONG_FRAME,
+        SHORT_FRAME,
+        SHORT_MARKS,
+        SHORT_QUEUE,
+        SHORT_OUTPUT,
+        (9, |call| call.settings.last_level = 8),
+        (9, |call| call.settings.last_level = 255),
+        (6, |call| call.settings.area = 0),
+        (6, |call| call.settings.area = 1_048_577),
+        (7, |call| call.settings.rule = Rule::Plain { low: 81, high: 80 }),
+        (7, |call| call.settings.rule = Rule::Plain { low: 25_501, high: 25_501 }),
+        (8, |call| call.settings.rule = Rule::Limited { k: 1_001 }),
+    ];
+    faults_answer_in_order(&sound_call(), &faults, &[(7, 8)], run_enhance);
+}
+
+/// Faults of a list in the order of the tests, up to its records.
+fn list_faults() -> Vec<Fault<Call>> {
+    vec![
+        NO_WIDTH,
+        GREAT_HEIGHT,
+        HUGE_SIDES,
+        MANY_PIXELS,
+        LONG_PLANE,
+        SHORT_PLANE,
+        SHORT_MARKS,
+        SHORT_QUEUE,
+        (16, |call| call.list.truncate(6)),
+        (16, |call| call.list.clear()),
+        (15, |call| call.list[0] = b'm'),
+        (15, |call| call.list[1] = b'P'),
+        (15, |call| call.list[2] = b'Q'),
+        (15, |call| call.list[3] = 2),
+        (15, |call| call.list[4] = 1),
+        (16, |call| call.list[5] = 1),
+        (16, |call| call.list[5] = 3),
+        (16, |call| call.list[6] = 4),
+        (16, |call| call.list.push(0)),
+        (16, |call| call.list.truncate(30)),
+    ]
+}
+
+/// Faults of the first record, which starts at byte 7.
+fn first_record_faults() -> Vec<Fault<Call>> {
+    vec![
+        (17, |call| call.list[7 + 2] = 2),
+        (17, |call| call.list[7 + 3] = 1),
+        (17, |call| (call.list[7 + 2], call.list[7 + 10], call.list[7 + 11]) = (1, 1, 0)),
+        (17, |call| (call.list[7 + 2], call.list[7 + 10], call.list[7 + 11]) = (1, 0, 1)),
+        (5, |call| (call.list[7], call.list[7 + 1]) = (9, 8)),
+        (6, |call| call.list[7 + 4] = 0),
+        (6, |call| call.list[7 + 6] = 16),
+        (6, |call| call.list[7 + 7] = 1),
+        (7, |call| (call.list[7 + 8], call.list[7 + 10], call.list[7 + 11]) = (81, 80, 0)),
+        (7, |call| call.list[7 + 10] += 1),
+        (8, |call| call.list[7 + 2..7 + 12].copy_from_slice(&[1, 0, 1, 0, 0, 0, 0xE9, 0x03, 0, 0])),
+    ]
+}
+
+/// Faults of the second record, which starts at byte 19.
+fn second_record_faults() -> Vec<Fault<Call>> {
+    vec![
+        (17, |call| call.list[19 + 2] = 255),
+        (17, |call| call.list[19 + 3] = 128),
+        (5, |call| (call.list[19], call.list[19 + 1]) = (255, 0)),
+        (6, |call| call.list[19 + 4] = 0),
+        (7, |call| call.list[19 + 11] = 255),
+        (8, |call| call.list[19 + 2..19 + 12].copy_from_slice(&[1, 0, 1, 0, 0, 0, 0xFF, 0xFF, 0, 0])),
+    ]
+}
+
+#[test]
+fn list_1_to_4_16_15_16_and_each_record_17_5_6_7_8() {
+    for record in [first_record_faults(), second_record_faults()] {
+        let faults: Vec<Fault<Call>> = list_faults().into_iter().chain(record).collect();
+        faults_answer_in_order(&sound_call(), &faults, &[(7, 8)], run_list_call);
+    }
+    for (number, make) in first_record_faults() {
+        for (_, make_other) in second_record_faults() {
+            let mut call = sound_call();
+            make(&mut call);
+            make_other(&mut call);
+            assert_eq!(run_list_call(&call), Err(number));
+        }
+    }
+}
+
+#[test]
+fn a_list_of_no_passes() {
+    let mut call = sound_call();
+    call.list = list_bytes(&[]);
+    assert_eq!(run_list_call(&call), Ok(0));
+    call.queue = 3;
+    assert_eq!(run_list_call(&call), Err(4));
+}
+
+#[test]
+fn lists_of_1024_and_1025_passes() {
+    let still = Pass { a: 7, b: 7, ..SOUND };
+    for (length, expected) in [(1_024, Ok(0)), (1_025, Err(16))] {
+        let passes = vec![still; length];
+        let mut call = sound_call();
+        call.list = list_bytes(&passes);
+        assert_eq!(run_list_call(&call), expected);
+        assert_eq!(run_passes(&passes, &mut bytes(4), 4, 4, 2, 2), expected);
+    }
+}
+
+/// 1 to 4, 16, then each pass 5, 6, 7, 8.
+#[test]
+fn passes_in_memory() {
+    let run = |passes: &[Pass], plane: usize, marks: usize, w: usize| {
+        let mut lent = bytes(plane);
+        let answer = run_passes(passes, &mut lent, marks, 4, w, 2);
+        assert!(answer.is_ok() || lent == bytes(plane));
+        answer
+    };
+    let wrong = [
+        (5, Pass { a: 9, b: 8, area: 0, ..SOUND }),
+        (6, Pass { area: 0, rule: Rule::Plain { low: 1, high: 0 }, ..SOUND }),
+        (6, Pass { area: 1_048_577, rule: Rule::Limited { k: 1_001 }, ..SOUND }),
+        (7, Pass { rule: Rule::Plain { low: 81, high: 80 }, ..SOUND }),
+        (8, Pass { rule: Rule::Limited { k: 1_001 }, ..SOUND }),
+    ];
+    assert_eq!(run(&[SOUND], 4, 4, 2), Ok(1));
+    assert_eq!(run(&[], 4, 4, 2), Ok(0));
+    assert_eq!(run(&[], 4, 3, 2), Err(4));
+    assert_eq!(run(&[], 5, 3, 2), Err(3));
+    assert_eq!(run(&[], 5, 3, 0), Err(1));
+    for (number, pass) in wrong {
+        assert_eq!(run(&[pass], 4, 4, 2), Err(number));
+        assert_eq!(run(&[SOUND, pass], 4, 4, 2), Err(number));
+        assert_eq!(run(&[SOUND, pass], 4, 3, 2), Err(4));
+        for (_, later) in wrong {
+            assert_eq!(run(&[SOUND, pass, later], 4, 4, 2), Err(number));
+        }
+        assert_eq!(run(&[pass; 1_025], 4, 4, 2), Err(16));
+    }
+}
+
+#[test]
+fn writing_1_2_3_14() {
+    let mut sound = sound_call();
+    sound.output = 23;
+    let faults = [
+        NO_WIDTH,
+        NO_HEIGHT,
+        GREAT_WIDTH,
+        GREAT_HEIGHT,
+        HUGE_SIDES,
+        MANY_PIXELS,
+        LONG_FRAME,
+        SHORT_FRAME,
+        SHORT_OUTPUT,
+    ];
+    assert_eq!(run_write(&sound), Ok(23));
+    faults_answer_in_order(&sound, &faults, &[], run_write);
+}
+
+#[test]
+fn the_largest_sizes_are_accepted() {
+    for (w, h) in [(4_096, 256), (256, 4_096), (1_024, 1_024)] {
+        let frame = vec![9; 3 * w * h];
+        let mut plane = vec![0; w * h];
+        assert_eq!(intensity(&frame, w, h, &mut plane), Ok(()));
+        assert!(plane.iter().all(|&v| v == 9));
+        let greatest = Pass { area: 1_048_576, rule: Rule::Limited { k: 1_000 }, ..SOUND };
+        assert_eq!(pass(&mut plane, w * h, w * h, w, h, &greatest), Ok(1));
+        assert!(plane.iter().all(|&v| v == 255));
+    }
+    let mut plane = [1, 2];
+    assert_eq!(pass(&mut plane, 9, 2, 2, 1, &Pass { area: 1_048_576, ..SOUND }), Ok(0));
+    assert_eq!(pass(&mut plane, 9, 2, 2, 1, &Pass { rule: Rule::Plain { low: 25_500, high: 25_500 }, ..SOUND }), Ok(0));
+}
+
+/// Bytes beyond the needed ones stay.
+#[test]
+fn longer_outputs_keep_their_ends() {
+    let mut output = [7; 5];
+    recolour(&[1, 2, 3], 1, 1, &[2], &mut output).expect("accepted");
+    assert_eq!(output, [1, 2, 3, 7, 7]);
+    let mut output = [7; 16];
+    assert_eq!(write(&[1, 2, 3], 1, 1, &mut output), Ok(14));
+    assert_eq!(&output, b"P6\n1 1\n255\n\x01\x02\x03\x07\x07");
+    let (mut plane, mut output) = ([0], [7; 4]);
+    assert_eq!(enhance(&[1, 2, 3], 1, 1, &Settings::HOUSE, &mut plane, 1, 1, &mut output), Ok(0));
+    assert_eq!((plane, output), ([2], [1, 2, 3, 7]));
+}
+
+#[test]
+fn headers() {
+    let at = |bytes: &[u8]| read(bytes, GREATEST_PIXELS);
+    let one = |offset: usize| Ok(Frame { w: 1, h: 1, offset });
+    assert_eq!(at(b"P6\n1 1\n255\nRGB"), one(11));
+    assert_eq!(at(b"P6 \t\n\x0b\x0c\r1\r000001\x0c0255\x0bRGB"), one(22));
+    assert_eq!(at(b"P6 01 1 255 RGB"), one(12));
+    assert_eq!(at(b"P6 1 1 255\r\nRGB"), Err(13));
+    assert_eq!(at(b"P6 1 1 255\r\nGB"), one(11));
+    let malformed: &[&[u8]] = &[
+        b"",
+        b"P",
+        b"P6",
+        b"P5 1 1 255 RGB",
+        b"p6 1 1 255 RGB",
+        b" P6 1 1 255 RGB",
+        b"P61 1 255 RGB",
+        b"P6x1 1 255 RGB",
+        b"P6 ",
+        b"P6 1",
+        b"P6 1 ",
+        b"P6 1 1",
+        b"P6 1 1 ",
+        b"P6 1 1 255",
+        b"P6 1 1 255R",
+        b"P6 1 1 255#",
+        b"P6 -1 1 255 RGB",
+        b"P6 +1 1 255 RGB",
+        b"P6 1,1 255 RGB",
+        b"P6 1 1 0000255 RGB",
+        b"P6 1000000 1 255 RGB",
+        b"P6 0000001 1 255 RGB",
+        b"P6 1 x 255 RGB",
+        b"P6 # a\n1 1 255 RGB",
+        b"P6 1 1 \x08255 RGB",
+        b"P6 1 1\x0e255 RGB",
+        b"P6 1 1\x00255 RGB",
+        b"P6 1 1:255 RGB",
+        b"P6 1 1/255 RGB",
+    ];
+    for bytes in malformed {
+        assert_eq!(at(bytes), Err(10), "{}", String::from_utf8_lossy(bytes));
+    }
+}
+
+/// 10, 1, 2, 11, 12, 13: each pair of faults that can meet.
+#[test]
+fn reading_10_1_2_11_12_13() {
+    let cases: &[(&[u8], u8)] = &[
+        (b"P5 1 1 255 RGB", 10),
+        (b"P6 0 1 255", 10),
+        (b"P6 4096 257 15", 10),
+        (b"P6 1 1 15", 10),
+        (b"P6 0 1 255 ", 1),
+        (b"P6 1 0 255 ", 1),
+        (b"P6 4097 1 255 ", 1),
+        (b"P6 1 4097 255 ", 1),
+        (b"P6 999999 999999 255 ", 1),
+        (b"P6 0 1 15 ", 1),
+        (b"P6 0 1 255 x", 1),
+        (b"P6 4096 257 255 ", 2),
+        (b"P6 4096 4096 254 ", 2),
+        (b"P6 1 1 15 ", 11),
+        (b"P6 1 1 0 RG", 11),
+        (b"P6 1 1 256 RGBB", 11),
+        (b"P6 1 1 999999 RGB", 11),
+        (b"P6 1 1 255 ", 12),
+        (b"P6 1 1 255 RG", 12),
+        (b"P6 4096 256 255 RG", 12),
+        (b"P6 1 1 255 RGBR", 13),
+    ];
+    for (bytes, number) in cases {
+        assert_eq!(read(bytes, GREATEST_PIXELS), Err(*number), "{}", String::from_utf8_lossy(bytes));
+    }
+    assert_eq!(read(b"P6 129 128 254 ", 16_384), Err(2));
+    assert_eq!(read(b"P6 128 128 254 ", 16_384), Err(11));
+    assert_eq!(read(b"P6 1 1 255 RGB", 0), Err(2));
+}
+
+#[test]
+fn the_program_refuses() {
+    let cases: &[(&[u8], &[u8])] = &[
+        (b"", b"refused 10\n"),
+        (b"P6 0 1 255 ", b"refused 1\n"),
+        (b"P6 129 128 254 ", b"refused 2\n"),
+        (b"P6 1 1 254 ", b"refused 11\n"),
+        (b"P6 1 1 255 ", b"refused 12\n"),
+        (b"P6 1 1 255 RGBB", b"refused 13\n"),
+    ];
+    for (input, output) in cases {
+        assert_eq!(program(input), *output);
+    }
+}
+
+#[test]
+fn long_input_of_the_program_comes_first() {
+    assert_eq!(program(&vec![b'x'; 65_536]), b"refused 10\n");
+    assert_eq!(program(&vec![b'x'; 65_537]), b"refused 13\n");
+    let mut longest = b"P6 128".to_vec();
+    longest.resize(65_536 - 3 * 16_384 - 8, b' ');
+    longest.extend(b"128 255 ");
+    longest.resize(65_536, 9);
+    assert_eq!(program(&longest).len(), 15 + 3 * 16_384);
+    longest.insert(6, b' ');
+    assert_eq!(program(&longest), b"refused 13\n");
+}
+
+/// The small inputs of the table of refusals, in its order.
+#[test]
+fn the_table() {
+    let mut one = [0];
+    assert_eq!(intensity(&[], 0, 1, &mut []), Err(1));
+    assert_eq!(intensity(&[], 4_096, 257, &mut []), Err(2));
+    assert_eq!(pass(&mut [0; 3], 3, 3, 2, 1, &SOUND), Err(3));
+    assert_eq!(pass(&mut [0; 4], 4, 3, 2, 2, &SOUND), Err(4));
+    assert_eq!(pass(&mut one, 1, 1, 1, 1, &Pass { a: 9, b: 8, ..SOUND }), Err(5));
+    assert_eq!(pass(&mut one, 1, 1, 1, 1, &Pass { area: 0, ..SOUND }), Err(6));
+    assert_eq!(pass(&mut one, 1, 1, 1, 1, &Pass { rule: Rule::Plain { low: 81, high: 80 }, ..SOUND }), Err(7));
+    assert_eq!(pass(&mut one, 1, 1, 1, 1, &Pass { rule: Rule::Limited { k: 1_001 }, ..SOUND }), Err(8));
+    let eight = Settings { last_level: 8, ..Settings::HOUSE };
+    assert_eq!(enhance(&[0; 3], 1, 1, &eight, &mut one, 1, 1, &mut [0; 3]), Err(9));
+    assert_eq!(read(b"P5 1 1 255", GREATEST_PIXELS), Err(10));
+    assert_eq!(read(b"P6 1 1 15 ", GREATEST_PIXELS), Err(11));
+    assert_eq!(read(b"P6 1 1 255 ..", GREATEST_PIXELS), Err(12));
+    assert_eq!(read(b"P6 1 1 255 ....", GREATEST_PIXELS), Err(13));
+    assert_eq!(recolour(&[0; 3], 1, 1, &[0], &mut [0; 2]), Err(14));
+    assert_eq!(run_list(b"MLQ\x01\0\0\0", &mut one, 1, 1, 1, 1), Err(15));
+    assert_eq!(run_list(b"MLP", &mut one, 1, 1, 1, 1), Err(16));
+    let mut list = list_bytes(&[SOUND]);
+    list[9] = 2;
+    assert_eq!(run_list(&list, &mut one, 1, 1, 1, 1), Err(17));
+}
