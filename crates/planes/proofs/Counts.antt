@@ -128,3 +128,19 @@ count-mono f g h (x ∷ xs) = rw (count-cons f x xs, count-cons g x xs) (go (f x
     go true false e k = absurd (false≢true (e refl))
     go false true e k = omega arith
     go false false e k = omega arith
+
+-- the same over the pixels of a stretch
+pub count-mono-from : (f g : ℕ → Bool) (i m : ℕ) → ((x : ℕ) → i ≤ x → x < i + m → f x ≡ true → g x ≡ true)
+    → count f (from i m) ≤ count g (from i m)
+count-mono-from f g i zero h = le-refl 0
+count-mono-from f g i (suc m) h =
+    rw (count-cons f i (from (suc i) m), count-cons g i (from (suc i) m))
+    (go (f i) (g i) (h i (le-refl i) (omega arith))
+    (count-mono-from f g (suc i) m (λ x l k. h x (omega arith) (omega arith))))
+  where
+    go : (s t : Bool) → (s ≡ true → t ≡ true) → count f (from (suc i) m) ≤ count g (from (suc i) m)
+        → cond s 1 0 + count f (from (suc i) m) ≤ cond t 1 0 + count g (from (suc i) m)
+    go true true e k = omega arith
+    go true false e k = absurd (false≢true (e refl))
+    go false true e k = omega arith
+    go false false e k = omega arith

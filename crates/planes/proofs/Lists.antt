@@ -7,9 +7,10 @@ use mathlib.Core.List.{List, [], _∷_, map}
 use native.Mathlib.Nat.{le-refl, not-suc-le-zero, eq-or-lt-of-le, le-of-suc-le-suc, add-zero, suc-add, add-suc, zero-add}
 use native.Mathlib.Omega.{arith}
 use lib.ListN.{length, getD, length-map}
-use Rattle.planes.specs.Lists.{from, keep, every, at}
+use Rattle.planes.specs.Lists.{from, keep, every, count, at, Beyond}
+use Rattle.planes.specs.Extrema.{implies}
 use Rattle.planes.proofs.Tests.{and-left, and-right, and-both}
-use Rattle.planes.proofs.Counts.{length-from}
+use Rattle.planes.proofs.Counts.{length-from, count-cons, count-le}
 
 from-at : (f : ℕ → ℕ) (i n k : ℕ) → k < n → getD (map f (from i n)) k 0 ≡ f (i + k)
 from-at f i zero k h = absurd (not-suc-le-zero h)
@@ -51,3 +52,54 @@ map-same f g g′ i (suc m) h = go (f i) refl (map-same f g g′ (suc i) m (λ x
         → map g (cond t (i ∷ keep f (from (suc i) m)) (keep f (from (suc i) m))) ≡ map g′ (cond t (i ∷ keep f (from (suc i) m)) (keep f (from (suc i) m)))
     go true e r = ap₂ _∷_ (h i (le-refl i) (omega arith) e) r
     go false e r = r
+
+-- ## Tests of every member
+
+pub every-both : (f g h : ℕ → Bool) → ((x : ℕ) → f x ≡ true → g x ≡ true → h x ≡ true)
+    → (xs : List ℕ) → every f xs ≡ true → every g xs ≡ true → every h xs ≡ true
+every-both f g h k [] d e = refl
+every-both f g h k (x ∷ xs) d e =
+    and-both (k x (and-left (f x) (every f xs) d) (and-left (g x) (every g xs) e))
+    (every-both f g h k xs (and-right (f x) (every f xs) d) (and-right (g x) (every g xs) e))
+
+pub every-count : (f : ℕ → Bool) (xs : List ℕ) → count f xs ≡ length xs → every f xs ≡ true
+every-count f [] e = refl
+every-count f (x ∷ xs) e = go (f x) refl (every-count f xs)
+  where
+    go : (t : Bool) → f x ≡ t → (count f xs ≡ length xs → every f xs ≡ true) → (f x && every f xs) ≡ true
+    go true d rest =
+        let c : cond (f x) 1 0 + count f xs ≡ suc (length xs) = sym (count-cons f x xs) ∙ e in
+        let one : _≡_ {A = ℕ} (cond (f x) 1 0) 1 = ap (λ (t : Bool). cond t 1 0) d in
+        and-both d (rest (omega arith))
+    go false d rest =
+        let c : cond (f x) 1 0 + count f xs ≡ suc (length xs) = sym (count-cons f x xs) ∙ e in
+        let none : _≡_ {A = ℕ} (cond (f x) 1 0) 0 = ap (λ (t : Bool). cond t 1 0) d in
+        absurd (omega (arith, count-le f xs))
+
+pub count-every : (f : ℕ → Bool) (xs : List ℕ) → every f xs ≡ true → count f xs ≡ length xs
+count-every f [] e = refl
+count-every f (x ∷ xs) e =
+    count-cons f x xs
+    ∙ ap₂ (λ (t : Bool) (k : ℕ). cond t 1 0 + k) (and-left (f x) (every f xs) e)
+    (count-every f xs (and-right (f x) (every f xs) e))
+    ∙ omega arith
+
+-- every value of the kept members
+pub every-kept : (f h : ℕ → Bool) (g : ℕ → ℕ) (xs : List ℕ)
+    → every f (map g (keep h xs)) ≡ every (λ x. implies (h x) (f (g x))) xs
+every-kept f h g [] = refl
+every-kept f h g (x ∷ xs) = go (h x) (every-kept f h g xs)
+  where
+    go : (t : Bool) → every f (map g (keep h xs)) ≡ every (λ x. implies (h x) (f (g x))) xs
+        → every f (map g (cond t (x ∷ keep h xs) (keep h xs)))
+        ≡ (implies t (f (g x)) && every (λ x. implies (h x) (f (g x))) xs)
+    go true e = ap (f (g x) &&_) e
+    go false e = e
+
+-- ## Lent lists
+
+pub beyond-refl : (n : ℕ) (xs : List ℕ) → Beyond n xs xs
+beyond-refl n xs = record { size = refl; rest = λ k h. refl }
+
+pub beyond-trans : {n : ℕ} {xs ys zs : List ℕ} → Beyond n xs ys → Beyond n ys zs → Beyond n xs zs
+beyond-trans f g = record { size = g .size ∙ f .size; rest = λ k h. g .rest k h ∙ f .rest k h }

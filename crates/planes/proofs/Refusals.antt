@@ -17,6 +17,15 @@ pub ▷-none : (x y : ℕ) → x ▷ y ≡ 0 → (x ≡ 0) × (y ≡ 0)
 ▷-none zero y e = (refl, e)
 ▷-none (suc x) y e = absurd (omega arith)
 
+-- the left refusal where there is one, else the right one
+pub ▷-left : (x y : ℕ) → (x ≡ 0 → ⊥) → x ▷ y ≡ x
+▷-left zero y f = absurd (f refl)
+▷-left (suc x) y f = refl
+
+pub ▷-right : (x y : ℕ) → x ≡ 0 → x ▷ y ≡ y
+▷-right zero y e = refl
+▷-right (suc x) y e = absurd (omega arith)
+
 good-side : (x : ℕ) → badSide x ≡ false → (1 ≤ x) × (x ≤ 4096)
 good-side x e =
     let tests = or-none (eqb x 0) (ltb 4096 x) e in

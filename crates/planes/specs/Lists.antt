@@ -1,6 +1,7 @@
 -- Lists of numbers. A plane is the list of its pixels' values in reading order (row by row, left to right), and a pixel
 -- is its index in that list. Definitions only.
-use Prim.Native.Nat.{ℕ, zero, suc}
+use Prim.Native.Nat.{ℕ, zero, suc, _≤_}
+use mathlib.Core.Path.{_≡_}
 use mathlib.Core.Bool.{Bool, true, _&&_, cond}
 use mathlib.Core.List.{List, [], _∷_}
 use lib.ListN.{length, getD}
@@ -27,3 +28,8 @@ count f xs = length (keep f xs)
 -- the member at index i, and 0 past the end
 abbrev pub at : List ℕ → ℕ → ℕ
 at xs i = getD xs i 0
+
+-- a lent list keeps its length and all entries from index n on
+pub record Beyond (n : ℕ) (xs xs' : List ℕ) : Type 0 where
+  pub size : length xs' ≡ length xs
+  pub rest : (k : ℕ) → n ≤ k → at xs' k ≡ at xs k

@@ -1,0 +1,55 @@
+-- The model's enhancement is the run of its passes, and so the recursion by sections. Assumes nothing.
+use Prim.Native.Nat.{ℕ, _+_, _*_, _≤_}
+use mathlib.Core.Path.{_≡_, refl, sym, ap, _∙_}
+use mathlib.Core.List.{List, [], _∷_, _++_, map}
+use native.Mathlib.Nat.{zero-add, add-assoc, add-zero}
+use native.Mathlib.Omega.{arith}
+use lib.ListN.{length}
+use Rattle.planes.specs.Neighbours.{four}
+use Rattle.planes.proofs.Neighbours.{four-sym}
+use Rattle.tones.specs.declared.Rule.{Rule}
+use Rattle.model.specs.declared.Pass.{Pass}
+use Rattle.model.specs.declared.Answer.{Answer}
+use Rattle.model.specs.declared.Answer.the-variants.{Done}
+use Rattle.model.specs.Passes.{passed, passCount}
+use Rattle.model.specs.Calls.{passRefusal, answerCount, total, State, start, call, chain}
+use Rattle.model.specs.Runs.{run, runCount, All, none, more}
+use Rattle.model.specs.Enhancement.{passes, callOf, enhanced, recursive}
+use Rattle.model.proofs.Order.{length-passed}
+use Rattle.model.proofs.Recursion.{recursion-listed}
+
+total-append : (xs ys : List Answer) → total (xs ++ ys) ≡ total xs + total ys
+total-append [] ys = sym (zero-add (total ys))
+total-append (x ∷ xs) ys = ap (answerCount x +_) (total-append xs ys) ∙ sym (add-assoc (answerCount x) (total xs) (total ys))
+
+module _ (w h : ℕ) where
+  abbrev Accepted : Pass → Type 0
+  Accepted s = passRefusal w h (w * h) (callOf (w * h) s) ≡ 0
+
+  abbrev runs : State → List Pass → State
+  runs s ss = chain w h s (map (callOf (w * h)) ss)
+
+  one : (s : State) (t : Pass) → length (s .plane) ≡ w * h → Accepted t
+      → call w h s (callOf (w * h) t) ≡ record { plane = passed (four w) t (s .plane); answers = s .answers ++ (Done (passCount (four w) t (s .plane)) ∷ []) }
+  unfolding call callOf
+  one s t l e = rw (l, e, call) refl
+
+  pub chain-runs : (ss : List Pass) → All Accepted ss → (s : State) → length (s .plane) ≡ w * h
+      → (runs s ss .plane ≡ run (four w) ss (s .plane)) × (total (runs s ss .answers) ≡ total (s .answers) + runCount (four w) ss (s .plane))
+  unfolding chain run runCount
+  chain-runs [] none s l = (refl, sym (add-zero (total (s .answers))))
+  chain-runs (t ∷ ss) (more e a) s l =
+      let next : State = record { plane = passed (four w) t (s .plane); answers = s .answers ++ (Done (passCount (four w) t (s .plane)) ∷ []) } in
+      let r = chain-runs ss a next (length-passed (four w) (four-sym w) t (s .plane) ∙ l) in
+      let sum : total (runs next ss .answers) ≡ total (s .answers) + (passCount (four w) t (s .plane) + runCount (four w) ss (passed (four w) t (s .plane))) =
+      omega (arith, r .1, total-append (s .answers) (Done (passCount (four w) t (s .plane)) ∷ [])) in
+      (ap (λ (z : State). runs z ss .plane) (one s t l e) ∙ r .0, ap (λ (z : State). total (runs z ss .answers)) (one s t l e) ∙ sum)
+
+  -- an enhancement whose passes are all accepted: the recursion's plane and sum
+  pub enhanced-recursion : (last area : ℕ) (rule : Rule) (p : List ℕ) → last ≤ 7 → length p ≡ w * h → All Accepted (passes last area rule)
+      → (enhanced w h p last area rule .plane ≡ run (four w) (recursive last area rule) p) × (total (enhanced w h p last area rule .answers) ≡ runCount (four w) (recursive last area rule) p)
+  unfolding enhanced
+  enhanced-recursion last area rule p l size a =
+      let r = chain-runs (passes last area rule) a (start p) size in
+      let q = recursion-listed (four w) (four-sym w) last area rule l in
+      (r .0 ∙ sym (q .planes p), r .1 ∙ zero-add _ ∙ sym (q .sums p))

@@ -1,0 +1,6 @@
+pub mod Order
+pub mod Chains
+pub mod Apart
+pub mod Local
+pub mod Recursion
+pub mod Enhancement

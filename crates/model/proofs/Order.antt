@@ -1,0 +1,108 @@
+-- A pass keeps neighbours in order: one that was no higher stays no higher. For any symmetric neighbour relation and
+-- any rule that is sound (never falls, stays in [a, b]). Assumes nothing.
+use Prim.Native.Nat.{ℕ, _≤_, _<_}
+use mathlib.Core.Path.{_≡_, refl, sym, ap, ap₂, _∙_}
+use mathlib.Core.Logic.{_⊎_, inl, inr}
+use mathlib.Core.Bool.{Bool, true, false, cond, _&&_}
+use mathlib.Core.List.{List, map}
+use native.Mathlib.Nat.{le-trans, le-of-lt}
+use native.Mathlib.Omega.{arith}
+use lib.ListN.{length}
+use lib.Dec.{leb}
+use borrow.Author.Tests.{leb-true, leb-false, le-leb}
+use Rattle.planes.specs.Lists.{from, at}
+use Rattle.planes.specs.Neighbours.{Near}
+use Rattle.planes.specs.Order.{Keeps}
+use Rattle.planes.proofs.Tests.{and-left, and-right, and-both, and-comm}
+use Rattle.planes.proofs.Lists.{all-at, length-all}
+use Rattle.planes.proofs.Links.{link-near}
+use Rattle.planes.proofs.Order.{component-same}
+use Rattle.tones.specs.Tones.{tone}
+use Rattle.tones.specs.Sound.{Sound}
+use Rattle.tones.proofs.Sound.{tone-sound}
+use Rattle.model.specs.declared.Pass.{Pass}
+use Rattle.model.specs.Passes.{within, inside, values, changes, retone, newTone, passed}
+
+-- ## A pass
+
+pub retone-sound : (s : Pass) (vs : List ℕ) → s .a ≤ s .b → Sound (s .a) (s .b) (retone s vs)
+unfolding retone
+retone-sound s vs ab = go (changes s vs)
+  where
+    go : (t : Bool) → Sound (s .a) (s .b) (λ v. cond t (tone (s .rule) (s .a) (s .b) vs v) v)
+    go true = tone-sound (s .rule) (s .a) (s .b) vs ab
+    go false = record { rises = λ v u _ h _. h; above = λ v h _. h; below = λ v _ h. h }
+
+pub in-of : (s : Pass) (v : ℕ) → within s v ≡ true → (s .a ≤ v) × (v ≤ s .b)
+in-of s v e = (leb-true (s .a) v (and-left (leb (s .a) v) (leb v (s .b)) e), leb-true v (s .b) (and-right (leb (s .a) v) (leb v (s .b)) e))
+
+pub in-to : (s : Pass) (v : ℕ) → s .a ≤ v → v ≤ s .b → within s v ≡ true
+in-to s v l h = and-both (le-leb (s .a) v l) (le-leb v (s .b) h)
+
+pub out-of : (s : Pass) (v : ℕ) → within s v ≡ false → (v < s .a) ⊎ (s .b < v)
+out-of s v e = go (leb (s .a) v) refl e
+  where
+    go : (t : Bool) → leb (s .a) v ≡ t → (t && leb v (s .b)) ≡ false → (v < s .a) ⊎ (s .b < v)
+    go true d f = inr (leb-false v (s .b) f)
+    go false d f = inl (leb-false (s .a) v d)
+
+-- what a pixel becomes, by whether it is in the section
+module _ (near : Near) (s : Pass) (p : List ℕ) where
+  pub in-tone : (i : ℕ) → within s (at p i) ≡ true → newTone near s p i ≡ retone s (values near s p i) (at p i)
+  unfolding newTone
+  in-tone i e = ap (λ t. cond t (retone s (values near s p i) (at p i)) (at p i)) e
+
+  pub out-tone : (i : ℕ) → within s (at p i) ≡ false → newTone near s p i ≡ at p i
+  unfolding newTone
+  out-tone i e = ap (λ t. cond t (retone s (values near s p i) (at p i)) (at p i)) e
+
+module _ (near : Near) (symm : (i j : ℕ) → near i j ≡ near j i) (s : Pass) (ab : s .a ≤ s .b) (p : List ℕ) where
+  pub inside-sym : (i j : ℕ) → inside near s p i j ≡ inside near s p j i
+  unfolding inside
+  inside-sym i j = ap₂ _&&_ (and-comm (within s (at p i)) (within s (at p j))) (symm i j)
+
+  pub same-values : (i j : ℕ) → i < length p → j < length p → within s (at p i) ≡ true → within s (at p j) ≡ true → near i j ≡ true → values near s p i ≡ values near s p j
+  unfolding values inside
+  same-values i j hi hj wi wj e = ap (map (at p)) (component-same (inside near s p) inside-sym (length p) i j hi hj
+      (link-near (inside near s p) (length p) (and-both (and-both wi wj) e)))
+
+  pub order : (i j : ℕ) → i < length p → j < length p → near i j ≡ true → at p i ≤ at p j → newTone near s p i ≤ newTone near s p j
+  order i j hi hj e h = go (within s (at p i)) (within s (at p j)) refl refl
+    where
+      S : (vs : List ℕ) → Sound (s .a) (s .b) (retone s vs)
+      S vs = retone-sound s vs ab
+
+      vi : ℕ
+      vi = at p i
+
+      vj : ℕ
+      vj = at p j
+
+      go : (t u : Bool) → within s vi ≡ t → within s vj ≡ u → newTone near s p i ≤ newTone near s p j
+      go true true wi wj = rw (in-tone near s p i wi, in-tone near s p j wj, same-values i j hi hj wi wj e)
+          (S (values near s p j) .rises vi vj (in-of s vi wi .0) h (in-of s vj wj .1))
+      go true false wi wj = rw (in-tone near s p i wi, out-tone near s p j wj)
+          (elim (out-of s vj wj) [
+            | inl k ↦ absurd (omega (arith, in-of s vi wi, k, h))
+            | inr k ↦ le-trans (S (values near s p i) .below vi (in-of s vi wi .0) (in-of s vi wi .1)) (le-of-lt k)
+          ])
+      go false true wi wj = rw (out-tone near s p i wi, in-tone near s p j wj)
+          (elim (out-of s vi wi) [
+            | inl k ↦ le-trans (le-of-lt k) (S (values near s p j) .above vj (in-of s vj wj .0) (in-of s vj wj .1))
+            | inr k ↦ absurd (omega (arith, in-of s vj wj, k, h))
+          ])
+      go false false wi wj = rw (out-tone near s p i wi, out-tone near s p j wj) h
+
+-- ## The plane after a pass
+
+module _ (near : Near) (symm : (i j : ℕ) → near i j ≡ near j i) where
+  pub length-passed : (s : Pass) (p : List ℕ) → length (passed near s p) ≡ length p
+  unfolding passed
+  length-passed s p = length-all (newTone near s p) (length p)
+
+  pub passed-at : (s : Pass) (p : List ℕ) (i : ℕ) → i < length p → at (passed near s p) i ≡ newTone near s p i
+  unfolding passed
+  passed-at s p i h = all-at (newTone near s p) (length p) i h
+
+  pub passed-keeps : (s : Pass) (p : List ℕ) → s .a ≤ s .b → Keeps near (length p) p (passed near s p)
+  passed-keeps s p ab = record { ordered = λ i j hi hj e h. rw (passed-at s p i hi, passed-at s p j hj) (order near symm s ab p i j hi hj e h) }

@@ -1,0 +1,50 @@
+-- The passes that an enhancement stands for, level by level with the lower section first, and the chain of them; and
+-- the recursion by sections, each before its lower and its upper half. Definitions only.
+--
+--   passes     the list that 01 names: level 0 with area 1, then the levels 1 to L with the least area
+--   enhanced   the model's chain of these passes
+--   recursive  the passes in the order of the recursion, depth first
+use Prim.Native.Nat.{ℕ, zero, suc, _+_, _-_, _*_, _^_}
+use mathlib.Core.List.{List, [], _∷_, _++_, map}
+use Rattle.planes.specs.Lists.{from}
+use Rattle.tones.specs.declared.Rule.{Rule}
+use Rattle.model.specs.declared.Pass.{Pass}
+use Rattle.model.specs.Calls.{Call, State, start, chain}
+
+-- the section of the given width that starts at a
+unfoldable pub section : ℕ → Rule → ℕ → ℕ → Pass
+section area rule a width = record { a = a; b = a + width - 1; area = area; rule = rule }
+
+-- ## Level by level
+
+-- the sections of level l, whose width is 2 ^ (8 - l)
+unfoldable pub level : ℕ → ℕ → Rule → List Pass
+level l area rule = map (λ j. section area rule (j * 2 ^ (8 - l)) (2 ^ (8 - l))) (from 0 (2 ^ l))
+
+unfoldable pub levels : List ℕ → ℕ → Rule → List Pass
+levels [] area rule = []
+levels (l ∷ ls) area rule = level l area rule ++ levels ls area rule
+
+unfoldable pub passes : ℕ → ℕ → Rule → List Pass
+passes last area rule = level 0 1 rule ++ levels (from 1 last) area rule
+
+-- a call of the pass with room for n pixels
+unfoldable pub callOf : ℕ → Pass → Call
+callOf n s = record { marks = n; queue = n; pass = s }
+
+unfoldable pub enhanced : ℕ → ℕ → List ℕ → ℕ → ℕ → Rule → State
+enhanced w h p last area rule = chain w h (start p) (map (callOf (w * h)) (passes last area rule))
+
+-- ## Depth first
+
+-- with the last level's width 2 ^ k: the section of width 2 ^ (d + k) that starts at a, and the d levels below it
+module _ (k area : ℕ) (rule : Rule) where
+  unfoldable pub deep : ℕ → ℕ → List Pass
+  deep zero a = section area rule a (2 ^ (0 + k)) ∷ []
+  deep (suc d) a = section area rule a (2 ^ (suc d + k)) ∷ (deep d a ++ deep d (a + 2 ^ (d + k)))
+
+-- all values with area 1; then each half with the levels below it
+unfoldable pub recursive : ℕ → ℕ → Rule → List Pass
+recursive zero area rule = section 1 rule 0 256 ∷ []
+recursive (suc m) area rule =
+    section 1 rule 0 256 ∷ (deep (7 - m) area rule m 0 ++ deep (7 - m) area rule m (0 + 2 ^ (m + (7 - m))))

@@ -1,0 +1,4 @@
+pub mod Passes
+pub mod Calls
+pub mod Runs
+pub mod Enhancement
