@@ -1,0 +1,5 @@
+pub mod Regions
+pub mod Rows
+pub mod Visits
+pub mod Flooding
+pub mod Four

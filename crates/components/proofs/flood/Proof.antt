@@ -1,0 +1,129 @@
+-- `components::flood` meets its contract. The loop's invariant, `Flooding`, is stated over every beginning from which the
+-- flood may have come to where the loop begins, since an invariant does not see the function's entry; `so-far` applies it
+-- to the entry. The measure is what the head has left of the queue. Assumes nothing.
+use Prim.Native.Nat.{ℕ, _+_, _-_, _*_, _≤_, _<_}
+use mathlib.Core.Path.{_≡_, refl, sym, _∙_}
+use mathlib.Core.List.{List}
+use native.Mathlib.Nat.{mul-mod-right}
+use native.Mathlib.Omega.{arith}
+use borrow.Author.Needs.{needs}
+use lib.ListN.{length}
+use Rattle.planes.specs.Neighbours.{four}
+use Rattle.components.proofs.Visits.{room-of, may-visit}
+use Rattle.components.proofs.Flooding.{Flooding, flood-begin, turn, finish, entry-off}
+use Rattle.components.proofs.flood.Statement.{statement}
+use Rattle.components.proofs.flood.Tie as tie
+
+abbrev Inv-loop : tie.InvT-loop
+Inv-loop marks₀ queue₀ w h code start n tail₀ head₀ marks queue tail head =
+    (length marks ≡ length marks₀)
+    × ((length queue ≡ length queue₀)
+    × ((marks' queue' : List ℕ) → Flooding (four w) n code start marks' queue' marks₀ queue₀ head₀ tail₀
+    → Flooding (four w) n code start marks' queue' marks queue head tail))
+
+abbrev μ-loop : tie.MeasureT-loop
+μ-loop marks₀ queue₀ w h code start n tail₀ head₀ marks queue tail head = length queue - head
+
+mul-n : tie.Need-mul-n Inv-loop μ-loop
+mul-n c = omega (arith, c .before .before .pre .size .few)
+
+visit-requires : tie.Need-visit-requires Inv-loop μ-loop
+visit-requires c κs =
+    let s = c .before .before .before .before in
+    may-visit (room-of (s .pre)) _ (s .pre .inside)
+
+loop-holds : tie.Need-loop-holds Inv-loop μ-loop
+loop-holds c = (refl, (refl, λ _ _ f. f))
+
+mul-p : tie.Need-mul-p Inv-loop μ-loop
+mul-p c =
+    let l = c .before in
+    let v = l .before .before .before .before .before in
+    let s = v .before .before .before .before .before in
+    let f = l .loop .inv .1 .1 _ _ (flood-begin {near = four (s .args .w)} (s .pre) (v .visit .ensures)) in
+    omega (arith, f .room .spare, c .loop-test .taken)
+
+slice-read-p : tie.Need-slice-read-p Inv-loop μ-loop
+slice-read-p c =
+    let l = c .before .before in
+    let v = l .before .before .before .before .before in
+    let s = v .before .before .before .before .before in
+    let f = l .loop .inv .1 .1 _ _ (flood-begin {near = four (s .args .w)} (s .pre) (v .visit .ensures)) in
+    omega (arith, f .room .spare, c .before .loop-test .taken)
+
+cast-p : tie.Need-cast-p Inv-loop μ-loop
+cast-p c = omega (arith, c .slice-known5 .given (c .before .before .loop .head))
+
+add-head : tie.Need-add-head Inv-loop μ-loop
+add-head c =
+    let l = c .before .before in
+    let v = l .before .before .before .before .before in
+    let s = v .before .before .before .before .before in
+    let f = l .loop .inv .1 .1 _ _ (flood-begin {near = four (s .args .w)} (s .pre) (v .visit .ensures)) in
+    omega (arith, f .room .spare, c .before .loop-test .taken)
+
+spread-requires : tie.Need-spread-requires Inv-loop μ-loop
+spread-requires c κs =
+    let l = c .before .before .before .before in
+    let v = l .before .before .before .before .before in
+    let s = v .before .before .before .before .before in
+    let f = l .loop .inv .1 .1 _ _ (flood-begin {near = four (s .args .w)} (s .pre) (v .visit .ensures)) in
+    let t = c .before .before .before .loop-test .taken in
+    record {
+      wide = s .pre .size .wide;
+      narrow = s .pre .size .narrow;
+      whole = mul-mod-right (s .args .w) (s .args .h);
+      inside = f .searched .below _ t;
+      off = entry-off (f .searched) _ t;
+      queued = record { index = l .loop .head; below = t; holds = refl };
+      room = f .room;
+    }
+
+loop-less : tie.Need-loop-less Inv-loop μ-loop
+loop-less c =
+    let l = c .before .before .before .before .before .before .before .before .before in
+    let v = l .before .before .before .before .before in
+    let s = v .before .before .before .before .before in
+    let f = l .loop .inv .1 .1 _ _ (flood-begin {near = four (s .args .w)} (s .pre) (v .visit .ensures)) in
+    omega (arith, f .room .spare, c .before .before .before .before .before .before .before .before .loop-test .taken)
+
+loop-again : tie.Need-loop-again Inv-loop μ-loop
+loop-again c =
+    let l = c .before .before .before .before .before .before .before .before .before in
+    let t = c .before .before .before .before .before .before .before .before .loop-test .taken in
+    let k = c .before .before .before .before .spread in
+    (omega arith, (omega arith, λ m q f. turn (l .loop .inv .1 .1 m q f) t (k .ensures)))
+
+same-length : tie.Need-same-length Inv-loop μ-loop
+same-length c = search needs
+
+same-length-2 : tie.Need-same-length-2 Inv-loop μ-loop
+same-length-2 c = search needs
+
+returns : tie.Need-returns Inv-loop μ-loop
+returns c =
+    let l = c .before in
+    let v = l .before .before .before .before .before in
+    let s = v .before .before .before .before .before in
+    let f = l .loop .inv .1 .1 _ _ (flood-begin {near = four (s .args .w)} (s .pre) (v .visit .ensures)) in
+    finish f (s .pre .inside) (c .loop-test .left)
+
+pub flood-spec : {M : Type 1} → statement M
+flood-spec =
+    tie.close
+    (tie.spec
+    Inv-loop
+    μ-loop
+    mul-n
+    visit-requires
+    loop-holds
+    mul-p
+    slice-read-p
+    cast-p
+    add-head
+    spread-requires
+    loop-less
+    loop-again
+    same-length
+    same-length-2
+    returns)

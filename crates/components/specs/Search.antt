@@ -1,0 +1,35 @@
+-- The search for the next pixel that has a code. Definitions only.
+--
+--   Searchable   marks of a plane whose size is not refused
+--   None         no pixel of a stretch has the code
+--   Next         a pixel is the first from one on that has the code
+--   NextPixel    what the search answers
+use Prim.Native.Nat.{ℕ, _*_, _≤_, _<_}
+use mathlib.Core.Path.{_≡_}
+use mathlib.Core.List.{List}
+use lib.ListN.{length}
+use Rattle.planes.specs.Lists.{at}
+use Rattle.planes.specs.Refusals.{greatestPixels, Sized}
+use Rattle.components.specs.declared.Found.{Found}
+use Rattle.components.specs.declared.Found.the-variants.{At, Nothing}
+
+-- a plane of w columns and h rows, with a mark for each pixel
+pub record Searchable (marks : List ℕ) (w h : ℕ) : Type 0 where
+  pub size : Sized w h greatestPixels
+  pub covered : w * h ≤ length marks
+
+-- no pixel from `low` on and before `high` has the code
+abbrev pub None : List ℕ → ℕ → ℕ → ℕ → Type 0
+None marks code low high = (p : ℕ) → low ≤ p → p < high → at marks p ≡ code → ⊥
+
+-- p is the first pixel from `low` on, of n, that has the code
+pub record Next (marks : List ℕ) (code low n p : ℕ) : Type 0 where
+  pub past : low ≤ p
+  pub below : p < n
+  pub has : at marks p ≡ code
+  pub none : None marks code low p
+
+-- the first pixel from `low` on, of n, that has the code, or that there is none
+abbrev pub NextPixel : List ℕ → ℕ → ℕ → ℕ → Found → Type 0
+NextPixel marks code low n (At p) = Next marks code low n p
+NextPixel marks code low n Nothing = None marks code low n

@@ -1,0 +1,128 @@
+// Components of the pixels whose marks have one code: the search for the next such pixel, and the flood of its component.
+//
+// next_pixel   the first pixel from one on, in reading order, that has the code
+// flood        takes the component of a pixel: its marks become 0, and its pixels are the first entries of the queue
+//
+// Which pixels are neighbours is known to `spread` alone.
+ghost use mathlib.Core.Path.{_≡_};
+ghost use Prim.Native.Nat.{_*_, _≤_, _<_};
+ghost use lib.ListN.{length};
+ghost use Rattle.planes.specs.Lists.{at};
+ghost use Rattle.planes.specs.Neighbours.{four};
+ghost use Rattle.components.specs.Search.{Searchable, NextPixel};
+ghost use Rattle.components.specs.Floods.{Above, Left, Right, Below, Visited, Spreadable, Spread, Floodable, Flooded};
+
+// What a search finds.
+pub enum Found {
+    At(usize),
+    Nothing,
+}
+
+// The first pixel that has the code, in reading order from the pixel `from` on.
+pub fn next_pixel(marks: &[u8], w: usize, h: usize, code: u8, from: usize) -> Found
+    requires { ⌜ Searchable (now marks) w h ⌝ }
+    ensures { λ r. ⌜ NextPixel (now (marks .entry)) code from (w * h) r ⌝ }
+{
+    let n = w * h;
+    let mut at = n;
+    let mut first = from % w;
+    'search: for y in from / w..h {
+        for x in first..w {
+            let p = y * w + x;
+            if marks[p] == code {
+                at = p;
+                break 'search;
+            }
+        }
+        first = 0;
+    }
+    if at < n {
+        Found::At(at)
+    } else {
+        Found::Nothing
+    }
+}
+
+// Takes the pixel q if it has the code: its mark becomes 0, and it is put at the queue's tail. The new tail.
+fn visit(marks: &mut [u8], queue: &mut [u32], code: u8, q: usize, tail: usize) -> usize
+    requires { ⌜ (q < 1048576) × ((q < length (now marks)) × (at (now marks) q ≡ code → tail < length (now queue))) ⌝ }
+    ensures { λ r. ⌜ Visited (now (marks .entry)) (now (queue .entry)) code q tail (now (marks .exit)) (now (queue .exit)) r ⌝ }
+{
+    if marks[q] != code {
+        return tail;
+    }
+    marks[q] = 0;
+    queue[tail] = q as u32;
+    tail + 1
+}
+
+// The neighbours of the pixel p in column x, of n pixels in rows of w: p itself where the plane ends there.
+fn above(p: usize, w: usize) -> usize
+    ensures { λ r. ⌜ Above w p r ⌝ }
+{
+    if p < w { p } else { p - w }
+}
+
+fn left(p: usize, x: usize) -> usize
+    requires { ⌜ x ≤ p ⌝ }
+    ensures { λ r. ⌜ Left x p r ⌝ }
+{
+    if x == 0 { p } else { p - 1 }
+}
+
+fn right(p: usize, x: usize, w: usize) -> usize
+    requires { ⌜ (x < w) × (p < 1048576) ⌝ }
+    ensures { λ r. ⌜ Right w x p r ⌝ }
+{
+    if x + 1 < w { p + 1 } else { p }
+}
+
+fn below(p: usize, w: usize, n: usize) -> usize
+    requires { ⌜ (w ≤ 4096) × (p < 1048576) ⌝ }
+    ensures { λ r. ⌜ Below w n p r ⌝ }
+{
+    if p + w < n { p + w } else { p }
+}
+
+// Takes the neighbours of the pixel p, which is in the queue, that have the code. The new tail.
+fn spread(
+    marks: &mut [u8],
+    queue: &mut [u32],
+    w: usize,
+    n: usize,
+    code: u8,
+    p: usize,
+    tail: usize,
+) -> usize
+    requires { ⌜ Spreadable (now marks) (now queue) w n code p tail ⌝ }
+    ensures { λ r. ⌜ Spread (four w) n code p (now (marks .entry)) (now (queue .entry)) tail (now (marks .exit)) (now (queue .exit)) r ⌝ }
+{
+    let x = p % w;
+    let t1 = visit(marks, queue, code, above(p, w), tail);
+    let t2 = visit(marks, queue, code, left(p, x), t1);
+    let t3 = visit(marks, queue, code, right(p, x, w), t2);
+    visit(marks, queue, code, below(p, w, n), t3)
+}
+
+// Takes the component of the pixel `start` among those that have the code, breadth first. The number of its pixels.
+pub fn flood(
+    marks: &mut [u8],
+    queue: &mut [u32],
+    w: usize,
+    h: usize,
+    code: u8,
+    start: usize,
+) -> usize
+    requires { ⌜ Floodable (now marks) (now queue) w h code start ⌝ }
+    ensures { λ r. ⌜ Flooded (four w) (w * h) code start (now (marks .entry)) (now (queue .entry)) (now (marks .exit)) (now (queue .exit)) r ⌝ }
+{
+    let n = w * h;
+    let mut tail = visit(marks, queue, code, start, 0);
+    let mut head = 0;
+    while head < tail {
+        let p = queue[head] as usize;
+        head += 1;
+        tail = spread(marks, queue, w, n, code, p, tail);
+    }
+    tail
+}
