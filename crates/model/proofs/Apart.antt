@@ -18,7 +18,8 @@ use Rattle.planes.proofs.Counts.{keep-same}
 use Rattle.planes.proofs.Links.{linked-iff}
 use Rattle.model.specs.declared.Pass.{Pass}
 use Rattle.model.specs.Passes.{within, inside, values, changes, retone, newTone, passed, counted, passCount}
-use Rattle.model.proofs.Order.{in-of, in-to, in-tone, out-tone, retone-sound, length-passed, passed-at}
+use Rattle.model.proofs.Components.{in-tone, out-tone}
+use Rattle.model.proofs.Order.{in-of, in-to, retone-sound, length-passed, passed-at}
 
 -- ## Relations that agree on the pixels below n
 

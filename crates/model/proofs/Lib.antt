@@ -1,3 +1,4 @@
+pub mod Components
 pub mod Order
 pub mod Chains
 pub mod Apart

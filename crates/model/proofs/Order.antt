@@ -13,15 +13,14 @@ use borrow.Author.Tests.{leb-true, leb-false, le-leb}
 use Rattle.planes.specs.Lists.{from, at}
 use Rattle.planes.specs.Neighbours.{Near}
 use Rattle.planes.specs.Order.{Keeps}
-use Rattle.planes.proofs.Tests.{and-left, and-right, and-both, and-comm}
+use Rattle.planes.proofs.Tests.{and-left, and-right, and-both}
 use Rattle.planes.proofs.Lists.{all-at, length-all}
-use Rattle.planes.proofs.Links.{link-near}
-use Rattle.planes.proofs.Order.{component-same}
 use Rattle.tones.specs.Tones.{tone}
 use Rattle.tones.specs.Sound.{Sound}
 use Rattle.tones.proofs.Sound.{tone-sound}
 use Rattle.model.specs.declared.Pass.{Pass}
-use Rattle.model.specs.Passes.{within, inside, values, changes, retone, newTone, passed}
+use Rattle.model.proofs.Components.{in-tone, out-tone, same-values}
+use Rattle.model.specs.Passes.{within, values, changes, retone, newTone, passed}
 
 -- ## A pass
 
@@ -46,26 +45,7 @@ out-of s v e = go (leb (s .a) v) refl e
     go true d f = inr (leb-false v (s .b) f)
     go false d f = inl (leb-false (s .a) v d)
 
--- what a pixel becomes, by whether it is in the section
-module _ (near : Near) (s : Pass) (p : List ℕ) where
-  pub in-tone : (i : ℕ) → within s (at p i) ≡ true → newTone near s p i ≡ retone s (values near s p i) (at p i)
-  unfolding newTone
-  in-tone i e = ap (λ t. cond t (retone s (values near s p i) (at p i)) (at p i)) e
-
-  pub out-tone : (i : ℕ) → within s (at p i) ≡ false → newTone near s p i ≡ at p i
-  unfolding newTone
-  out-tone i e = ap (λ t. cond t (retone s (values near s p i) (at p i)) (at p i)) e
-
 module _ (near : Near) (symm : (i j : ℕ) → near i j ≡ near j i) (s : Pass) (ab : s .a ≤ s .b) (p : List ℕ) where
-  pub inside-sym : (i j : ℕ) → inside near s p i j ≡ inside near s p j i
-  unfolding inside
-  inside-sym i j = ap₂ _&&_ (and-comm (within s (at p i)) (within s (at p j))) (symm i j)
-
-  pub same-values : (i j : ℕ) → i < length p → j < length p → within s (at p i) ≡ true → within s (at p j) ≡ true → near i j ≡ true → values near s p i ≡ values near s p j
-  unfolding values inside
-  same-values i j hi hj wi wj e = ap (map (at p)) (component-same (inside near s p) inside-sym (length p) i j hi hj
-      (link-near (inside near s p) (length p) (and-both (and-both wi wj) e)))
-
   pub order : (i j : ℕ) → i < length p → j < length p → near i j ≡ true → at p i ≤ at p j → newTone near s p i ≤ newTone near s p j
   order i j hi hj e h = go (within s (at p i)) (within s (at p j)) refl refl
     where
@@ -79,7 +59,7 @@ module _ (near : Near) (symm : (i j : ℕ) → near i j ≡ near j i) (s : Pass)
       vj = at p j
 
       go : (t u : Bool) → within s vi ≡ t → within s vj ≡ u → newTone near s p i ≤ newTone near s p j
-      go true true wi wj = rw (in-tone near s p i wi, in-tone near s p j wj, same-values i j hi hj wi wj e)
+      go true true wi wj = rw (in-tone near s p i wi, in-tone near s p j wj, same-values near symm s p i j hi hj wi wj e)
           (S (values near s p j) .rises vi vj (in-of s vi wi .0) h (in-of s vj wj .1))
       go true false wi wj = rw (in-tone near s p i wi, out-tone near s p j wj)
           (elim (out-of s vj wj) [

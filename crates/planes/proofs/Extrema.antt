@@ -18,7 +18,7 @@ use Rattle.planes.specs.Neighbours.{Near, Chain, here, step, linked}
 use Rattle.planes.specs.Extrema.{flat, extreme, gtb, Contains}
 use Rattle.planes.proofs.Tests.{decide, and-left, and-right, and-both, eqb-sym, implies-out, implies-in}
 use Rattle.planes.proofs.Lists.{every-out, every-in}
-use Rattle.planes.proofs.Links.{linked-iff, link-refl, link-near, link-trans}
+use Rattle.planes.proofs.Links.{chain-map, linked-iff, link-refl, link-near, link-trans}
 
 -- ## The order that makes a maximum or a minimum
 
@@ -115,10 +115,6 @@ module _ (near : Near) (n : ℕ) where
   flat-value p here = refl
   flat-value p (step {j = l} {k = k} c e h) = flat-value p c ∙ eqb-true (at p l) (at p k) (and-left _ (near l k) e)
 
-  chain-map : (near₁ near₂ : Near) → ((u v : ℕ) → u < n → v < n → near₁ u v ≡ true → near₂ u v ≡ true) → {i j : ℕ} → i < n → Chain near₁ n i j → (j < n) × Chain near₂ n i j
-  chain-map near₁ near₂ f h here = (h, here)
-  chain-map near₁ near₂ f h (step {j = l} {k = k} c e hk) = let r = chain-map near₁ near₂ f h c in (hk, step (r .1) (f l k (r .0) hk e) hk)
-
 -- ## Flat zones
 
 -- the pixels of one zone have one value
@@ -167,7 +163,7 @@ module _ (le lower : ℕ → ℕ → Bool) (O : Order le lower) (near : Near) (s
       and-both (eq-eqb (at q u) (at q v) (O .anti _ _ (keeps u v hu hv r (l _ _ s)) (keeps v u hv hu (symm v u ∙ r) (l _ _ (sym s))))) r
 
   pub zone-stay : (u v : ℕ) → u < length p → v < length p → linked (flat near p) (length p) u v ≡ true → linked (flat near q) (length p) u v ≡ true
-  zone-stay u v hu hv e = linked-iff (flat near q) (length p) u v hu hv .1 (chain-map near (length p) (flat near p) (flat near q) flat-stay hu (linked-iff (flat near p) (length p) u v hu hv .0 e) .1)
+  zone-stay u v hu hv e = linked-iff (flat near q) (length p) u v hu hv .1 (chain-map (length p) (flat near p) (flat near q) flat-stay hu (linked-iff (flat near p) (length p) u v hu hv .0 e) .1)
 
   pub contained : (i : ℕ) → i < length p → extreme lower near q i ≡ true → Contains lower near p q i
   contained i hi e = record { pixel = j; within = hj; extremal = extreme-in le lower O near p j hj extremal; held = held }

@@ -12,6 +12,15 @@ use borrow.Author.Tests.{eqb-true, eq-eqb}
 use Rattle.planes.specs.Neighbours.{Near, Chain, here, step, linked}
 use Rattle.planes.proofs.Tests.{or-cases, or-left, or-right, and-left, and-right, and-both, and-comm, eqb-sym}
 
+-- a chain of one relation is a chain of another that holds wherever the first does
+pub chain-map : (n : ℕ) (near₁ near₂ : Near)
+    → ((u v : ℕ) → u < n → v < n → near₁ u v ≡ true → near₂ u v ≡ true)
+    → {i j : ℕ} → i < n → Chain near₁ n i j → (j < n) × Chain near₂ n i j
+chain-map n near₁ near₂ f h here = (h, here)
+chain-map n near₁ near₂ f h (step {j = l} {k = k} c e hk) =
+    let r = chain-map n near₁ near₂ f h c in
+    (hk, step (r .1) (f l k (r .0) hk e) hk)
+
 module _ (near : Near) where
   pub link-near : (k : ℕ) {i j : ℕ} → near i j ≡ true → linked near k i j ≡ true
   unfolding linked

@@ -1,0 +1,5 @@
+pub mod Inert
+pub mod Regions
+pub mod Sweep
+pub mod Passing
+pub mod Steps

@@ -1,0 +1,112 @@
+-- The treatment of one section, whose pixels have a code in the marks: each component is found, retoned, and given its
+-- next marks. Definitions only.
+--
+--   number      the next mark of a pixel, by its value
+--   inert       a component that neither the pass nor any later one on a part of its section changes
+--   Marked      a section's pixels are marked with 1
+--   Renumbered  listed pixels have their next marks
+--   Toned       what becomes of the values of one component
+--   Done        what becomes of one component, marks and all
+--   Coded       the section's pixels have the code, but for inert components
+--   Section     what the treatment requires
+--   Treated     what it does
+use Prim.Native.Nat.{ℕ, _*_, _≤_, _<_}
+use mathlib.Core.Path.{_≡_}
+use mathlib.Core.Bool.{Bool, true, false, cond, _||_}
+use mathlib.Core.List.{List}
+use lib.ListN.{length}
+use lib.Dec.{leb, ltb, eqb}
+use Rattle.planes.specs.Lists.{at, every, Beyond}
+use Rattle.planes.specs.Neighbours.{Near, four}
+use Rattle.tones.specs.declared.Rule.{Rule}
+use Rattle.tones.specs.declared.Rule.the-variants.{Plain, Limited}
+use Rattle.model.specs.declared.Pass.{Pass}
+use Rattle.model.specs.Passes.{within, inside, values, changes, retone, passed, passCount}
+use Rattle.model.specs.Calls.{Lent}
+use Rattle.passes.specs.declared.Next.{Next}
+
+-- ## Marks
+
+-- of the first k pixels, those of the section are marked with 1 and the others with 0; the other marks are as they were
+pub record Marked (s : Pass) (plane marks marks' : List ℕ) (k : ℕ) : Type 0 where
+  pub drawn : (p : ℕ) → p < k → at marks' p ≡ cond (within s (at plane p)) 1 0
+  pub rest : Beyond k marks marks'
+
+abbrev pub number : Next → ℕ → ℕ
+number t v = cond (leb v (t .mid)) (t .low) (t .high)
+
+-- the first m entries of the queue are pixels of the plane
+pub record Pixels (plane queue : List ℕ) (m : ℕ) : Type 0 where
+  pub room : m ≤ length queue
+  pub below : (i : ℕ) → i < m → at queue i < length plane
+
+-- and have marks
+pub record Listed (marks plane queue : List ℕ) (m : ℕ) : Type 0 where
+  pub pixels : Pixels plane queue m
+  pub marked : (i : ℕ) → i < m → at queue i < length marks
+
+-- the queue's first m pixels have their next marks, and the other marks are as they were
+pub record Renumbered (t : Next) (plane queue marks marks' : List ℕ) (m : ℕ) : Type 0 where
+  pub size : length marks' ≡ length marks
+  pub drawn : (i : ℕ) → i < m → at marks' (at queue i) ≡ number t (at plane (at queue i))
+  pub stays : (p : ℕ) → ((i : ℕ) → i < m → at queue i ≡ p → ⊥) → at marks' p ≡ at marks p
+
+-- ## One component
+
+-- all values are one
+unfoldable pub oneValue : List ℕ → Bool
+oneValue vs = every (eqb (at vs 0)) vs
+
+-- the plain rule keeps a component of one value
+abbrev pub lone : Rule → List ℕ → Bool
+lone (Plain low high) vs = oneValue vs
+lone (Limited k) vs = false
+
+-- a component with the values vs that is too small for the pass, or that has one value under the plain rule
+unfoldable pub inert : Pass → List ℕ → Bool
+inert s vs = ltb (length vs) (s .area) || lone (s .rule) vs
+
+-- a component of the queue's first m pixels that has the values vs: r is 1 where it is retoned
+pub record Toned (s : Pass) (vs plane queue plane' : List ℕ) (m r : ℕ) : Type 0 where
+  pub answer : r ≡ cond (changes s vs) 1 0
+  pub size : length plane' ≡ length plane
+  pub drawn : (i : ℕ) → i < m → at plane' (at queue i) ≡ retone s vs (at plane (at queue i))
+  pub stays : (p : ℕ) → ((i : ℕ) → i < m → at queue i ≡ p → ⊥) → at plane' p ≡ at plane p
+
+-- the same, and its pixels have their next marks, unless it is inert
+pub record Done (s : Pass) (t : Next) (vs plane marks queue plane' marks' : List ℕ) (m r : ℕ) : Type 0 where
+  pub toned : Toned s vs plane queue plane' m r
+  pub size : length marks' ≡ length marks
+  pub drawn : (i : ℕ) → i < m
+      → at marks' (at queue i) ≡ cond (inert s vs) (at marks (at queue i)) (number t (at plane' (at queue i)))
+  pub stays : (p : ℕ) → ((i : ℕ) → i < m → at queue i ≡ p → ⊥) → at marks' p ≡ at marks p
+
+-- ## A section
+
+-- of n pixels, those that have the code are whole components of the section, and all of its components but inert ones
+pub record Coded (near : Near) (n code : ℕ) (s : Pass) (plane marks : List ℕ) : Type 0 where
+  pub coded : (p : ℕ) → p < n → at marks p ≡ code → within s (at plane p) ≡ true
+  pub whole : (u v : ℕ) → u < n → v < n → inside near s plane u v ≡ true → at marks u ≡ code → at marks v ≡ code
+  pub others : (p : ℕ) → p < n → within s (at plane p) ≡ true → (at marks p ≡ code → ⊥)
+      → inert s (values near s plane p) ≡ true
+
+-- a plane of w columns and h rows, with room for it; a section whose pixels have the code; next marks other than that
+pub record Section (plane marks queue : List ℕ) (w h code : ℕ) (s : Pass) (t : Next) : Type 0 where
+  pub lent : Lent w h (length plane) (length marks) (length queue)
+  pub order : s .a ≤ s .b
+  pub real : 1 ≤ code
+  pub low : t .low ≡ code → ⊥
+  pub high : t .high ≡ code → ⊥
+  pub coded : Coded (four w) (w * h) code s plane marks
+
+-- the plane and the count of the pass; the pixels that had the code have their next marks by their new values, but
+-- those of inert components have 0; all other marks, and the queue from n on, are as they were
+pub record Treated (near : Near) (n code : ℕ) (s : Pass) (t : Next) (plane marks queue plane' marks' queue' : List ℕ)
+    (r : ℕ) : Type 0 where
+  pub plane-is : plane' ≡ passed near s plane
+  pub count-is : r ≡ passCount near s plane
+  pub numbered : (p : ℕ) → p < n
+      → at marks' p ≡ cond (eqb (at marks p) code)
+      (cond (inert s (values near s plane p)) 0 (number t (at plane' p))) (at marks p)
+  pub marks-rest : Beyond n marks marks'
+  pub queue-rest : Beyond n queue queue'

@@ -1,0 +1,129 @@
+// Section passes: the components of a section are found, and each with the least area gets the tone rule.
+//
+// pass            a pass over a lent plane, or the refusal that it meets with: refusals 1 to 8
+// treat           the same for a pass and memory that are known to be accepted
+// mark_section    marks a section's pixels
+// treat_section   retones the components of the pixels that have a code, and gives them their next marks
+ghost use mathlib.Core.Path.{_≡_};
+ghost use mathlib.Core.Bool.{cond};
+ghost use mathlib.Core.List.{List};
+ghost use Prim.Native.Nat.{ℕ, _*_, _≤_, _<_};
+ghost use lib.ListN.{length};
+ghost use Rattle.planes.specs.Neighbours.{four};
+ghost use Rattle.tones.specs.Histograms.{values, Component, Alike};
+ghost use Rattle.model.specs.Passes.{within};
+ghost use Rattle.model.specs.Calls.{lentRefusal, passRefusal, Lent};
+ghost use Rattle.passes.specs.Sections.{number, oneValue, inert, Pixels, Listed, Marked, Renumbered, Toned, Done, Section, Treated};
+ghost use Rattle.passes.specs.Calls.{callOn, Over, PassOutcome};
+use components::Found;
+use model::Answer;
+use model::Pass;
+use tones::Rule;
+
+// The next marks of treated pixels: `low` for values up to `mid`, `high` for those above.
+pub struct Next {
+    pub mid: u8,
+    pub low: u8,
+    pub high: u8,
+}
+
+// 1 for a value in [a, b], else 0.
+fn mark_of(v: u8, pass: Pass) -> u8
+    ensures { λ r. ⌜ r ≡ cond (within pass v) 1 0 ⌝ }
+{
+    if v < pass.a {
+        return 0;
+    }
+    if pass.b < v {
+        return 0;
+    }
+    1
+}
+
+// Marks the first n pixels: 1 for a value in the section of the pass, else 0.
+pub fn mark_section(plane: &[u8], marks: &mut [u8], n: usize, pass: Pass)
+    requires { ⌜ (n ≤ length (now plane)) × (n ≤ length (now marks)) ⌝ }
+    ensures { λ r. ⌜ Marked pass (now (plane .entry)) (now (marks .entry)) (now (marks .exit)) n ⌝ }
+{
+    let mut p = 0;
+    while p < n {
+        let v = plane[p];
+        marks[p] = mark_of(v, pass);
+        p += 1;
+    }
+}
+
+// The next mark of a pixel of value v.
+fn next_mark(v: u8, next: Next) -> u8
+    ensures { λ r. ⌜ r ≡ number next v ⌝ }
+{
+    if next.mid < v {
+        return next.high;
+    }
+    next.low
+}
+
+// Gives the queue's first m pixels their next marks.
+fn renumber(marks: &mut [u8], plane: &[u8], queue: &[u32], m: usize, next: Next)
+    requires { ⌜ Listed (now marks) (now plane) (now queue) m ⌝ }
+    ensures { λ r. ⌜ Renumbered next (now (plane .entry)) (now (queue .entry)) (now (marks .entry)) (now (marks .exit)) m ⌝ }
+{
+    let mut i = 0;
+    while i < m {
+        let p = queue[i] as usize;
+        let v = plane[p];
+        marks[p] = next_mark(v, next);
+        i += 1;
+    }
+}
+
+// Whether the queue's first m pixels all have one value.
+fn one_value(plane: &[u8], queue: &[u32], m: usize) -> bool
+    requires { ⌜ (1 ≤ m) × Pixels (now plane) (now queue) m ⌝ }
+    ensures { λ r. ⌜ r ≡ oneValue (values (now (plane .entry)) (now (queue .entry)) m) ⌝ }
+{
+    let p = queue[0] as usize;
+    let v = plane[p];
+    let mut i = 1;
+    while i < m {
+        let q = queue[i] as usize;
+        if plane[q] != v {
+            return false;
+        }
+        i += 1;
+    }
+    true
+}
+
+// 1 to 4 for the plane's size and the lengths that are lent, or 0.
+pub fn lent_refusal(w: usize, h: usize, plane: usize, marks: usize, queue: usize) -> u8
+    ensures { λ r. ⌜ r ≡ lentRefusal w h plane marks queue ⌝ }
+{
+    let size = planes::size_refusal(w, h, planes::PIXELS);
+    if size != 0 {
+        return size;
+    }
+    let n = w * h;
+    if plane != n {
+        return 3;
+    }
+    if marks < n {
+        return 4;
+    }
+    if queue < n {
+        return 4;
+    }
+    0
+}
+
+// 1 to 8 for a call of a pass, or 0.
+fn refusal_of(w: usize, h: usize, plane: usize, marks: usize, queue: usize, pass: Pass) -> u8
+    ensures { λ r. ⌜ r ≡ passRefusal w h plane (callOn marks queue pass) ⌝ }
+{
+    let lent = lent_refusal(w, h, plane, marks, queue);
+    if lent != 0 {
+        return lent;
+    }
+    model::pass_refusal(pass)
+}
+
