@@ -126,4 +126,3 @@ fn refusal_of(w: usize, h: usize, plane: usize, marks: usize, queue: usize, pass
     }
     model::pass_refusal(pass)
 }
-
