@@ -2,7 +2,7 @@
 use Prim.Native.Nat.{ℕ, suc, _+_, _*_, _/_, _%_, _≤_, _<_}
 use mathlib.Core.Path.{_≡_, sym, ap, subst, _∙_}
 use mathlib.Core.Logic.{⊎-elim, inl, inr}
-use native.Mathlib.Nat.{eq-or-lt-of-le, div-add-mod', mul-le-mul, mul-le-mul-right, mul-comm, add-mul, one-mul}
+use native.Mathlib.Nat.{eq-or-lt-of-le, div-add-mod', mul-le-mul-right, mul-comm, add-mul, one-mul}
 use native.Mathlib.Omega.{arith}
 use lib.Arith.{digits-mod}
 
@@ -11,11 +11,8 @@ use lib.Arith.{digits-mod}
 pub next-row : (y w : ℕ) → (y + 1) * w ≡ y * w + w
 next-row y w = omega (arith, add-mul y 1 w, one-mul w)
 
-pub rows-fit : (y w : ℕ) → y ≤ 4096 → w ≤ 4096 → y * w ≤ 16777216
-rows-fit y w p q = mul-le-mul {n₂ = 4096} {m₂ = 4096} p q
-
-pub in-plane : (y x w h : ℕ) → y < h → x < w → y * w + x < w * h
-in-plane y x w h p q =
+pub row-inside : (y w h : ℕ) → y < h → y * w + w ≤ w * h
+row-inside y w h p =
     let m : (y + 1) * w ≤ h * w = mul-le-mul-right w (omega arith) in
     omega (arith, next-row y w, mul-comm w h)
 

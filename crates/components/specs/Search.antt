@@ -2,10 +2,13 @@
 --
 --   Searchable   marks of a plane whose size is not refused
 --   None         no pixel of a stretch has the code
+--   Tells        a test tells whether a pixel of a stretch has the code
+--   Skipped      pixels were passed, none of which has the code
 --   Next         a pixel is the first from one on that has the code
 --   NextPixel    what the search answers
 use Prim.Native.Nat.{ℕ, _*_, _≤_, _<_}
 use mathlib.Core.Path.{_≡_}
+use mathlib.Core.Bool.{Bool, true, false}
 use mathlib.Core.List.{List}
 use lib.ListN.{length}
 use Rattle.planes.specs.Lists.{at}
@@ -21,6 +24,16 @@ pub record Searchable (marks : List ℕ) (w h : ℕ) : Type 0 where
 -- no pixel from `low` on and before `high` has the code
 abbrev pub None : List ℕ → ℕ → ℕ → ℕ → Type 0
 None marks code low high = (p : ℕ) → low ≤ p → p < high → at marks p ≡ code → ⊥
+
+-- the test t passes exactly where a pixel from `low` on and before `high` has the code
+pub record Tells (marks : List ℕ) (code low high : ℕ) (t : Bool) : Type 0 where
+  pub yes : t ≡ true → None marks code low high → ⊥
+  pub no : t ≡ false → None marks code low high
+
+-- from `low` on, no pixel before p has the code
+pub record Skipped (marks : List ℕ) (code low p : ℕ) : Type 0 where
+  pub past : low ≤ p
+  pub none : None marks code low p
 
 -- p is the first pixel from `low` on, of n, that has the code
 pub record Next (marks : List ℕ) (code low n p : ℕ) : Type 0 where

@@ -1,21 +1,54 @@
-// Components of the pixels whose marks have one code: the search for the next such pixel, and the flood of its component.
+// Components of the pixels whose marks have one code: the search for the next such pixel and the flood of its
+// component.
 //
 // next_pixel   the first pixel from one on, in reading order, that has the code
 // flood        takes the component of a pixel: its marks become 0, and its pixels are the first entries of the queue
 //
 // Which pixels are neighbours is known to `spread` alone.
 ghost use mathlib.Core.Path.{_≡_};
-ghost use Prim.Native.Nat.{_*_, _≤_, _<_};
+ghost use Prim.Native.Nat.{_+_, _*_, _≤_, _<_};
 ghost use lib.ListN.{length};
 ghost use Rattle.planes.specs.Lists.{at};
 ghost use Rattle.planes.specs.Neighbours.{four};
-ghost use Rattle.components.specs.Search.{Searchable, NextPixel};
-ghost use Rattle.components.specs.Floods.{Above, Left, Right, Below, Visited, Spreadable, Spread, Floodable, Flooded};
+ghost use Rattle.components.specs.Search.{Searchable, Tells, Skipped, NextPixel};
+ghost use Rattle.components.specs.Floods.{Above, Left, Right, Below};
+ghost use Rattle.components.specs.Floods.{Visited, Spreadable, Spread, Floodable, Flooded};
 
 // What a search finds.
 pub enum Found {
     At(usize),
     Nothing,
+}
+
+// Whether one of the 64 marks from `at` on has the code.
+fn holds(marks: &[u8], at: usize, code: u8) -> bool
+    requires { ⌜ at + 64 ≤ length (now marks) ⌝ }
+    ensures { λ r. ⌜ Tells (now (marks .entry)) code at (at + 64) r ⌝ }
+{
+    let mut found = false;
+    for i in 0..64 {
+        found |= marks[at + i] == code;
+    }
+    found
+}
+
+// A pixel from `at` on, such that none between has the code: stretches of 64 marks are passed until one holds the code,
+// `end` is reached, or the marks end within the stretch.
+fn skip(marks: &[u8], at: usize, end: usize, code: u8) -> usize
+    requires { ⌜ end ≤ length (now marks) ⌝ }
+    ensures { λ r. ⌜ Skipped (now (marks .entry)) code at r ⌝ }
+{
+    let mut p = at;
+    while p < end {
+        if marks.len() - p < 64 {
+            return p;
+        }
+        if holds(marks, p, code) {
+            return p;
+        }
+        p += 64;
+    }
+    p
 }
 
 // The first pixel that has the code, in reading order from the pixel `from` on.
@@ -27,8 +60,9 @@ pub fn next_pixel(marks: &[u8], w: usize, h: usize, code: u8, from: usize) -> Fo
     let mut at = n;
     let mut first = from % w;
     'search: for y in from / w..h {
-        for x in first..w {
-            let p = y * w + x;
+        let row = y * w;
+        for x in skip(marks, row + first, row + w, code) - row..w {
+            let p = row + x;
             if marks[p] == code {
                 at = p;
                 break 'search;
@@ -46,7 +80,8 @@ pub fn next_pixel(marks: &[u8], w: usize, h: usize, code: u8, from: usize) -> Fo
 // Takes the pixel q if it has the code: its mark becomes 0, and it is put at the queue's tail. The new tail.
 fn visit(marks: &mut [u8], queue: &mut [u32], code: u8, q: usize, tail: usize) -> usize
     requires { ⌜ (q < 1048576) × ((q < length (now marks)) × (at (now marks) q ≡ code → tail < length (now queue))) ⌝ }
-    ensures { λ r. ⌜ Visited (now (marks .entry)) (now (queue .entry)) code q tail (now (marks .exit)) (now (queue .exit)) r ⌝ }
+    ensures { λ r. ⌜ Visited (now (marks .entry)) (now (queue .entry)) code q tail (now (marks .exit))
+        (now (queue .exit)) r ⌝ }
 {
     if marks[q] != code {
         return tail;
@@ -95,7 +130,8 @@ fn spread(
     tail: usize,
 ) -> usize
     requires { ⌜ Spreadable (now marks) (now queue) w n code p tail ⌝ }
-    ensures { λ r. ⌜ Spread (four w) n code p (now (marks .entry)) (now (queue .entry)) tail (now (marks .exit)) (now (queue .exit)) r ⌝ }
+    ensures { λ r. ⌜ Spread (four w) n code p (now (marks .entry)) (now (queue .entry)) tail (now (marks .exit))
+        (now (queue .exit)) r ⌝ }
 {
     let x = p % w;
     let t1 = visit(marks, queue, code, above(p, w), tail);
@@ -114,7 +150,8 @@ pub fn flood(
     start: usize,
 ) -> usize
     requires { ⌜ Floodable (now marks) (now queue) w h code start ⌝ }
-    ensures { λ r. ⌜ Flooded (four w) (w * h) code start (now (marks .entry)) (now (queue .entry)) (now (marks .exit)) (now (queue .exit)) r ⌝ }
+    ensures { λ r. ⌜ Flooded (four w) (w * h) code start (now (marks .entry)) (now (queue .entry)) (now (marks .exit))
+        (now (queue .exit)) r ⌝ }
 {
     let n = w * h;
     let mut tail = visit(marks, queue, code, start, 0);

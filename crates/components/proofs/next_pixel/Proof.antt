@@ -1,76 +1,97 @@
--- `components::next_pixel` meets its contract. The invariant of both loops: nothing is found yet, and no pixel from `from`
--- on and before the present one has the code. Their measures are the rows and the columns that are left. Assumes nothing.
+-- `components::next_pixel` meets its contract. The invariant of both loops: nothing is found yet, and no pixel from
+-- `from` on and before the present one has the code. Their measures are the rows and the columns that are left. s is the
+-- function's entry, `row` and `column` the turns of the loops. Assumes nothing.
 use Prim.Native.Nat.{ℕ, _+_, _*_, _-_, _≤_, _<_}
 use mathlib.Core.Path.{_≡_}
 use mathlib.Core.Logic.{⊎-elim}
 use native.Mathlib.Nat.{div-add-mod', mod-lt}
 use native.Mathlib.Omega.{arith}
 use borrow.Author.Needs.{needs}
-use Rattle.components.specs.Search.{None}
-use Rattle.components.proofs.Rows.{next-row, rows-fit, in-plane, past-rows, each-none, each-more, each-less}
+use Rattle.components.specs.Search.{Skipped}
+use Rattle.components.proofs.Rows.{next-row, row-inside, past-rows}
+use Rattle.components.proofs.Stretches.{skipped-none, skipped-one, skipped-more, skipped-less}
 use Rattle.components.proofs.next_pixel.Statement.{statement}
 use Rattle.components.proofs.next_pixel.Tie as tie
 
 abbrev Inv-loop : tie.InvT-loop
-Inv-loop marks w h code from n at₀ first y x₀ at x =
-    (at ≡ n) × ((x ≤ w) × ((from ≤ y * w + x) × None marks code from (y * w + x)))
+Inv-loop marks w h code from n at₀ first y row x₀ at x = (at ≡ n) × Skipped marks code from (row + x)
 
 abbrev μ-loop : tie.MeasureT-loop
-μ-loop marks w h code from n at₀ first y x₀ at x = w - x
+μ-loop marks w h code from n at₀ first y row x₀ at x = w - x
 
 abbrev Inv-search : tie.InvT-search
 Inv-search marks w h code from n at₀ first₀ y₀ at first y =
-    (at ≡ n) × ((first ≤ w) × ((from ≤ y * w + first) × None marks code from (y * w + first)))
+    (at ≡ n) × ((first ≤ w) × Skipped marks code from (y * w + first))
 
 abbrev μ-search : tie.MeasureT-search
 μ-search marks w h code from n at₀ first₀ y₀ at first y = h - y
 
 mul-n : tie.Need-mul-n Inv-loop μ-loop Inv-search μ-search
-mul-n c = omega (arith, c .pre .size .few)
+mul-n c = omega (arith, c .before .pre .size .few)
 
 rem-first : tie.Need-rem-first Inv-loop μ-loop Inv-search μ-search
-rem-first c = omega (arith, c .pre .size .wide)
+rem-first c = omega (arith, c .before .pre .size .wide)
 
 div-y : tie.Need-div-y Inv-loop μ-loop Inv-search μ-search
-div-y c = omega (arith, c .pre .size .wide)
+div-y c = omega (arith, c .before .pre .size .wide)
 
 search-holds : tie.Need-search-holds Inv-loop μ-loop Inv-search μ-search
 search-holds c =
-    let e = div-add-mod' (c .args .from) (c .args .w) in
-    let l = mod-lt (c .args .from) (c .pre .size .wide) in
-    (search needs, (omega arith, (omega arith, each-none _ _ _ (omega arith))))
+    let s = c .before in
+    let whole = div-add-mod' (s .args .from) (s .args .w) in
+    let column = mod-lt (s .args .from) (s .pre .size .wide) in
+    (search needs, (omega arith, skipped-none _ _ _ _ whole))
+
+mul-row : tie.Need-mul-row Inv-loop μ-loop Inv-search μ-search
+mul-row c =
+    let row = c .before in
+    let s = row .before .before in
+    let inside = row-inside (row .search .y) (s .args .w) (s .args .h) (omega arith) in
+    omega (arith, s .pre .size .few)
+
+add-skip : tie.Need-add-skip Inv-loop μ-loop Inv-search μ-search
+add-skip c =
+    let row = c .before in
+    let s = row .before .before in
+    let inside = row-inside (row .search .y) (s .args .w) (s .args .h) (omega arith) in
+    omega (arith, s .pre .size .few)
+
+add-skip-2 : tie.Need-add-skip-2 Inv-loop μ-loop Inv-search μ-search
+add-skip-2 c =
+    let row = c .before in
+    let s = row .before .before in
+    let inside = row-inside (row .search .y) (s .args .w) (s .args .h) (omega arith) in
+    omega (arith, s .pre .size .few)
+
+skip-requires : tie.Need-skip-requires Inv-loop μ-loop Inv-search μ-search
+skip-requires c κs =
+    let row = c .before in
+    let s = row .before .before in
+    let inside = row-inside (row .search .y) (s .args .w) (s .args .h) (omega arith) in
+    omega (arith, s .pre .covered)
+
+sub-x : tie.Need-sub-x Inv-loop μ-loop Inv-search μ-search
+sub-x c = omega (arith, c .skip .ensures .past)
 
 loop-holds : tie.Need-loop-holds Inv-loop μ-loop Inv-search μ-search
 loop-holds c =
-    let inv = c .before .search .inv in
-    (search needs, (omega arith, (omega arith, each-less _ _ _ _ (inv .1 .1 .1) (omega arith))))
-
-mul-p : tie.Need-mul-p Inv-loop μ-loop Inv-search μ-search
-mul-p c =
-    let row = c .before .before .before in
-    let s = row .before in
-    omega (arith, rows-fit (row .search .y) (s .args .w) (omega (arith, s .pre .size .low)) (s .pre .size .narrow))
+    let row = c .before .before in
+    let passed = skipped-more _ _ _ (row .search .inv .1 .1) (c .skip .ensures .past) (c .skip .ensures .none) in
+    (search needs, skipped-less _ _ _ _ (omega (arith, passed .past)) (omega (arith, c .skip .ensures .past)) passed)
 
 add-p : tie.Need-add-p Inv-loop μ-loop Inv-search μ-search
 add-p c =
-    let row = c .before .before .before in
-    let s = row .before in
-    omega (
-      arith,
-      rows-fit (row .search .y) (s .args .w) (omega (arith, s .pre .size .low)) (s .pre .size .narrow),
-      s .pre .size .narrow,
-    )
+    let row = c .before .before .before .before in
+    let s = row .before .before in
+    let inside = row-inside (row .search .y) (s .args .w) (s .args .h) (omega arith) in
+    omega (arith, s .pre .size .few)
 
 shared-slice-read-if1 : tie.Need-shared-slice-read-if1 Inv-loop μ-loop Inv-search μ-search
 shared-slice-read-if1 c =
-    let column = c .before .before in
-    let row = column .before .before in
-    let s = row .before in
-    omega (
-      arith,
-      in-plane (row .search .y) (column .loop .x) (s .args .w) (s .args .h) (omega arith) (omega arith),
-      s .pre .covered,
-    )
+    let row = c .before .before .before .before .before in
+    let s = row .before .before in
+    let inside = row-inside (row .search .y) (s .args .w) (s .args .h) (omega arith) in
+    omega (arith, s .pre .covered)
 
 add-x : tie.Need-add-x Inv-loop μ-loop Inv-search μ-search
 add-x c = omega arith
@@ -80,8 +101,8 @@ loop-less c = omega arith
 
 loop-again : tie.Need-loop-again Inv-loop μ-loop Inv-search μ-search
 loop-again c =
-    let inv = c .before .before .before .loop .inv in
-    (search needs, (omega arith, (omega arith, each-more _ _ _ _ (inv .1 .1 .1) (c .if1 .left) (omega arith))))
+    let column = c .before .before .before in
+    (search needs, skipped-one _ _ _ _ (omega arith) (column .loop .inv .1) (c .if1 .left))
 
 add-y : tie.Need-add-y Inv-loop μ-loop Inv-search μ-search
 add-y c = omega arith
@@ -91,31 +112,39 @@ search-less c = omega arith
 
 search-again : tie.Need-search-again Inv-loop μ-loop Inv-search μ-search
 search-again c =
-    let row = c .before .before .before in
-    let next = next-row (row .search .y) (row .before .args .w) in
-    (search needs, (omega arith, (omega arith, each-less _ _ _ _ (c .before .loop .inv .1 .1 .1) (omega arith))))
+    let row = c .before .before .before .before in
+    let s = row .before .before in
+    let next = next-row (row .search .y) (s .args .w) in
+    let passed = row .search .inv .1 .1 .past in
+    (search needs, (omega arith, skipped-less _ _ _ _ (omega arith) (omega arith) (c .before .loop .inv .1)))
 
 returns : tie.Need-returns Inv-loop μ-loop Inv-search μ-search
 returns c =
     let row = c .before .before in
-    let s = row .before in
-    ⊎-elim (λ w. absurd (omega arith))
-    (λ w. rw (w .5) (record {
-      past = omega arith;
-      below = in-plane (row .search .y) (w .1 .x) (s .args .w) (s .args .h) (omega arith) (omega arith);
-      has = w .4 .taken;
-      none = w .1 .inv .1 .1 .1;
+    let s = row .before .before in
+    ⊎-elim (λ left. absurd (omega arith))
+    (λ found.
+    let inside = row-inside (row .search .y) (s .args .w) (s .args .h) (found .0 .taken) in
+    let passed = found .2 .inv .1 in
+    rw (found .6) (record {
+      past = passed .past;
+      below = omega (arith, found .3 .taken);
+      has = found .5 .taken;
+      none = passed .none;
     }))
     (c .before .search-test .came)
 
 returns-2 : tie.Need-returns-2 Inv-loop μ-loop Inv-search μ-search
 returns-2 c =
     let row = c .before .before in
-    let s = row .before in
+    let s = row .before .before in
     ⊎-elim
-    (λ w. each-less _ _ _ _ (row .search .inv .1 .1 .1)
-    (omega (arith, past-rows (row .search .y) (s .args .w) (s .args .h) (w .0 .left))))
-    (λ w. absurd (omega (arith, in-plane (row .search .y) (w .1 .x) (s .args .w) (s .args .h) (omega arith) (omega arith))))
+    (λ left p l h.
+    let past = past-rows (row .search .y) (s .args .w) (s .args .h) (left .0 .left) in
+    row .search .inv .1 .1 .none p l (omega arith))
+    (λ found.
+    let inside = row-inside (row .search .y) (s .args .w) (s .args .h) (found .0 .taken) in
+    absurd (omega (arith, found .3 .taken, found .6)))
     (c .before .search-test .came)
 
 pub next-pixel-spec : {M : Type 1} → statement M
@@ -130,8 +159,12 @@ next-pixel-spec =
     rem-first
     div-y
     search-holds
+    mul-row
+    add-skip
+    add-skip-2
+    skip-requires
+    sub-x
     loop-holds
-    mul-p
     add-p
     shared-slice-read-if1
     add-x
