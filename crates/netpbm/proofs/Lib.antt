@@ -1,0 +1,7 @@
+pub mod Bytes
+pub mod Parsers
+pub mod Grammar
+pub mod Numbers
+pub mod Refusals
+pub mod Cursors
+pub mod Answers

@@ -1,0 +1,80 @@
+-- `netpbm::read_within` meets its contract: the answer for what the grammar makes of the bytes. The raster is what
+-- stands from the offset on, so its length is the length of all bytes less the offset. Assumes nothing.
+use Prim.Native.Nat.{ℕ, zero, suc, _-_, _≤_}
+use mathlib.Core.Path.{_≡_, refl, sym, ap, _∙_}
+use native.Mathlib.Omega.{arith}
+use borrow.Author.Needs.{needs}
+use lib.ListN.{length, drop, length-drop}
+use denote.Ref.{now}
+use Rattle.netpbm.specs.Parsers.{parsed}
+use Rattle.netpbm.specs.Grammar.{header}
+use Rattle.netpbm.specs.Reading.{frameRefusal, framed, readAnswer}
+use Rattle.netpbm.specs.declared.Header.the-variants.{Refused, Frame}
+use Rattle.netpbm.proofs.Cursors.{header-lost, header-read}
+use Rattle.netpbm.proofs.Answers.{framed-refused, answer-framed}
+use Rattle.netpbm.proofs.read_within.Statement.{statement}
+use Rattle.netpbm.proofs.read_within.Tie as tie
+
+read-header-requires : tie.Need-read-header-requires
+read-header-requires c κs = search needs
+
+enum-known-w : tie.Need-enum-known-w
+enum-known-w c = search needs
+
+enum-told : tie.Need-enum-told
+enum-told c = search needs
+
+-- the header, and the raster's place
+header-is : (c : tie.After-w)
+    → (header (now (c .before .before .before .before .args .bytes))
+    ≡ parsed (record { width = c .w .given .0 .0; height = c .w .given .0 .1 .0; maxval = c .w .given .0 .1 .1 .0 })
+    (drop (c .w .given .0 .1 .1 .1 .0) (now (c .before .before .before .before .args .bytes))))
+    × (c .w .given .0 .1 .1 .1 .0 ≤ length (now (c .before .before .before .before .args .bytes)))
+header-is c =
+    let bytes = now (c .before .before .before .before .args .bytes) in
+    let values = c .w .given .0 in
+    header-read bytes (values .0) (values .1 .0) (values .1 .1 .0) (values .1 .1 .1 .0)
+    (sym (c .before .before .read-header .ensures) ∙ c .w .given .1)
+
+returns : tie.Need-returns
+unfolding readAnswer
+returns c =
+    let reading = c .before .before in
+    let bytes = now (reading .before .before .args .bytes) in
+    rw (header-lost bytes (sym (reading .read-header .ensures) ∙ c .enum-told .given .1))
+
+sub-frame-refusal : tie.Need-sub-frame-refusal
+sub-frame-refusal c = header-is (c .before) .1
+
+frame-refusal-requires : tie.Need-frame-refusal-requires
+frame-refusal-requires c κs = search needs
+
+-- the answer, by the refusal's number
+answer-is : (c : tie.After-frame-refusal)
+    → readAnswer (now (c .before .before .before .before .before .before .args .bytes))
+    (c .before .before .before .before .before .before .args .limit)
+    ≡ framed (c .frame-refusal .result) (c .before .before .w .given .0 .0) (c .before .before .w .given .0 .1 .0)
+    (c .before .before .w .given .0 .1 .1 .1 .0)
+answer-is c =
+    let args = c .before .before .before .before .before .before .args in
+    let known = header-is (c .before .before) in
+    answer-framed (now (args .bytes)) (args .limit) _ _ _ _ (known .0) (known .1) ∙ rw (← c .frame-refusal .ensures)
+
+returns-2 : tie.Need-returns-2
+returns-2 c = sym (answer-is (c .before) ∙ framed-refused (c .before .frame-refusal .result) _ _ _ (c .if1 .taken))
+
+returns-3 : tie.Need-returns-3
+returns-3 c = sym (answer-is (c .before) ∙ rw (c .if1 .left))
+
+pub read-within-spec : {M : Type 1} → statement M
+read-within-spec =
+    tie.close
+    (tie.spec
+    read-header-requires
+    enum-known-w
+    enum-told
+    returns
+    sub-frame-refusal
+    frame-refusal-requires
+    returns-2
+    returns-3)

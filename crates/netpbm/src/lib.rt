@@ -1,0 +1,243 @@
+// P6 frames: reading a header.
+//
+// read          width, height and the raster's offset of a frame of at most 1,048,576 pixels, or a refusal
+// read_within   the same, with the greatest number of pixels given
+ghost use mathlib.Core.Path.{_≡_};
+ghost use Prim.Native.Nat.{_+_, _≤_};
+ghost use lib.ListN.{length, drop};
+ghost use Rattle.planes.specs.Refusals.{greatestPixels};
+ghost use Rattle.netpbm.specs.Bytes.{isWhite, moveFor};
+ghost use Rattle.netpbm.specs.Parsers.{takeWhile, one};
+ghost use Rattle.netpbm.specs.Grammar.{mark, number, field, header};
+ghost use Rattle.netpbm.specs.Cursors.{passed, endedNumber, numberAt, fieldsAt};
+ghost use Rattle.netpbm.specs.Reading.{frameRefusal, readAnswer};
+
+// The greatest number of digits of a number in a header.
+const DIGITS: usize = 6;
+
+// The third number of a header: the greatest value of a channel.
+const MAXVAL: usize = 255;
+
+// What the header reader does next, by the byte before it.
+enum Move {
+    // A digit of this value: take it into the number.
+    Take(u8),
+    // Whitespace: step over it.
+    Skip,
+    // Any other byte: go no further.
+    Stop,
+}
+
+// A number of a header: its value and the place after its last digit.
+enum Number {
+    Read { value: usize, next: usize },
+    Malformed,
+}
+
+// The three numbers of a header, and the place of the raster.
+enum Fields {
+    Whole {
+        w: usize,
+        h: usize,
+        maxval: usize,
+        offset: usize,
+    },
+    Broken,
+}
+
+// The answer to reading: the frame's width, height and raster's offset, or the refusal's number.
+pub enum Header {
+    Refused(u8),
+    Frame { w: usize, h: usize, offset: usize },
+}
+
+// Header bytes sorted into digits, whitespace (TAB, LF, VT, FF, CR and space) and the rest.
+fn sorted(byte: u8) -> Move
+    ensures { λ r. ⌜ r ≡ moveFor byte ⌝ }
+{
+    match byte {
+        48..=57 => Move::Take(byte - 48),
+        9..=13 | 32 => Move::Skip,
+        _ => Move::Stop,
+    }
+}
+
+// The place after the whitespace that begins at `from`.
+fn skip_whitespace(bytes: &[u8], from: usize) -> usize
+    ensures { λ r. ⌜ r ≡ from + length (takeWhile isWhite (drop from (now (bytes .entry)))) ⌝ }
+{
+    let mut at = from;
+    while at < bytes.len() {
+        let byte = bytes[at];
+        let next = sorted(byte);
+        match next {
+            Move::Skip => at += 1,
+            Move::Take(_) => return at,
+            Move::Stop => return at,
+        }
+    }
+    at
+}
+
+// The number whose digits end before `next`, if there are any.
+fn ended(digits: usize, value: usize, next: usize) -> Number
+    ensures { λ r. ⌜ r ≡ endedNumber digits value next ⌝ }
+{
+    if digits == 0 {
+        return Number::Malformed;
+    }
+    Number::Read { value, next }
+}
+
+// The number whose digits begin at `from`.
+fn read_number(bytes: &[u8], from: usize) -> Number
+    requires { ⌜ from ≤ length (now bytes) ⌝ }
+    ensures { λ r. ⌜ r ≡ numberAt (length (now (bytes .entry))) (number (drop from (now (bytes .entry)))) ⌝ }
+{
+    let mut at = from;
+    let mut digits = 0;
+    let mut value = 0;
+    while at < bytes.len() {
+        let byte = bytes[at];
+        let next = sorted(byte);
+        match next {
+            Move::Take(digit) => {
+                if digits == DIGITS {
+                    return Number::Malformed;
+                }
+                value = 10 * value + digit as usize;
+                digits += 1;
+                at += 1;
+            }
+            Move::Skip => return ended(digits, value, at),
+            Move::Stop => return ended(digits, value, at),
+        }
+    }
+    ended(digits, value, at)
+}
+
+// The number after one or more whitespace bytes that begin at `from`.
+fn read_field(bytes: &[u8], from: usize) -> Number
+    requires { ⌜ from ≤ length (now bytes) ⌝ }
+    ensures { λ r. ⌜ r ≡ numberAt (length (now (bytes .entry))) (field (drop from (now (bytes .entry)))) ⌝ }
+{
+    let at = skip_whitespace(bytes, from);
+    if at == from {
+        return Number::Malformed;
+    }
+    read_number(bytes, at)
+}
+
+// Whether one whitespace byte stands at `at`.
+fn separated(bytes: &[u8], at: usize) -> bool
+    ensures { λ r. ⌜ r ≡ passed (one isWhite (drop at (now (bytes .entry)))) ⌝ }
+{
+    if bytes.len() <= at {
+        return false;
+    }
+    let byte = bytes[at];
+    let next = sorted(byte);
+    match next {
+        Move::Skip => true,
+        Move::Take(_) => false,
+        Move::Stop => false,
+    }
+}
+
+// Whether the bytes begin with P6.
+fn marked(bytes: &[u8]) -> bool
+    ensures { λ r. ⌜ r ≡ passed (mark (now (bytes .entry))) ⌝ }
+{
+    if bytes.len() < 2 {
+        return false;
+    }
+    if bytes[0] != 80 {
+        return false;
+    }
+    bytes[1] == 54
+}
+
+// The whole header.
+fn read_header(bytes: &[u8]) -> Fields
+    ensures { λ r. ⌜ r ≡ fieldsAt (length (now (bytes .entry))) (header (now (bytes .entry))) ⌝ }
+{
+    if !marked(bytes) {
+        return Fields::Broken;
+    }
+    let Number::Read {
+        value: w,
+        next: after_w,
+    } = read_field(bytes, 2)
+    else {
+        return Fields::Broken;
+    };
+    let Number::Read {
+        value: h,
+        next: after_h,
+    } = read_field(bytes, after_w)
+    else {
+        return Fields::Broken;
+    };
+    let Number::Read {
+        value: maxval,
+        next: after_maxval,
+    } = read_field(bytes, after_h)
+    else {
+        return Fields::Broken;
+    };
+    if !separated(bytes, after_maxval) {
+        return Fields::Broken;
+    }
+    Fields::Whole {
+        w,
+        h,
+        maxval,
+        offset: after_maxval + 1,
+    }
+}
+
+// The refusal of a frame whose header has these numbers and is followed by `raster` bytes, or 0.
+fn frame_refusal(w: usize, h: usize, maxval: usize, raster: usize, limit: usize) -> u8
+    ensures { λ r. ⌜ r ≡ frameRefusal w h maxval raster limit ⌝ }
+{
+    let size = planes::size_refusal(w, h, limit);
+    if size != 0 {
+        return size;
+    }
+    if maxval != MAXVAL {
+        return 11;
+    }
+    let needed = 3 * (w * h);
+    if raster < needed {
+        return 12;
+    }
+    if needed < raster {
+        return 13;
+    }
+    0
+}
+
+pub fn read_within(bytes: &[u8], limit: usize) -> Header
+    ensures { λ r. ⌜ r ≡ readAnswer (now (bytes .entry)) limit ⌝ }
+{
+    let Fields::Whole {
+        w,
+        h,
+        maxval,
+        offset,
+    } = read_header(bytes)
+    else {
+        return Header::Refused(10);
+    };
+    let refusal = frame_refusal(w, h, maxval, bytes.len() - offset, limit);
+    if refusal != 0 {
+        return Header::Refused(refusal);
+    }
+    Header::Frame { w, h, offset }
+}
+
+pub fn read(bytes: &[u8]) -> Header
+    ensures { λ r. ⌜ r ≡ readAnswer (now (bytes .entry)) greatestPixels ⌝ }
+{
+    read_within(bytes, planes::PIXELS)
+}
