@@ -1,2 +1,5 @@
 pub mod Sums
 pub mod Sound
+pub mod Values
+pub mod Ends
+pub mod Stores

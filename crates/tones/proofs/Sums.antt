@@ -1,6 +1,7 @@
 -- Sums of terms: they grow with their number and with each term, and sums of counts are counts. Assumes nothing.
 use Prim.Native.Nat.{ℕ, zero, suc, _+_, _-_, _*_, _≤_, _<_}
 use mathlib.Core.Path.{_≡_, refl, sym, ap, ap₂, _∙_}
+use mathlib.Core.Logic.{⊎-elim}
 use mathlib.Core.Bool.{Bool, true, false, cond}
 use mathlib.Core.List.{List, [], _∷_}
 use native.Mathlib.Nat.{le-refl, le-antisymm}
@@ -12,6 +13,7 @@ use lib.Dec.{leb, ltb, eqb}
 use borrow.Author.Tests.{ltb-true, ltb-false, lt-ltb, eqb-true, eqb-false, leb-true, le-leb}
 use Rattle.planes.specs.Lists.{count}
 use Rattle.planes.proofs.Counts.{count-cons, count-le, count-mono}
+use Rattle.planes.proofs.Tests.{eq-or-not}
 use Rattle.tones.specs.Tones.{sum, sumTo}
 
 pub sum-mono : (f : ℕ → ℕ) (i : ℕ) {n p : ℕ} → n ≤ p → sum f i n ≤ sum f i p
@@ -58,6 +60,21 @@ term-le f {a} {v} {b} av vb =
     let last : a + (v - a) ≡ v = omega arith in
     omega (arith, ap f last, sum-mono f a {n = suc (v - a)} {p = b - a + 1} (omega arith))
 
+-- where all other terms are 0, the last one is the sum
+pub sumTo-last : (f : ℕ → ℕ) {a v : ℕ} → a ≤ v → ((u : ℕ) → a ≤ u → u < v → f u ≡ 0) → sumTo f a v ≡ f v
+sumTo-last f {a} {v} av none =
+    let number : v - a + 1 ≡ suc (v - a) = omega arith in
+    let last : a + (v - a) ≡ v = omega arith in
+    omega (arith, ap (sum f a) number, sum-none f a (v - a) (λ u au uv. none u au (omega arith)), ap f last)
+
+-- where all terms but one are 0 and the sum is not, that one is not
+pub not-all-zero : (f : ℕ → ℕ) (a b r : ℕ) → a ≤ b → 1 ≤ sumTo f a b
+    → ((v : ℕ) → a ≤ v → v ≤ b → (v ≡ r → ⊥) → f v ≡ 0) → f r ≡ 0 → ⊥
+not-all-zero f a b r ab pos none z =
+    let all : sumTo f a b ≡ 0 = sum-none f a (b - a + 1) (λ v av vb.
+        ⊎-elim (λ (e : v ≡ r). ap f e ∙ z) (λ o. none v av (omega arith) o) (eq-or-not v r)) in
+    omega arith
+
 -- ## Sums of counts
 
 -- the values below e and those at e are the values below e + 1
@@ -99,7 +116,7 @@ pub sum-counts-le : (vs : List ℕ) (i n : ℕ) → sum (λ v. count (eqb v) vs)
 sum-counts-le vs i n = omega (arith, sum-counts vs i n, count-le (λ x. ltb x (i + n)) vs)
 
 -- the values up to v are the values below v + 1
-pub count-upto : (v : ℕ) (vs : List ℕ) → count (λ x. ltb x (suc v)) vs ≡ count (λ x. leb x v) vs
-count-upto v vs = le-antisymm
+pub count-to : (v : ℕ) (vs : List ℕ) → count (λ x. ltb x (suc v)) vs ≡ count (λ x. leb x v) vs
+count-to v vs = le-antisymm
     (count-mono (λ x. ltb x (suc v)) (λ x. leb x v) (λ x e. le-leb x v (omega (arith, ltb-true x (suc v) e))) vs)
     (count-mono (λ x. leb x v) (λ x. ltb x (suc v)) (λ x e. lt-ltb x (suc v) (omega (arith, leb-true x v e))) vs)

@@ -42,7 +42,18 @@ pub record Alike (vs ws : List ℕ) : Type 0 where
   pub same : (v : ℕ) → count (eqb v) vs ≡ count (eqb v) ws
   pub size : length vs ≡ length ws
 
+-- the queue's first m entries are pixels of the plane
+pub record Listed (plane queue : List ℕ) (m : ℕ) : Type 0 where
+  pub few : m ≤ 1048576
+  pub room : m ≤ length queue
+  pub pixels : (i : ℕ) → i < m → at queue i < length plane
+
 -- ## Counts
+
+-- of 256 entries, each is the count of its value
+pub record Tally (vs counts : List ℕ) : Type 0 where
+  pub size : length counts ≡ 256
+  pub entry : (v : ℕ) → v < 256 → at counts v ≡ count (eqb v) vs
 
 pub record Inside (a b : ℕ) (vs : List ℕ) : Type 0 where
   pub low : (v : ℕ) → v < a → count (eqb v) vs ≡ 0
@@ -53,8 +64,9 @@ pub record Histogram (a b : ℕ) (vs counts : List ℕ) : Type 0 where
   pub entry : (v : ℕ) → a ≤ v → v ≤ b → at counts v ≡ count (eqb v) vs
   pub inside : Inside a b vs
 
--- the entries of [a, b] add up to m, which is neither 0 nor too large
+-- of 256 entries, those of [a, b] add up to m, which is neither 0 nor too large
 pub record Counted (counts : List ℕ) (m a b : ℕ) : Type 0 where
+  pub size : length counts ≡ 256
   pub order : a ≤ b
   pub some : 1 ≤ m
   pub few : m ≤ 1048576
@@ -73,10 +85,11 @@ pub record Highest (counts : List ℕ) (a b r : ℕ) : Type 0 where
   pub here : at counts r ≡ 0 → ⊥
   pub none : (v : ℕ) → r < v → v ≤ b → at counts v ≡ 0
 
--- after a store to each entry of [a, b]: those are by f, and the others are as they were
-pub record Refilled (f : ℕ → ℕ) (a b : ℕ) (l l' : List ℕ) : Type 0 where
-  pub new : (v : ℕ) → a ≤ v → v ≤ b → at l' v ≡ f v
-  pub old : (v : ℕ) → (a ≤ v → v ≤ b → ⊥) → at l' v ≡ at l v
+-- the entries from a up to, and not including, e are those of f; the others are as they were
+pub record Refilled (f : ℕ → ℕ) (a e : ℕ) (l l' : List ℕ) : Type 0 where
+  pub size : length l' ≡ length l
+  pub new : (v : ℕ) → a ≤ v → v < e → at l' v ≡ f v
+  pub old : (v : ℕ) → (a ≤ v → v < e → ⊥) → at l' v ≡ at l v
 
 -- the limited rule's tone of v, by the sums of the clipped counts
 abbrev pub limitedBy : List ℕ → ℕ → ℕ → ℕ → ℕ → ℕ
