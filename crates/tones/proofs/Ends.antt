@@ -11,7 +11,7 @@ use lib.Dec.{leb, eqb}
 use Rattle.planes.specs.Lists.{count}
 use Rattle.planes.specs.Rounding.{rounded}
 use Rattle.planes.proofs.Counts.{count-le}
-use Rattle.tones.specs.Tones.{sum, sumTo, greatest, plainTone, clipped, limitedTone, tone}
+use Rattle.tones.specs.Tones.{sumTo, scaled, greatest, plainTone, clipped, limitedTone, tone}
 use Rattle.tones.specs.Histograms.{Inside}
 use Rattle.tones.specs.declared.Rule.{Rule}
 use Rattle.tones.specs.declared.Rule.the-variants.{Plain}
@@ -33,21 +33,26 @@ rounded-cancel c x m h =
     let den : 2 * (c * m) ≡ c * (2 * m) = omega arith in
     ap₂ _/_ num den ∙ mul-div-mul-left (2 * x + m) (2 * m) h
 
--- all of b - a leads to b
-pub all-of : (a b m : ℕ) → a ≤ b → 1 ≤ m → a + rounded ((b - a) * m) m ≡ b
-all-of a b m ab some = omega (arith, rounded-whole (b - a) m some)
+-- none of b - a leads to a, and all of it to b
+pub scaled-none : (a b m : ℕ) → 1 ≤ m → a ≡ scaled a b 0 m
+scaled-none a b m some =
+    let none : (b - a) * 0 ≡ 0 * m = omega arith in
+    omega (arith, ap (λ x. rounded x m) none, rounded-whole 0 m some)
+
+pub scaled-all : (a b m : ℕ) → a ≤ b → 1 ≤ m → scaled a b m m ≡ b
+scaled-all a b m ab some = omega (arith, rounded-whole (b - a) m some)
 
 -- ## The plain rule
 
 pub plain-greatest : (a b : ℕ) (vs : List ℕ) → a ≤ b → 1 ≤ length vs → plainTone a b vs (greatest vs) ≡ b
 unfolding plainTone
 plain-greatest a b vs ab some =
-    ap (λ c. a + rounded ((b - a) * c) (length vs)) (count-greatest vs) ∙ all-of a b (length vs) ab some
+    ap (λ c. scaled a b c (length vs)) (count-greatest vs) ∙ scaled-all a b (length vs) ab some
 
 plain-end : (a b : ℕ) (vs : List ℕ) → a ≤ b → 1 ≤ length vs → Inside a b vs → plainTone a b vs b ≡ b
 unfolding plainTone
 plain-end a b vs ab some s =
-    ap (λ c. a + rounded ((b - a) * c) (length vs)) (inside-all s) ∙ all-of a b (length vs) ab some
+    ap (λ c. scaled a b c (length vs)) (inside-all s) ∙ scaled-all a b (length vs) ab some
 
 -- ## The limited rule
 
@@ -60,7 +65,7 @@ limited-end k a b vs ab some =
     let both : s + (all - s) ≡ all = omega (arith, clipped-le k vs a w) in
     let x : w * s + w * (all - s) ≡ w * all = sym (mul-add w s (all - s)) ∙ ap (w *_) both in
     let pos : 1 ≤ w * all = omega (arith, mul-le-mul-right {m = 1} {n = w} all (omega arith)) in
-    ap (λ y. a + rounded ((b - a) * y) (w * all)) x ∙ all-of a b (w * all) ab pos
+    ap (λ y. scaled a b y (w * all)) x ∙ scaled-all a b (w * all) ab pos
 
 -- with k ≥ 1000 nothing is clipped
 unclipped : (k : ℕ) (vs : List ℕ) → 1000 ≤ k → (v : ℕ) → clipped k vs v ≡ 1000 * count (eqb v) vs
@@ -82,7 +87,7 @@ limited-unclipped k a b vs s h v av vb =
     = ap₂ (λ (x y : ℕ). w * x + (v - a + 1) * y) (to v av) none ∙ omega arith in
     let num : (b - a) * (w * (1000 * c)) ≡ (w * 1000) * ((b - a) * c) = omega arith in
     let den : w * (1000 * m) ≡ (w * 1000) * m = omega arith in
-    ap (λ x. a + rounded ((b - a) * x) (w * (1000 * m))) part
+    ap (λ x. scaled a b x (w * (1000 * m))) part
     ∙ ap₂ (λ (x y : ℕ). a + rounded x y) num den
     ∙ ap (a +_) (rounded-cancel (w * 1000) ((b - a) * c) m (omega arith))
 

@@ -3,3 +3,4 @@ pub mod Sound
 pub mod Values
 pub mod Ends
 pub mod Stores
+pub mod Histograms

@@ -10,10 +10,9 @@ use lib.ListN.{length}
 use lib.Dec.{leb, eqb}
 use borrow.Author.Tests.{leb-true, le-leb}
 use Rattle.planes.specs.Lists.{count}
-use Rattle.planes.specs.Rounding.{rounded}
 use Rattle.planes.proofs.Counts.{count-le, count-mono}
 use Rattle.planes.proofs.Rounding.{rounded-mono, rounded-le}
-use Rattle.tones.specs.Tones.{sum, sumTo, plainTone, clipped, limitedTone, tone, kept}
+use Rattle.tones.specs.Tones.{sum, sumTo, scaled, plainTone, clipped, limitedTone, tone}
 use Rattle.tones.specs.Sound.{Sound}
 use Rattle.tones.specs.declared.Rule.{Rule}
 use Rattle.tones.specs.declared.Rule.the-variants.{Plain}
@@ -22,24 +21,29 @@ use Rattle.tones.proofs.Sums.{sum-mono, sum-le, sum-thousand, sum-count
 
 -- ## Parts of b - a
 
--- a function that adds to a the part x v of y of b - a
-pub part-sound : (a b y : ℕ) (x : ℕ → ℕ) → a ≤ b
-    → ((v u : ℕ) → a ≤ v → v ≤ u → u ≤ b → x v ≤ x u)
-    → ((v : ℕ) → a ≤ v → v ≤ b → x v ≤ y)
-    → Sound a b (λ v. a + rounded ((b - a) * x v) y)
-part-sound a b y x ab rises within = record {
-  rises = λ v u av vu ub. omega (arith, rounded-mono y (mul-le-mul-left (b - a) (rises v u av vu ub)));
-  above = λ v av vb. omega arith;
-  below = λ v av vb. omega (arith, rounded-le (b - a) y (x v) (within v av vb));
-}
+pub scaled-mono : (a b y : ℕ) {x x′ : ℕ} → x ≤ x′ → scaled a b x y ≤ scaled a b x′ y
+scaled-mono a b y h = omega (arith, rounded-mono y (mul-le-mul-left (b - a) h))
+
+scaled-above : (a b x y : ℕ) → a ≤ scaled a b x y
+scaled-above a b x y = omega arith
+
+pub scaled-below : (a b x y : ℕ) → a ≤ b → x ≤ y → scaled a b x y ≤ b
+scaled-below a b x y ab xy = omega (arith, rounded-le (b - a) y x xy)
 
 -- ## The plain rule
 
+pub plain-rises : (a b : ℕ) (vs : List ℕ) (v u : ℕ) → v ≤ u → plainTone a b vs v ≤ plainTone a b vs u
+unfolding plainTone
+plain-rises a b vs v u vu = scaled-mono a b (length vs)
+    (count-mono (λ x. leb x v) (λ x. leb x u) (λ x e. le-leb x u (le-trans (leb-true x v e) vu)) vs)
+
 pub plain-sound : (a b : ℕ) (vs : List ℕ) → a ≤ b → Sound a b (plainTone a b vs)
 unfolding plainTone
-plain-sound a b vs ab = part-sound a b (length vs) (λ v. count (λ x. leb x v) vs) ab
-    (λ v u _ vu _. count-mono (λ x. leb x v) (λ x. leb x u) (λ x e. le-leb x u (le-trans (leb-true x v e) vu)) vs)
-    (λ v _ _. count-le (λ x. leb x v) vs)
+plain-sound a b vs ab = record {
+  rises = λ v u _ vu _. plain-rises a b vs v u vu;
+  above = λ v _ _. scaled-above a b (count (λ x. leb x v) vs) (length vs);
+  below = λ v _ _. scaled-below a b (count (λ x. leb x v) vs) (length vs) ab (count-le (λ x. leb x v) vs);
+}
 
 -- ## The limited rule
 
@@ -64,20 +68,41 @@ shares-le s t n w whole st tw nw =
       ap (w *_) both,
     )
 
+-- the part of the limited rule's tone
+limited-part : ℕ → ℕ → ℕ → List ℕ → ℕ → ℕ
+limited-part k a b vs v =
+    (b - a + 1) * sumTo (clipped k vs) a v + (v - a + 1) * (1000 * length vs - sumTo (clipped k vs) a b)
+
+limited-part-mono : (k a b : ℕ) (vs : List ℕ) {v u : ℕ} → v ≤ u → limited-part k a b vs v ≤ limited-part k a b vs u
+unfolding limited-part
+limited-part-mono k a b vs {v} {u} vu = omega (
+  arith,
+  mul-le-mul-left (b - a + 1) (sumTo-mono (clipped k vs) a vu),
+  mul-le-mul-right {m = v - a + 1} {n = u - a + 1} (1000 * length vs - sumTo (clipped k vs) a b) (omega arith),
+)
+
+limited-part-le : (k a b : ℕ) (vs : List ℕ) {v : ℕ} → v ≤ b
+    → limited-part k a b vs v ≤ (b - a + 1) * (1000 * length vs)
+unfolding limited-part
+limited-part-le k a b vs {v} vb = shares-le
+    (sumTo (clipped k vs) a v)
+    (sumTo (clipped k vs) a b)
+    (v - a + 1)
+    (b - a + 1)
+    (1000 * length vs)
+    (sumTo-mono (clipped k vs) a vb)
+    (clipped-le k vs a (b - a + 1))
+    (omega arith)
+
 pub limited-sound : (k a b : ℕ) (vs : List ℕ) → a ≤ b → Sound a b (limitedTone k a b vs)
-unfolding limitedTone
+unfolding limitedTone limited-part
 limited-sound k a b vs ab =
-    let w = b - a + 1 in
-    let all = 1000 * length vs in
-    let e = all - sumTo (clipped k vs) a b in
-    part-sound a b (w * all) (λ v. w * sumTo (clipped k vs) a v + (v - a + 1) * e) ab
-    (λ v u _ vu _. omega (
-      arith,
-      mul-le-mul-left w (sumTo-mono (clipped k vs) a vu),
-      mul-le-mul-right {m = v - a + 1} {n = u - a + 1} e (omega arith),
-    ))
-    (λ v _ vb. shares-le (sumTo (clipped k vs) a v) (sumTo (clipped k vs) a b) (v - a + 1) w all
-    (sumTo-mono (clipped k vs) a vb) (clipped-le k vs a w) (omega arith))
+    let y = (b - a + 1) * (1000 * length vs) in
+    record {
+      rises = λ v u _ vu _. scaled-mono a b y (limited-part-mono k a b vs vu);
+      above = λ v _ _. scaled-above a b (limited-part k a b vs v) y;
+      below = λ v _ vb. scaled-below a b (limited-part k a b vs v) y ab (limited-part-le k a b vs vb);
+    }
 
 -- ## Rules
 

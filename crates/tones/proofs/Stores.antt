@@ -115,16 +115,16 @@ pub painted-old : {f : ℕ → ℕ} {plane queue plane' : List ℕ} {m i : ℕ} 
 painted-old h d lt = h .stays _ (λ j ji e. d j _ ji lt e)
 
 pub painted-more : {f : ℕ → ℕ} {plane queue plane' : List ℕ} {m i x : ℕ} → Painted f plane queue plane' i
-    → Distinct queue m → i < m → at queue i < length plane → x ≡ f (at plane (at queue i))
+    → Distinct queue m → i < m → at queue i < length plane → x ≡ f (at plane' (at queue i))
     → Painted f plane queue (set plane' (at queue i) x) (i + 1)
 painted-more {f} {plane} {queue} {plane'} {m} {i} {x} h d lt inside eq = record {
   size = simp length-set (h .size);
   drawn = λ j ji. at-set (λ n. n ≡ f (at plane (at queue j))) plane' (at queue i) (at queue j) x (omega (arith, h .size))
-      (λ (e : at queue j ≡ at queue i). eq ∙ ap (λ p. f (at plane p)) (sym e))
+      (λ (e : at queue j ≡ at queue i). eq ∙ ap f (painted-old h d lt ∙ ap (at plane) (sym e)))
       (λ o. ⊎-elim
-          (λ (e : j ≡ i). absurd (o (ap (at queue) e)))
-          (λ n. h .drawn j (omega arith))
-          (eq-or-not j i));
+      (λ (e : j ≡ i). absurd (o (ap (at queue) e)))
+      (λ n. h .drawn j (omega arith))
+      (eq-or-not j i));
   stays = λ p none. getD-set-other plane' (at queue i) p x 0 (λ e. none i (omega arith) (sym e))
       ∙ h .stays p (λ j ji. none j (omega arith));
 }

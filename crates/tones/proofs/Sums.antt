@@ -72,7 +72,7 @@ pub not-all-zero : (f : ℕ → ℕ) (a b r : ℕ) → a ≤ b → 1 ≤ sumTo f
     → ((v : ℕ) → a ≤ v → v ≤ b → (v ≡ r → ⊥) → f v ≡ 0) → f r ≡ 0 → ⊥
 not-all-zero f a b r ab pos none z =
     let all : sumTo f a b ≡ 0 = sum-none f a (b - a + 1) (λ v av vb.
-        ⊎-elim (λ (e : v ≡ r). ap f e ∙ z) (λ o. none v av (omega arith) o) (eq-or-not v r)) in
+    ⊎-elim (λ (e : v ≡ r). ap f e ∙ z) (λ o. none v av (omega arith) o) (eq-or-not v r)) in
     omega arith
 
 -- ## Sums of counts

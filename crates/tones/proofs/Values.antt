@@ -141,15 +141,15 @@ module _ (f : ℕ → ℕ) (rises : (v u : ℕ) → v ≤ u → f v ≤ f u) whe
   least-map x [] = refl
   least-map x (y ∷ xs) = ap (min (f x)) (least-map y xs)
       ∙ by-min (λ n. min (f x) (f (least (y ∷ xs))) ≡ f n) x (least (y ∷ xs))
-          (λ l. min-eq-left (rises _ _ l))
-          (λ l. min-eq-right (rises _ _ l))
+      (λ l. min-eq-left (rises _ _ l))
+      (λ l. min-eq-right (rises _ _ l))
 
   greatest-map : (x : ℕ) (xs : List ℕ) → greatest (map f (x ∷ xs)) ≡ f (greatest (x ∷ xs))
   greatest-map x [] = max-zero (f x) ∙ ap f (sym (max-zero x))
   greatest-map x (y ∷ xs) = ap (max (f x)) (greatest-map y xs)
       ∙ by-max (λ n. max (f x) (f (greatest (y ∷ xs))) ≡ f n) x (greatest (y ∷ xs))
-          (λ l. max-eq-left (rises _ _ l))
-          (λ l. max-eq-right (rises _ _ l))
+      (λ l. max-eq-left (rises _ _ l))
+      (λ l. max-eq-right (rises _ _ l))
 
   pub spread-map : (vs : List ℕ) → 1 ≤ length vs → spread (map f vs) ≡ f (greatest vs) - f (least vs)
   spread-map [] h = absurd (omega arith)

@@ -16,8 +16,7 @@ use mathlib.Core.List.{List, map}
 use lib.ListN.{length, take}
 use lib.Dec.{eqb}
 use Rattle.planes.specs.Lists.{count, at}
-use Rattle.planes.specs.Rounding.{rounded}
-use Rattle.tones.specs.Tones.{sumTo, tone, kept}
+use Rattle.tones.specs.Tones.{sumTo, scaled, limitedTone, tone, kept}
 use Rattle.tones.specs.declared.Rule.{Rule}
 
 -- ## Components
@@ -91,18 +90,31 @@ pub record Refilled (f : ℕ → ℕ) (a e : ℕ) (l l' : List ℕ) : Type 0 whe
   pub new : (v : ℕ) → a ≤ v → v < e → at l' v ≡ f v
   pub old : (v : ℕ) → (a ≤ v → v < e → ⊥) → at l' v ≡ at l v
 
+-- sums in the entries of [a, b], up to `most` at b, for m pixels
+pub record Sums (sums : List ℕ) (most m a b : ℕ) : Type 0 where
+  pub order : a ≤ b
+  pub some : 1 ≤ m
+  pub few : m ≤ 1048576
+  pub rises : (v : ℕ) → a ≤ v → v ≤ b → at sums v ≤ at sums b
+  pub top : at sums b ≤ most
+
 -- the limited rule's tone of v, by the sums of the clipped counts
 abbrev pub limitedBy : List ℕ → ℕ → ℕ → ℕ → ℕ → ℕ
 limitedBy sums m a b v =
     let w = b - a + 1 in
-    let all = 1000 * m in
-    let e = all - at sums b in
     let n = v - a + 1 in
-    a + rounded ((b - a) * (w * at sums v + n * e)) (w * all)
+    let all = 1000 * m in
+    scaled a b (w * at sums v + n * (all - at sums b)) (w * all)
 
 -- the entries of [a, b] are the tones of the values there, for every list of values that has these counts
 pub record Tabled (tones : List ℕ → ℕ → ℕ) (a b : ℕ) (counts table : List ℕ) : Type 0 where
   pub exact : (vs : List ℕ) → Histogram a b vs counts → (v : ℕ) → a ≤ v → v ≤ b → at table v ≡ tones vs v
+
+-- the sums of the clipped counts, and that they give the limited rule's tones
+pub record Clipped (k m a b : ℕ) (counts sums : List ℕ) : Type 0 where
+  pub sums-good : Sums sums (1000 * m) m a b
+  pub exact : (vs : List ℕ) → Histogram a b vs counts → (v : ℕ) → a ≤ v → v ≤ b
+      → limitedBy sums m a b v ≡ limitedTone k a b vs v
 
 -- ## Planes
 

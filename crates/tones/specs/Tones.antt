@@ -3,7 +3,8 @@
 --
 --   greatest, least, spread   of a list of values
 --   sum, sumTo                f i + f (i + 1) + .., by the number of terms, and up to a last one
---   plainTone                 a + D * c(v) / m rounded, where c(v) counts the values no greater than v
+--   scaled                    a + D * x / y, rounded
+--   plainTone                 the part c(v) of m, where c(v) counts the values no greater than v
 --   clipped                   a value's clipped count, in thousandths of a pixel
 --   limitedTone               as plainTone, with clipped counts and what the clipping left over for c(v) / m
 --   tone                      the tone of a rule
@@ -42,10 +43,14 @@ sum f i (suc n) = sum f i n + f (i + n)
 abbrev pub sumTo : (ℕ → ℕ) → ℕ → ℕ → ℕ
 sumTo f a v = sum f a (v - a + 1)
 
+-- a and the part x of y of b - a, rounded
+abbrev pub scaled : ℕ → ℕ → ℕ → ℕ → ℕ
+scaled a b x y = a + rounded ((b - a) * x) y
+
 -- ## The plain rule
 
 unfoldable pub plainTone : ℕ → ℕ → List ℕ → ℕ → ℕ
-plainTone a b vs v = a + rounded ((b - a) * count (λ x. leb x v) vs) (length vs)
+plainTone a b vs v = scaled a b (count (λ x. leb x v) vs) (length vs)
 
 -- ## The limited rule
 
@@ -53,16 +58,16 @@ plainTone a b vs v = a + rounded ((b - a) * count (λ x. leb x v) vs) (length vs
 unfoldable pub clipped : ℕ → List ℕ → ℕ → ℕ
 clipped k vs v = min (1000 * count (eqb v) vs) (k * length vs)
 
--- w is W, the number of values of [a, b]; all is 1000 m; e is E, what the clipping leaves over; n values lie from a to v.
--- Each of them has its clipped count and E / W more, so that their sum over 1000 m is
--- (W * sum of the clipped counts + n * E) / (W * 1000 m): nothing but the tone is rounded.
+-- W values lie in [a, b] and n of them up to v; all is 1000 m, and e is E, what the clipping leaves over. Each value has
+-- its clipped count and E / W more, so that the sum up to v over 1000 m is (W * clipped counts + n * E) / (W * 1000 m).
+-- Nothing but the tone is rounded.
 unfoldable pub limitedTone : ℕ → ℕ → ℕ → List ℕ → ℕ → ℕ
 limitedTone k a b vs v =
     let w = b - a + 1 in
+    let n = v - a + 1 in
     let all = 1000 * length vs in
     let e = all - sumTo (clipped k vs) a b in
-    let n = v - a + 1 in
-    a + rounded ((b - a) * (w * sumTo (clipped k vs) a v + n * e)) (w * all)
+    scaled a b (w * sumTo (clipped k vs) a v + n * e) (w * all)
 
 -- ## Rules
 

@@ -39,18 +39,23 @@ loop-less c = omega arith
 loop-again : tie.Need-loop-again Inv-loop μ-loop
 loop-again c =
     let counts = c .before .before .before .before .args .counts .now in
-    let s = c .before .before .before .loop in
-    (omega arith, (omega arith, λ k vk kb. ⊎-elim
-        (λ (e : k ≡ s .v). ap (at counts) e ∙ c .if1 .left)
-        (λ o. s .inv .1 .1 k (omega arith) kb)
-        (eq-or-not k (s .v))))
+    let s = c .before .before .before .loop in (
+      omega arith,
+      (
+        omega arith,
+        λ k vk kb. ⊎-elim
+            (λ (e : k ≡ s .v). ap (at counts) e ∙ c .if1 .left)
+            (λ o. s .inv .1 .1 k (omega arith) kb)
+            (eq-or-not k (s .v)),
+      ),
+    )
 
 returns-2 : tie.Need-returns-2 Inv-loop μ-loop
 returns-2 c =
     let a = c .before .before .args in
     let none = c .before .loop .inv .1 .1 in
     let here = not-all-zero (at (a .counts .now)) (a .a) (a .b) (c .before .loop .v) (omega arith) (omega arith)
-        (λ k ak kb o. none k (omega arith) kb) in
+    (λ k ak kb o. none k (omega arith) kb) in
     record { from = omega arith; to = omega arith; here = here; none = none }
 
 pub highest-spec : {M : Type 1} → statement M

@@ -1,0 +1,75 @@
+-- `tones::fill_plain` meets its contract. The invariant: the entries from a to below v are tones, and `tone` is that of
+-- the sum `last`. The measure is what is left up to b. Assumes nothing.
+use Prim.Native.Nat.{_+_, _-_, _*_, _≤_, min}
+use mathlib.Core.Path.{_≡_}
+use Rattle.planes.specs.Lists.{at}
+use Rattle.tones.specs.Tones.{scaled}
+use Rattle.tones.specs.Histograms.{Refilled}
+use Rattle.tones.proofs.Ends.{scaled-none}
+use Rattle.tones.proofs.Stores.{refilled-none, refilled-more}
+use native.Mathlib.Omega.{arith}
+use Rattle.tones.proofs.fill_plain.Statement.{statement}
+use Rattle.tones.proofs.fill_plain.Tie as tie
+
+abbrev Inv-loop : tie.InvT-loop
+Inv-loop sums table₀ m a b end last₀ tone₀ v₀ table last tone v =
+    ((a ≤ v) × (v ≤ b + 1)) × ((tone ≡ scaled a b last m) × Refilled (λ k. scaled a b (at sums k) m) a v table₀ table)
+
+abbrev μ-loop : tie.MeasureT-loop
+μ-loop sums table₀ m a b end last₀ tone₀ v₀ table last tone v = b + 1 - v
+
+add-end : tie.Need-add-end Inv-loop μ-loop
+add-end c = omega arith
+
+loop-holds : tie.Need-loop-holds Inv-loop μ-loop
+loop-holds c = (omega arith, (scaled-none (c .args .a) (c .args .b) (c .args .m) (c .pre .0 .some), refilled-none _))
+
+mul-x : tie.Need-mul-x Inv-loop μ-loop
+mul-x c = omega arith
+
+element-copy-out-x : tie.Need-element-copy-out-x Inv-loop μ-loop
+element-copy-out-x c = omega arith
+
+next-tone-requires : tie.Need-next-tone-requires Inv-loop μ-loop
+next-tone-requires c κs =
+    let pre = c .before .before .before .pre .0 in
+    let s = c .before .before .loop in
+    let within = pre .rises (s .v) (omega arith) (omega arith) in
+    ((pre .order, (omega (arith, within, pre .top), (pre .some, pre .few))), s .inv .1 .0)
+
+element-write-table : tie.Need-element-write-table Inv-loop μ-loop
+element-write-table c = omega arith
+
+add-v : tie.Need-add-v Inv-loop μ-loop
+add-v c = omega arith
+
+loop-less : tie.Need-loop-less Inv-loop μ-loop
+loop-less c = omega arith
+
+loop-again : tie.Need-loop-again Inv-loop μ-loop
+loop-again c =
+    let inv = c .before .before .before .loop .inv in
+    let more = refilled-more (inv .1 .1) (inv .0 .0) (omega arith) (c .next-tone .ensures) in
+    (omega arith, (c .next-tone .ensures, more))
+
+returns : tie.Need-returns Inv-loop μ-loop
+returns c =
+    let end : c .before .loop .v ≡ c .before .before .args .b + 1 = omega arith in
+    rw end at (c .before .loop .inv .1 .1)
+
+pub fill-plain-spec : {M : Type 1} → statement M
+fill-plain-spec =
+    tie.close
+    (tie.spec
+    Inv-loop
+    μ-loop
+    add-end
+    loop-holds
+    mul-x
+    element-copy-out-x
+    next-tone-requires
+    element-write-table
+    add-v
+    loop-less
+    loop-again
+    returns)
