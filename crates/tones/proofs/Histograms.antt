@@ -17,7 +17,7 @@ use Rattle.planes.proofs.Tests.{less-or-not}
 use Rattle.tones.specs.Tones.{sumTo, scaled, greatest, least, spread, plainTone, clipped, limitedTone, tone}
 use Rattle.tones.specs.Tones.{keptBy, kept}
 use Rattle.tones.specs.Histograms.{values, Component, Listed, Alike, Tally, Inside, Histogram, Counted, Lowest, Highest}
-use Rattle.tones.specs.Histograms.{Refilled, Sums, limitedBy, Clipped, Tabled, Painted, Retoned}
+use Rattle.tones.specs.Histograms.{Refilled, Sums, limitedBy, ClippedSums, Tabled, Painted, Retoned}
 use Rattle.tones.specs.declared.Rule.{Rule}
 use Rattle.tones.specs.declared.Rule.the-variants.{Plain}
 use Rattle.tones.proofs.Sums.{sum-le, sum-same, sum-thousand, sumTo-mono, sumTo-last}
@@ -145,10 +145,10 @@ module _ {m a b : ℕ} {counts clips : List ℕ} (c : Counted counts m a b) (mos
 pub clipped-of : {k m a b : ℕ} {counts clips sums : List ℕ} → Counted counts m a b
     → Refilled (λ v. min (1000 * at counts v) (k * m)) a (b + 1) counts clips
     → Refilled (sumTo (at clips) a) a (b + 1) clips sums
-    → Clipped k m a b counts sums
+    → ClippedSums k m a b counts sums
 unfolding limitedTone clipped
 clipped-of {k} {m} {a} {b} {counts} {clips} {sums} c clip s = record {
-  sums-good = clipped-sums c (k * m) clip s;
+  rising = clipped-sums c (k * m) clip s;
   exact = λ vs h v av vb.
       let size : m ≡ length vs = histogram-size h c in
       let each : (u : ℕ) → a ≤ u → u ≤ b → at clips u ≡ clipped k vs u = λ u au ub.
@@ -160,7 +160,7 @@ clipped-of {k} {m} {a} {b} {counts} {clips} {sums} c clip s = record {
 }
 
 -- a table filled by the sums of the clipped counts
-pub limited-tabled : {k m a b : ℕ} {counts sums table table' : List ℕ} → Clipped k m a b counts sums
+pub limited-tabled : {k m a b : ℕ} {counts sums table table' : List ℕ} → ClippedSums k m a b counts sums
     → Refilled (limitedBy sums m a b) a (b + 1) table table' → Tabled (limitedTone k a b) a b counts table'
 limited-tabled c t = record { exact = λ vs h v av vb. t .new v av (omega arith) ∙ c .exact vs h v av vb }
 

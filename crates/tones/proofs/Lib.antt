@@ -4,3 +4,5 @@ pub mod Values
 pub mod Ends
 pub mod Stores
 pub mod Histograms
+pub mod Components
+pub mod Examples

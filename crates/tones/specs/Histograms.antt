@@ -111,8 +111,8 @@ pub record Tabled (tones : List ℕ → ℕ → ℕ) (a b : ℕ) (counts table :
   pub exact : (vs : List ℕ) → Histogram a b vs counts → (v : ℕ) → a ≤ v → v ≤ b → at table v ≡ tones vs v
 
 -- the sums of the clipped counts, and that they give the limited rule's tones
-pub record Clipped (k m a b : ℕ) (counts sums : List ℕ) : Type 0 where
-  pub sums-good : Sums sums (1000 * m) m a b
+pub record ClippedSums (k m a b : ℕ) (counts sums : List ℕ) : Type 0 where
+  pub rising : Sums sums (1000 * m) m a b
   pub exact : (vs : List ℕ) → Histogram a b vs counts → (v : ℕ) → a ≤ v → v ≤ b
       → limitedBy sums m a b v ≡ limitedTone k a b vs v
 
@@ -131,3 +131,8 @@ pub record Retoned (rule : Rule) (a b : ℕ) (vs plane queue plane' : List ℕ) 
   pub drawn : (i : ℕ) → i < m → at plane' (at queue i)
       ≡ cond (kept rule a b vs) (at plane (at queue i)) (tone rule a b vs (at plane (at queue i)))
   pub stays : (p : ℕ) → ((i : ℕ) → i < m → at queue i ≡ p → ⊥) → at plane' p ≡ at plane p
+
+-- the same for every list of the component's values
+abbrev pub Retones : Rule → ℕ → ℕ → List ℕ → List ℕ → List ℕ → ℕ → Bool → Type 0
+Retones rule a b plane queue plane' m r =
+    (vs : List ℕ) → Alike vs (values plane queue m) → Retoned rule a b vs plane queue plane' m r

@@ -1,14 +1,30 @@
-// The tone rules: counts of a component's values, the tones of each rule, and their painting.
+// The tone rules, on a component whose pixels the first m entries of a queue name. Only `retone` and `Rule` are public.
+//
+//   retone                                 gives a component a rule, and says whether it was retoned
+//   retone_plain, retone_limited           the same for each rule, from the counts
+//   histogram                              counts the values
+//   sum_up, clip, sum_clipped              sums of counts, in place
+//   lowest, highest, keeps, plain_keeps    the test that keeps the old values
+//   nearest, scale, next_tone              one tone, with the one rounding of both rules
+//   limited_tone, fill_plain, fill_limited, plain_table, limited_table    tables of tones
+//   paint, paint_limited                   new values for the listed pixels
+//
+// Counts, sums and table are kept to the entries of [a, b]: a component costs time in its pixels and in b - a + 1.
+// The plain rule's table divides once for each value that occurs, the limited rule once for each value or each pixel,
+// whichever are fewer.
 ghost use mathlib.Core.Path.{_≡_};
 ghost use mathlib.Core.List.{List};
 ghost use Prim.Native.Nat.{ℕ, _+_, _-_, _*_, _^_, _≤_, _<_, min};
 ghost use lib.ListN.{length, replicate};
-ghost use lib.Dec.{eqb};
-ghost use Rattle.planes.specs.Lists.{count, at};
+ghost use Rattle.planes.specs.Lists.{at};
 ghost use Rattle.planes.specs.Rounding.{rounded};
 ghost use Rattle.tones.specs.Tones.{sumTo, scaled, plainTone, limitedTone, keptBy, kept};
-ghost use Rattle.tones.specs.Histograms.{values, Listed, Distinct, Component, Alike, Tally, Histogram, Counted, Lowest, Highest, Refilled, Sums, limitedBy, Clipped, Tabled, Painted, Retoned};
+ghost use Rattle.tones.specs.Histograms.{values, Listed, Distinct, Component, Painted, Retones};
+ghost use Rattle.tones.specs.Histograms.{Tally, Histogram, Counted, Lowest, Highest, Refilled, Sums};
+ghost use Rattle.tones.specs.Histograms.{limitedBy, ClippedSums, Tabled};
 
+// A tone rule: plain, which keeps the old values where the spread grows or shrinks too much, in hundredths; or limited,
+// which clips the counts at k thousandths of the pixels.
 pub enum Rule {
     Plain { low: u16, high: u16 },
     Limited { k: u16 },
@@ -31,7 +47,8 @@ fn histogram(plane: &[u8], queue: &[u32], m: usize, counts: &mut [u32; 256])
 // Adds to each entry of [a, b] those from a on before it.
 fn sum_up(counts: &mut [u32; 256], a: u8, b: u8)
     requires { ⌜ (length (now counts) ≡ 256) × ((a ≤ b) × (sumTo (at (now counts)) a b < 4294967296)) ⌝ }
-    ensures { λ r. ⌜ Refilled (sumTo (at (now (counts .entry))) a) a (b + 1) (now (counts .entry)) (now (counts .exit)) ⌝ }
+    ensures { λ r. ⌜ Refilled (sumTo (at (now (counts .entry))) a) a (b + 1)
+        (now (counts .entry)) (now (counts .exit)) ⌝ }
 {
     let last = b as usize;
     let mut v = a as usize;
@@ -105,7 +122,8 @@ fn next_tone(a: u8, b: u8, last: u32, tone: u8, x: u32, m: usize) -> u8
 // The tones of the values of [a, b] by the sums of their counts.
 fn fill_plain(sums: &[u32; 256], table: &mut [u8; 256], m: usize, a: u8, b: u8)
     requires { ⌜ Sums (now sums) m m a b × (length (now table) ≡ 256) ⌝ }
-    ensures { λ r. ⌜ Refilled (λ v. scaled a b (at (now (sums .entry)) v) m) a (b + 1) (now (table .entry)) (now (table .exit)) ⌝ }
+    ensures { λ r. ⌜ Refilled (λ v. scaled a b (at (now (sums .entry)) v) m) a (b + 1)
+        (now (table .entry)) (now (table .exit)) ⌝ }
 {
     let end = b as usize + 1;
     let mut last = 0;
@@ -146,7 +164,8 @@ fn keeps(low: u16, high: u16, s: u32, t: u32) -> bool
 // Whether the plain rule keeps the old values. The greatest value would become b, so the least value's tone decides.
 fn plain_keeps(counts: &[u32; 256], m: usize, low: u16, high: u16, a: u8, b: u8) -> bool
     requires { ⌜ Counted (now counts) m a b ⌝ }
-    ensures { λ r. ⌜ ((vs : List ℕ) → Histogram a b vs (now (counts .entry)) → r ≡ kept (Rule.Plain low high) a b vs) ⌝ }
+    ensures { λ r. ⌜ ((vs : List ℕ) → Histogram a b vs (now (counts .entry)) →
+        r ≡ kept (Rule.Plain low high) a b vs) ⌝ }
 {
     let x = lowest(counts, a, b);
     let y = highest(counts, a, b);
@@ -166,7 +185,8 @@ fn lesser(x: u64, y: u64) -> u64
 // The counts of the values of [a, b] in thousandths, none above `most`.
 fn clip(counts: &mut [u32; 256], a: u8, b: u8, most: u64)
     requires { ⌜ (length (now counts) ≡ 256) × ((a ≤ b) × (sumTo (at (now counts)) a b ≤ 1048576)) ⌝ }
-    ensures { λ r. ⌜ Refilled (λ v. min (1000 * at (now (counts .entry)) v) most) a (b + 1) (now (counts .entry)) (now (counts .exit)) ⌝ }
+    ensures { λ r. ⌜ Refilled (λ v. min (1000 * at (now (counts .entry)) v) most) a (b + 1)
+        (now (counts .entry)) (now (counts .exit)) ⌝ }
 {
     let end = b as usize + 1;
     let mut v = a as usize;
@@ -193,7 +213,8 @@ fn limited_tone(sums: &[u32; 256], m: usize, a: u8, b: u8, v: usize) -> u8
 // The tones of the values of [a, b] by the sums of the clipped counts.
 fn fill_limited(sums: &[u32; 256], table: &mut [u8; 256], m: usize, a: u8, b: u8)
     requires { ⌜ Sums (now sums) (1000 * m) m a b × (length (now table) ≡ 256) ⌝ }
-    ensures { λ r. ⌜ Refilled (limitedBy (now (sums .entry)) m a b) a (b + 1) (now (table .entry)) (now (table .exit)) ⌝ }
+    ensures { λ r. ⌜ Refilled (limitedBy (now (sums .entry)) m a b) a (b + 1)
+        (now (table .entry)) (now (table .exit)) ⌝ }
 {
     let end = b as usize + 1;
     let mut v = a as usize;
@@ -206,7 +227,7 @@ fn fill_limited(sums: &[u32; 256], table: &mut [u8; 256], m: usize, a: u8, b: u8
 // Clips the counts of the values of [a, b], and sums them.
 fn sum_clipped(counts: &mut [u32; 256], m: usize, a: u8, b: u8, k: u16)
     requires { ⌜ Counted (now counts) m a b ⌝ }
-    ensures { λ r. ⌜ Clipped k m a b (now (counts .entry)) (now (counts .exit)) ⌝ }
+    ensures { λ r. ⌜ ClippedSums k m a b (now (counts .entry)) (now (counts .exit)) ⌝ }
 {
     clip(counts, a, b, k as u64 * m as u64);
     sum_up(counts, a, b);
@@ -224,7 +245,8 @@ fn limited_table(counts: &mut [u32; 256], table: &mut [u8; 256], m: usize, a: u8
 // Gives the pixels that the queue's first m entries name the table's tones.
 fn paint(plane: &mut [u8], queue: &[u32], m: usize, table: &[u8; 256])
     requires { ⌜ Listed (now plane) (now queue) m × Distinct (now queue) m ⌝ }
-    ensures { λ r. ⌜ Painted (at (now (table .entry))) (now (plane .entry)) (now (queue .entry)) (now (plane .exit)) m ⌝ }
+    ensures { λ r. ⌜ Painted (at (now (table .entry)))
+        (now (plane .entry)) (now (queue .entry)) (now (plane .exit)) m ⌝ }
 {
     let mut i = 0;
     while i < m {
@@ -238,7 +260,8 @@ fn paint(plane: &mut [u8], queue: &[u32], m: usize, table: &[u8; 256])
 // Gives the pixels that the queue's first m entries name the limited rule's tones, each by a division of its own.
 fn paint_limited(plane: &mut [u8], queue: &[u32], m: usize, sums: &[u32; 256], a: u8, b: u8)
     requires { ⌜ Component (now plane) (now queue) m a b × Sums (now sums) (1000 * m) m a b ⌝ }
-    ensures { λ r. ⌜ Painted (limitedBy (now (sums .entry)) m a b) (now (plane .entry)) (now (queue .entry)) (now (plane .exit)) m ⌝ }
+    ensures { λ r. ⌜ Painted (limitedBy (now (sums .entry)) m a b)
+        (now (plane .entry)) (now (queue .entry)) (now (plane .exit)) m ⌝ }
 {
     let mut i = 0;
     while i < m {
@@ -261,7 +284,8 @@ fn retone_plain(
     b: u8,
 ) -> bool
     requires { ⌜ Component (now plane) (now queue) m a b × Tally (values (now plane) (now queue) m) (now counts) ⌝ }
-    ensures { λ r. ⌜ ((vs : List ℕ) → Alike vs (values (now (plane .entry)) (now (queue .entry)) m) → Retoned (Rule.Plain low high) a b vs (now (plane .entry)) (now (queue .entry)) (now (plane .exit)) m r) ⌝ }
+    ensures { λ r. ⌜ Retones (Rule.Plain low high) a b
+        (now (plane .entry)) (now (queue .entry)) (now (plane .exit)) m r ⌝ }
 {
     if plain_keeps(counts, m, low, high, a, b) {
         return false;
@@ -283,7 +307,8 @@ fn retone_limited(
     b: u8,
 ) -> bool
     requires { ⌜ Component (now plane) (now queue) m a b × Tally (values (now plane) (now queue) m) (now counts) ⌝ }
-    ensures { λ r. ⌜ ((vs : List ℕ) → Alike vs (values (now (plane .entry)) (now (queue .entry)) m) → Retoned (Rule.Limited k) a b vs (now (plane .entry)) (now (queue .entry)) (now (plane .exit)) m r) ⌝ }
+    ensures { λ r. ⌜ Retones (Rule.Limited k) a b
+        (now (plane .entry)) (now (queue .entry)) (now (plane .exit)) m r ⌝ }
 {
     let d = (b - a) as usize;
     if m <= d {
@@ -300,7 +325,8 @@ fn retone_limited(
 // Gives the component of the queue's first m pixels the rule; whether it was retoned, and so not kept back.
 pub fn retone(plane: &mut [u8], queue: &[u32], m: usize, rule: Rule, a: u8, b: u8) -> bool
     requires { ⌜ Component (now plane) (now queue) m a b ⌝ }
-    ensures { λ r. ⌜ ((vs : List ℕ) → Alike vs (values (now (plane .entry)) (now (queue .entry)) m) → Retoned rule a b vs (now (plane .entry)) (now (queue .entry)) (now (plane .exit)) m r) ⌝ }
+    ensures { λ r. ⌜ Retones rule a b
+        (now (plane .entry)) (now (queue .entry)) (now (plane .exit)) m r ⌝ }
 {
     let mut counts = [0u32; 256];
     histogram(plane, queue, m, &mut counts);
