@@ -20,6 +20,7 @@
 //! A call that is turned down answers the number of its refusal and changes no lent byte. Of the marks and the queue
 //! only the lengths matter here, so the calls take the lengths alone.
 
+pub mod cases;
 mod colours;
 mod components;
 mod enhancement;

@@ -1,0 +1,216 @@
+//! Test cases in files: how a case is stored and which line answers it. The format is described at the head of
+//! `src/bin/vectors.rs`.
+
+use crate::{enhance, intensity, pass, program, read, recolour, run_list, run_passes, write};
+use crate::{Pass, Rule, Settings};
+
+/// The length of a case's head.
+pub const HEAD: usize = 36;
+
+/// The greatest lengths that a case may have.
+pub const GREATEST_BYTES: usize = 12_320;
+pub const GREATEST_PLANE: usize = 288;
+pub const GREATEST_MEMORY: usize = 320;
+pub const GREATEST_OUTPUT: usize = 3_200;
+
+/// What every byte of an output is before the call.
+pub const OUTPUT_FILL: u8 = 170;
+
+/// The call that a case makes. The stored number is the place in this list, from 0 on.
+#[derive(Clone, Copy, Debug, PartialEq, Eq)]
+pub enum Kind {
+    Intensity,
+    Pass,
+    Recolour,
+    Enhance,
+    List,
+    Passes,
+    Read,
+    Write,
+    Program,
+}
+
+impl Kind {
+    pub const ALL: [Kind; 9] = [
+        Kind::Intensity,
+        Kind::Pass,
+        Kind::Recolour,
+        Kind::Enhance,
+        Kind::List,
+        Kind::Passes,
+        Kind::Read,
+        Kind::Write,
+        Kind::Program,
+    ];
+}
+
+/// One case. A call uses the fields that it needs.
+#[derive(Clone, Debug, PartialEq, Eq)]
+pub struct Case {
+    pub kind: Kind,
+    pub a: u8,
+    pub b: u8,
+    pub rule: u8,
+    pub numbers: [u16; 2],
+    pub area: u32,
+    pub last_level: u8,
+    pub same_plane: bool,
+    pub marks: u16,
+    pub queue: u16,
+    pub output: u16,
+    pub w: u32,
+    pub h: u32,
+    pub limit: u32,
+    pub bytes: Vec<u8>,
+    pub plane: Vec<u8>,
+}
+
+/// The case as it is stored.
+pub fn encode(case: &Case) -> Vec<u8> {
+    let kind = Kind::ALL.iter().position(|&kind| kind == case.kind).expect("a kind");
+    let length = |bytes: &[u8]| u16::try_from(bytes.len()).expect("a 16-bit length").to_le_bytes();
+    let mut stored = vec![kind as u8, case.a, case.b, case.rule];
+    stored.extend(case.numbers[0].to_le_bytes());
+    stored.extend(case.numbers[1].to_le_bytes());
+    stored.extend(case.area.to_le_bytes());
+    stored.extend([case.last_level, u8::from(case.same_plane)]);
+    stored.extend(case.marks.to_le_bytes());
+    stored.extend(case.queue.to_le_bytes());
+    stored.extend(case.output.to_le_bytes());
+    stored.extend(case.w.to_le_bytes());
+    stored.extend(case.h.to_le_bytes());
+    stored.extend(case.limit.to_le_bytes());
+    stored.extend(length(&case.bytes));
+    stored.extend(length(&case.plane));
+    assert_eq!(stored.len(), HEAD);
+    stored.extend(&case.bytes);
+    stored.extend(&case.plane);
+    stored
+}
+
+/// The first case of a file and the rest of the file. Files are made by `encode`, so what is wrong here is a mistake
+/// of the test and ends it.
+pub fn decode(file: &[u8]) -> (Case, &[u8]) {
+    let short = |at: usize| u16::from_le_bytes([file[at], file[at + 1]]);
+    let long = |at: usize| u32::from(short(at)) + 65_536 * u32::from(short(at + 2));
+    let bytes_end = HEAD + usize::from(short(32));
+    let plane_end = bytes_end + usize::from(short(34));
+    let case = Case {
+        kind: Kind::ALL[usize::from(file[0])],
+        a: file[1],
+        b: file[2],
+        rule: file[3],
+        numbers: [short(4), short(6)],
+        area: long(8),
+        last_level: file[12],
+        same_plane: file[13] == 1,
+        marks: short(14),
+        queue: short(16),
+        output: short(18),
+        w: long(20),
+        h: long(24),
+        limit: long(28),
+        bytes: file[HEAD..bytes_end].to_vec(),
+        plane: file[bytes_end..plane_end].to_vec(),
+    };
+    (case, &file[plane_end..])
+}
+
+/// All cases of a file.
+pub fn cases(file: &[u8]) -> Vec<Case> {
+    let mut cases = Vec::new();
+    let mut rest = file;
+    while !rest.is_empty() {
+        let (case, after) = decode(rest);
+        cases.push(case);
+        rest = after;
+    }
+    cases
+}
+
+/// The lines that answer the cases of a file.
+pub fn answers(file: &[u8]) -> String {
+    let mut plane = Vec::new();
+    cases(file).iter().map(|case| answer(case, &mut plane) + "\n").collect()
+}
+
+/// The line that answers a case. The plane is the one that the case before left.
+fn answer(case: &Case, plane: &mut Vec<u8>) -> String {
+    if !case.same_plane {
+        plane.clone_from(&case.plane);
+    }
+    let mut output = vec![OUTPUT_FILL; usize::from(case.output)];
+    let (w, h) = (case.w as usize, case.h as usize);
+    let (marks, queue) = (usize::from(case.marks), usize::from(case.queue));
+    let rule = rule_of(case.rule, case.numbers);
+    // Here marks and queue are lengths alone, so no entry of them can have changed.
+    let strays = 0;
+    match case.kind {
+        Kind::Intensity => {
+            let done = intensity(&case.bytes, w, h, plane).map(|()| 0);
+            format!("{} {}", number(done), hex(plane))
+        }
+        Kind::Pass => {
+            let settings = Pass { a: case.a, b: case.b, area: case.area, rule };
+            let count = pass(plane, marks, queue, w, h, &settings);
+            format!("{} {} {strays}", number(count), hex(plane))
+        }
+        Kind::Recolour => {
+            let done = recolour(&case.bytes, w, h, plane, &mut output).map(|()| 0);
+            format!("{} {}", number(done), hex(&output))
+        }
+        Kind::Enhance => {
+            let settings = Settings { last_level: u32::from(case.last_level), area: case.area, rule };
+            let count = enhance(&case.bytes, w, h, &settings, plane, marks, queue, &mut output);
+            format!("{} {} {} {strays}", number(count), hex(plane), hex(&output))
+        }
+        Kind::List => {
+            let count = run_list(&case.bytes, plane, marks, queue, w, h);
+            format!("{} {} {strays}", number(count), hex(plane))
+        }
+        Kind::Passes => {
+            let passes: Vec<Pass> = case.bytes.chunks(12).map(pass_of).collect();
+            let count = run_passes(&passes, plane, marks, queue, w, h);
+            format!("{} {} {strays}", number(count), hex(plane))
+        }
+        Kind::Read => match read(&case.bytes, case.limit as usize) {
+            Ok(frame) => format!("+{} {} {}", frame.w, frame.h, frame.offset),
+            Err(refusal) => format!("-{refusal}"),
+        },
+        Kind::Write => {
+            let length = write(&case.bytes, w, h, &mut output).map(|length| length as u64);
+            format!("{} {}", number(length), hex(&output))
+        }
+        Kind::Program => hex(&program(&case.bytes)),
+    }
+}
+
+/// The tone rule of a case or of a record.
+fn rule_of(rule: u8, numbers: [u16; 2]) -> Rule {
+    let [first, second] = numbers.map(u32::from);
+    if rule == 0 {
+        Rule::Plain { low: first, high: second }
+    } else {
+        Rule::Limited { k: first }
+    }
+}
+
+/// A pass of a list in memory, from its 12 bytes.
+fn pass_of(record: &[u8]) -> Pass {
+    let short = |at: usize| u16::from_le_bytes([record[at], record[at + 1]]);
+    let area = u32::from(short(4)) + 65_536 * u32::from(short(6));
+    Pass { a: record[0], b: record[1], area, rule: rule_of(record[2], [short(8), short(10)]) }
+}
+
+/// The number of an answer, with its sign.
+fn number(answer: Result<u64, u8>) -> String {
+    match answer {
+        Ok(count) => format!("+{count}"),
+        Err(refusal) => format!("-{refusal}"),
+    }
+}
+
+/// Two lower-case hexadecimal digits for each byte.
+fn hex(bytes: &[u8]) -> String {
+    bytes.iter().map(|byte| format!("{byte:02x}")).collect()
+}

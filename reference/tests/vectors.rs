@@ -1,0 +1,122 @@
+//! The stored test cases are what the generator makes, and they show what they are meant to show.
+
+use mlhe_reference::cases::{answers, cases, encode, Case, Kind};
+use std::collections::BTreeSet;
+use std::fs;
+use std::path::PathBuf;
+use std::process::Command;
+
+fn folder() -> PathBuf {
+    PathBuf::from(env!("CARGO_MANIFEST_DIR")).join("../tests/vectors")
+}
+
+/// The cases and the answers of a stored file.
+fn stored(name: &str) -> (Vec<Case>, Vec<String>) {
+    let file = fs::read(folder().join(format!("{name}.in"))).expect("the cases are there");
+    let lines = fs::read_to_string(folder().join(format!("{name}.out"))).expect("the answers are there");
+    let lines: Vec<String> = lines.lines().map(str::to_string).collect();
+    let cases = cases(&file);
+    assert_eq!(cases.len(), lines.len());
+    (cases, lines)
+}
+
+/// The first word of the line that answers a case.
+fn first_word(case: &Case) -> String {
+    answers(&encode(case)).split_whitespace().next().expect("a word").to_string()
+}
+
+#[test]
+fn the_stored_files_are_what_the_generator_makes() {
+    let status = Command::new(env!("CARGO_BIN_EXE_vectors")).arg("--check").arg(folder()).status();
+    assert!(status.expect("the generator runs").success());
+}
+
+#[test]
+fn every_refusal_of_every_call_is_there() {
+    let refusals: [(&str, &[u8]); 8] = [
+        ("intensity", &[1, 2, 3]),
+        ("pass", &[1, 2, 3, 4, 5, 6, 7, 8]),
+        ("recolour", &[1, 2, 3, 14]),
+        ("enhance", &[1, 2, 3, 4, 6, 7, 8, 9, 14]),
+        ("list", &[1, 2, 3, 4, 5, 6, 7, 8, 15, 16, 17]),
+        ("passes", &[1, 2, 3, 4, 5, 6, 7, 8, 16]),
+        ("read", &[1, 2, 10, 11, 12, 13]),
+        ("write", &[1, 2, 3, 14]),
+    ];
+    for (name, expected) in refusals {
+        let (_, lines) = stored(name);
+        let number = |line: &String| line.strip_prefix('-')?.split(' ').next()?.parse().ok();
+        let found: BTreeSet<u8> = lines.iter().filter_map(number).collect();
+        assert_eq!(found, expected.iter().copied().collect(), "{name}");
+    }
+}
+
+/// Each level changes some count and some plane: so does the last one, with low 0 and with the limited rule.
+#[test]
+fn every_level_shows() {
+    let (cases, lines) = stored("enhance");
+    for last_level in 1..=7 {
+        for rule in [0, 1] {
+            let (mut counts, mut planes) = (0, 0);
+            for (case, line) in cases.iter().zip(&lines) {
+                if case.last_level == last_level && case.rule == rule && line.starts_with('+') {
+                    let less = answers(&encode(&Case { last_level: last_level - 1, ..case.clone() }));
+                    let (line, less): (Vec<&str>, Vec<&str>) = (line.split(' ').collect(), less.split(' ').collect());
+                    counts += usize::from(line[0] != less[0]);
+                    planes += usize::from(line[1] != less[1]);
+                }
+            }
+            assert!(counts > 0 && planes > 0, "level {last_level}, rule {rule}");
+        }
+    }
+}
+
+/// Both rules retone; the plain rule keeps back by each of its limits; the area decides.
+#[test]
+fn every_part_of_a_pass_shows() {
+    let (cases, lines) = stored("pass");
+    let accepted: Vec<(&Case, &String)> = cases.iter().zip(&lines).filter(|(_, line)| line.starts_with('+')).collect();
+    let differs = |change: fn(&mut Case), rule: u8| {
+        let changed = |&&(case, line): &&(&Case, &String)| {
+            let mut other = case.clone();
+            change(&mut other);
+            case.rule == rule && answers(&encode(&other)).trim_end() != line.as_str()
+        };
+        accepted.iter().filter(changed).count()
+    };
+    assert!(differs(|case| case.area += 1, 0) > 10);
+    assert!(differs(|case| case.area = 1, 1) > 10);
+    assert!(differs(|case| case.numbers[0] = 0, 0) > 10);
+    assert!(differs(|case| case.numbers[1] = 25_500, 0) > 10);
+    assert!(differs(|case| case.numbers[0] = 1_000, 1) > 10);
+    assert!(differs(|case| (case.rule, case.numbers) = (0, [0, 25_500]), 1) > 10);
+    assert!(accepted.iter().any(|(case, _)| case.plane.len() == usize::from(case.marks) && case.w == 16));
+    let count = |line: &str| line[1..].split(' ').next().and_then(|count| count.parse::<u32>().ok());
+    for rule in [0, 1] {
+        assert!(accepted.iter().any(|(case, line)| case.rule == rule && count(line) > Some(9)), "rule {rule}");
+    }
+}
+
+/// A chain starts with intensity and goes on with the same plane.
+#[test]
+fn chains_go_on_with_the_same_plane() {
+    let (cases, _) = stored("chain");
+    for case in &cases {
+        assert_eq!(case.same_plane, case.kind != Kind::Intensity);
+        assert!(!case.same_plane || case.plane.is_empty());
+    }
+    assert!(cases.windows(2).any(|pair| pair[0].kind == Kind::Intensity && pair[1].kind == Kind::Recolour));
+}
+
+/// The reader sees both sides of its limits, and the program both frames and refusals.
+#[test]
+fn frames_are_read_and_refused() {
+    let (cases, lines) = stored("read");
+    assert!(lines.iter().filter(|line| line.starts_with('+')).count() > 100);
+    assert!(cases.iter().any(|case| case.limit == 6 && first_word(case) == "+3"));
+    let (cases, lines) = stored("program");
+    let same = |case: &Case, line: &str| answers(&encode(case)).trim_end() == line;
+    assert!(cases.iter().zip(&lines).all(|(case, line)| same(case, line)));
+    let frames = lines.iter().filter(|line| line.starts_with("5036")).count();
+    assert!(frames > 20 && frames < lines.len() - 20);
+}
