@@ -5,3 +5,5 @@ pub mod Numbers
 pub mod Refusals
 pub mod Cursors
 pub mod Answers
+pub mod Frames
+pub mod Examples

@@ -3,3 +3,4 @@ pub mod Parsers
 pub mod Grammar
 pub mod Cursors
 pub mod Reading
+pub mod Frames

@@ -14,10 +14,8 @@ use Rattle.netpbm.specs.declared.Header.the-variants.{Refused, Frame}
 -- the refusal of a frame of `limit` pixels at most whose header has these numbers and is followed by so many bytes
 unfoldable pub frameRefusal : ℕ → ℕ → ℕ → ℕ → ℕ → ℕ
 frameRefusal w h maxval raster limit =
-    sizeRefusal w h limit
-    ▷ when (not (eqb maxval 255)) 11
-    ▷ when (ltb raster (3 * (w * h))) 12
-    ▷ when (ltb (3 * (w * h)) raster) 13
+    sizeRefusal w h limit ▷ when (not (eqb maxval 255)) 11
+    ▷ when (ltb raster (3 * (w * h))) 12 ▷ when (ltb (3 * (w * h)) raster) 13
 
 -- the answer for a refusal's number, 0 for none, and the frame's values
 abbrev pub framed : ℕ → ℕ → ℕ → ℕ → Header

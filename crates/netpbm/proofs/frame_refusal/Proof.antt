@@ -7,7 +7,8 @@ use borrow.Author.Needs.{needs}
 use borrow.Author.Tests.{lt-ltb, le-ltb, eq-eqb, ne-eqb}
 use Rattle.planes.specs.Refusals.{sizeRefusal}
 use Rattle.netpbm.specs.Reading.{frameRefusal}
-use Rattle.netpbm.proofs.Refusals.{▷-some, few-pixels}
+use Rattle.planes.proofs.Refusals.{▷-left}
+use Rattle.netpbm.proofs.Refusals.{few-pixels}
 use Rattle.netpbm.proofs.frame_refusal.Statement.{statement}
 use Rattle.netpbm.proofs.frame_refusal.Tie as tie
 
@@ -16,7 +17,7 @@ size-refusal-requires c κs = search needs
 
 returns : tie.Need-returns
 unfolding frameRefusal
-returns c = rw (← c .before .size-refusal .ensures) (sym (▷-some (c .before .size-refusal .result) _ (c .if1 .taken)))
+returns c = rw (← c .before .size-refusal .ensures) (sym (▷-left (c .before .size-refusal .result) _ (c .if1 .taken)))
 
 -- the size is not refused
 size-fits : (c : tie.Else1)
