@@ -104,7 +104,7 @@ pub record Part (s t : Pass) : Type 0 where
   pub area : s .area ≤ t .area
   pub rule : t .rule ≡ s .rule
 
-part-within : {s t : Pass} → Part s t → (v : ℕ) → within t v ≡ true → within s v ≡ true
+pub part-within : {s t : Pass} → Part s t → (v : ℕ) → within t v ≡ true → within s v ≡ true
 part-within {s} {t} P v e =
     let i = in-of t v e in
     in-to s v (omega (arith, P .low)) (omega (arith, P .high))
@@ -117,14 +117,14 @@ module _ (near : Near) (symm : (i j : ℕ) → near i j ≡ near j i) (s t : Pas
   abbrev q : List ℕ
   q = passed near s p
 
-  was-within : (i : ℕ) → i < n → within s (at q i) ≡ true → within s (at p i) ≡ true
+  pub was-within : (i : ℕ) → i < n → within s (at q i) ≡ true → within s (at p i) ≡ true
   was-within i h e = go (within s (at p i)) refl
     where
       go : (b : Bool) → within s (at p i) ≡ b → within s (at p i) ≡ true
       go true d = d
       go false d = ap (within s) (sym (passed-at near symm s p i h ∙ out-tone near s p i d)) ∙ e
 
-  inside-part : (u v : ℕ) → u < n → v < n → inside near t q u v ≡ true → inside near s p u v ≡ true
+  pub inside-part : (u v : ℕ) → u < n → v < n → inside near t q u v ≡ true → inside near s p u v ≡ true
   unfolding inside
   inside-part u v hu hv e =
       let both = and-left (within t (at q u) && within t (at q v)) (near u v) e in
