@@ -3,3 +3,4 @@ pub mod Regions
 pub mod Sweep
 pub mod Passing
 pub mod Steps
+pub mod Calls

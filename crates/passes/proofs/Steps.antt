@@ -3,23 +3,23 @@
 use Prim.Native.Nat.{ℕ, zero, suc, _+_, _≤_, _<_}
 use mathlib.Core.Path.{_≡_, refl, sym, ap, ap₂, subst, _∙_}
 use mathlib.Core.Logic.{_⊎_, inl, inr}
-use mathlib.Core.Bool.{Bool, true, false, cond, not, _&&_}
+use mathlib.Core.Bool.{Bool, true, false, cond, not, _&&_, _||_}
 use mathlib.Core.List.{List, [], _∷_, map}
 use native.Mathlib.Nat.{eq-or-lt-of-le, min-eq-left, not-suc-le-zero, le-of-suc-le-suc}
 use native.Mathlib.Omega.{arith}
 use lib.ListN.{length, set, take, length-set, length-map, length-take}
 use lib.Seq.{getD-take}
-use lib.Dec.{leb, eqb}
-use borrow.Author.Tests.{le-leb, lt-leb, eq-eqb, ne-eqb}
+use lib.Dec.{leb, ltb, eqb}
+use borrow.Author.Tests.{le-leb, eq-eqb, ne-eqb, lt-ltb, le-ltb, ltb-false}
 use Rattle.planes.specs.Lists.{at, every, Beyond}
-use Rattle.planes.proofs.Tests.{and-both, and-false}
+use Rattle.planes.proofs.Tests.{or-left, or-none, and-both, and-false}
 use Rattle.planes.proofs.Lists.{beyond-refl}
 use Rattle.planes.proofs.Stores.{at-set}
 use Rattle.tones.specs.Tones.{kept, tone}
 use Rattle.tones.specs.Histograms.{values, Alike, Retoned}
 use Rattle.model.specs.declared.Pass.{Pass}
 use Rattle.model.specs.Passes.{within, changes, retone}
-use Rattle.passes.specs.Sections.{number, oneValue, inert, Pixels, Marked, Renumbered, Toned, Done}
+use Rattle.passes.specs.Sections.{number, oneValue, lone, inert, Pixels, Marked, Renumbered, Toned, Done}
 use Rattle.passes.specs.declared.Next.{Next}
 use Rattle.passes.proofs.Inert.{inert-still, inert-alike}
 
@@ -148,3 +148,24 @@ module _ (s : Pass) (t : Next) {vs ws : List ℕ} (A : Alike vs ws) where
   done e T R =
       let not-inert : inert s vs ≡ false = inert-alike s vs ws A ∙ e in
       record { toned = T; size = R .size; drawn = λ i l. rw not-inert (R .drawn i l); stays = R .stays }
+
+-- ## Whether a component is inert
+
+module _ (s : Pass) (plane queue : List ℕ) (m : ℕ) (room : m ≤ length queue) where
+  size-test : ltb (length (values plane queue m)) (s .area) ≡ ltb m (s .area)
+  size-test = ap (λ (k : ℕ). ltb k (s .area)) (values-size plane queue m room)
+
+  pub inert-small : m < s .area → inert s (values plane queue m) ≡ true
+  unfolding inert
+  inert-small h = or-left _ _ (size-test ∙ lt-ltb m (s .area) h)
+
+  -- a component of the least area is inert where the rule finds one value
+  pub inert-large : s .area ≤ m → inert s (values plane queue m) ≡ lone (s .rule) (values plane queue m)
+  unfolding inert
+  inert-large h = ap (_|| lone (s .rule) (values plane queue m)) (size-test ∙ le-ltb m (s .area) h)
+
+  pub not-inert : inert s (values plane queue m) ≡ false → s .area ≤ m
+  unfolding inert
+  not-inert e =
+      let tests = or-none (ltb (length (values plane queue m)) (s .area)) (lone (s .rule) (values plane queue m)) e in
+      ltb-false m (s .area) (sym size-test ∙ tests .0)

@@ -95,6 +95,111 @@ fn one_value(plane: &[u8], queue: &[u32], m: usize) -> bool
     true
 }
 
+// Whether neither the pass nor any later one on a part of its section changes the component of the queue's first m pixels.
+fn is_inert(plane: &[u8], queue: &[u32], m: usize, pass: Pass) -> bool
+    requires { ⌜ Component (now plane) (now queue) m (pass .a) (pass .b) ⌝ }
+    ensures { λ r. ⌜ r ≡ inert pass (values (now (plane .entry)) (now (queue .entry)) m) ⌝ }
+{
+    let area = pass.area as usize;
+    if m < area {
+        return true;
+    }
+    let rule = pass.rule;
+    match rule {
+        Rule::Plain { low: _, high: _ } => one_value(plane, queue, m),
+        Rule::Limited { k: _ } => false,
+    }
+}
+
+// Gives the component of the queue's first m pixels, which has the least area, the rule. 1 where it is retoned, else 0.
+fn retone_component(plane: &mut [u8], queue: &[u32], m: usize, pass: Pass) -> u32
+    requires { ⌜ Component (now plane) (now queue) m (pass .a) (pass .b) × (pass .area ≤ m) ⌝ }
+    ensures { λ r. ⌜ ((vs : List ℕ) → Alike vs (values (now (plane .entry)) (now (queue .entry)) m) → Toned pass vs (now (plane .entry)) (now (queue .entry)) (now (plane .exit)) m r) ⌝ }
+{
+    let rule = pass.rule;
+    let a = pass.a;
+    let b = pass.b;
+    if tones::retone(plane, queue, m, rule, a, b) {
+        return 1;
+    }
+    0
+}
+
+// Treats the component of the queue's first m pixels: its rule, and its next marks. 1 where it is retoned, else 0.
+fn treat_component(
+    plane: &mut [u8],
+    marks: &mut [u8],
+    queue: &[u32],
+    m: usize,
+    pass: Pass,
+    next: Next,
+) -> u32
+    requires { ⌜ Component (now plane) (now queue) m (pass .a) (pass .b) × Listed (now marks) (now plane) (now queue) m ⌝ }
+    ensures { λ r. ⌜ ((vs : List ℕ) → Alike vs (values (now (plane .entry)) (now (queue .entry)) m) → Done pass next vs (now (plane .entry)) (now (marks .entry)) (now (queue .entry)) (now (plane .exit)) (now (marks .exit)) m r) ⌝ }
+{
+    if is_inert(plane, queue, m, pass) {
+        return 0;
+    }
+    let count = retone_component(plane, queue, m, pass);
+    renumber(marks, plane, queue, m, next);
+    count
+}
+
+// Treats the components of the pixels that have the code. How many were retoned.
+pub fn treat_section(
+    plane: &mut [u8],
+    marks: &mut [u8],
+    queue: &mut [u32],
+    w: usize,
+    h: usize,
+    code: u8,
+    pass: Pass,
+    next: Next,
+) -> u32
+    requires { ⌜ Section (now plane) (now marks) (now queue) w h code pass next ⌝ }
+    ensures { λ r. ⌜ Treated (four w) (w * h) code pass next (now (plane .entry)) (now (marks .entry)) (now (queue .entry)) (now (plane .exit)) (now (marks .exit)) (now (queue .exit)) r ⌝ }
+{
+    let n = w * h;
+    let mut count = 0;
+    let mut from = 0;
+    while from < n {
+        let found = components::next_pixel(marks, w, h, code, from);
+        match found {
+            Found::At(p) => {
+                let m = components::flood(marks, queue, w, h, code, p);
+                count += treat_component(plane, marks, queue, m, pass, next);
+                from = p + 1;
+            }
+            Found::Nothing => {
+                from = n;
+            }
+        }
+    }
+    count
+}
+
+// A pass over a plane with room for it. How many components were retoned.
+pub fn treat(
+    plane: &mut [u8],
+    marks: &mut [u8],
+    queue: &mut [u32],
+    w: usize,
+    h: usize,
+    pass: Pass,
+) -> u32
+    requires { ⌜ Lent w h (length (now plane)) (length (now marks)) (length (now queue)) × (pass .a ≤ pass .b) ⌝ }
+    ensures { λ r. ⌜ Over w h pass (now (plane .entry)) (now (marks .entry)) (now (queue .entry)) (now (plane .exit)) (now (marks .exit)) (now (queue .exit)) r ⌝ }
+{
+    let n = w * h;
+    mark_section(plane, marks, n, pass);
+    let gone = Next {
+        mid: 0,
+        low: 0,
+        high: 0,
+    };
+    treat_section(plane, marks, queue, w, h, 1, pass, gone)
+}
+
 // 1 to 4 for the plane's size and the lengths that are lent, or 0.
 pub fn lent_refusal(w: usize, h: usize, plane: usize, marks: usize, queue: usize) -> u8
     ensures { λ r. ⌜ r ≡ lentRefusal w h plane marks queue ⌝ }
@@ -125,4 +230,23 @@ fn refusal_of(w: usize, h: usize, plane: usize, marks: usize, queue: usize, pass
         return lent;
     }
     model::pass_refusal(pass)
+}
+
+// A pass over the lent plane, or the refusal that it meets with. The plane has w columns and h rows; marks and queue
+// are working memory of at least as many entries, and may come with any content.
+pub fn pass(
+    plane: &mut [u8],
+    marks: &mut [u8],
+    queue: &mut [u32],
+    w: usize,
+    h: usize,
+    pass: Pass,
+) -> Answer
+    ensures { λ r. ⌜ PassOutcome w h pass (now (plane .entry)) (now (marks .entry)) (now (queue .entry)) r (now (plane .exit)) (now (marks .exit)) (now (queue .exit)) ⌝ }
+{
+    let refusal = refusal_of(w, h, plane.len(), marks.len(), queue.len(), pass);
+    if refusal != 0 {
+        return Answer::Refused(refusal);
+    }
+    Answer::Done(treat(plane, marks, queue, w, h, pass))
 }

@@ -1,0 +1,122 @@
+-- What an accepted call does, the outcome of a call by the number of its refusal, and that each call is a step of the
+-- model; so any sequence of calls gives the model's answers and state. Assumes nothing.
+use Prim.Native.Nat.{ℕ, zero, suc, _*_, _≤_, _<_}
+use mathlib.Core.Path.{_≡_, refl, sym, ap, ap₂, subst, _∙_}
+use mathlib.Core.Bool.{Bool, true, false, cond, _&&_}
+use mathlib.Core.List.{List, [], _∷_, _++_, append-assoc, append-nil}
+use native.Mathlib.Omega.{arith}
+use lib.ListN.{length}
+use lib.Dec.{eqb}
+use borrow.Author.Tests.{eqb-true}
+use Rattle.planes.specs.Lists.{at, Beyond}
+use Rattle.planes.specs.Neighbours.{Near, four}
+use Rattle.planes.proofs.Tests.{decide, and-left, and-right}
+use Rattle.planes.proofs.Lists.{beyond-refl, beyond-trans}
+use Rattle.model.specs.declared.Pass.{Pass}
+use Rattle.model.specs.declared.Answer.{Answer}
+use Rattle.model.specs.declared.Answer.the-variants.{Refused, Done}
+use Rattle.model.specs.Passes.{within, inside, passed, passCount}
+use Rattle.model.specs.Calls.{Lent, passRefusal, answered, planeAfter, Call, State, start, call, chain}
+use Rattle.passes.specs.Sections.{inert, Marked, Coded, Section, Treated}
+use Rattle.passes.specs.Calls.{callOn, refusalOf, Over, PassOutcome, Sequence, none, more}
+use Rattle.passes.specs.declared.Next.{Next}
+
+-- ## A section that was marked
+
+-- the pixels of the section, and no others, have the code 1
+pub marked-coded : {near : Near} {n : ℕ} {s : Pass} {plane marks marks' : List ℕ} → Marked s plane marks marks' n
+    → Coded near n 1 s plane marks'
+unfolding inside
+marked-coded {near} {n} {s} {plane} {marks} {marks'} M = record {
+  coded = was-in;
+  whole = λ u v hu hv e _.
+      let both = and-left (within s (at plane u) && within s (at plane v)) (near u v) e in
+      is-one v hv (and-right (within s (at plane u)) (within s (at plane v)) both);
+  others = λ p h e f. absurd (f (is-one p h e));
+}
+  where
+    is-one : (p : ℕ) → p < n → within s (at plane p) ≡ true → at marks' p ≡ 1
+    is-one p h e = M .drawn p h ∙ ap (λ (t : Bool). cond t 1 0) e
+
+    was-in : (p : ℕ) → p < n → at marks' p ≡ 1 → within s (at plane p) ≡ true
+    was-in p h e = go (within s (at plane p)) refl
+      where
+        go : (t : Bool) → within s (at plane p) ≡ t → within s (at plane p) ≡ true
+        go true d = d
+        go false d = absurd (omega (arith, sym e ∙ M .drawn p h ∙ ap (λ (t : Bool). cond t 1 0) d))
+
+pub marked-section : {w h : ℕ} {s : Pass} {t : Next} {plane marks marks' queue : List ℕ}
+    → Lent w h (length plane) (length marks) (length queue) → s .a ≤ s .b → Marked s plane marks marks' (w * h)
+    → (t .low ≡ 0) × (t .high ≡ 0) → Section plane marks' queue w h 1 s t
+marked-section {w} {h} L ab M z = record {
+  lent = record {
+    size = L .size;
+    whole = L .whole;
+    covered = omega (arith, L .covered, M .rest .size);
+    spare = L .spare;
+  };
+  order = ab;
+  real = omega arith;
+  low = λ e. absurd (omega (arith, z .0, e));
+  high = λ e. absurd (omega (arith, z .1, e));
+  coded = marked-coded M;
+}
+
+pub over : {w h code r : ℕ} {s : Pass} {t : Next} {plane marks₀ marks queue plane' marks' queue' : List ℕ}
+    → Marked s plane marks₀ marks (w * h) → Treated (four w) (w * h) code s t plane marks queue plane' marks' queue' r
+    → Over w h s plane marks₀ queue plane' marks' queue' r
+over M T = record {
+  plane-is = T .plane-is;
+  count-is = T .count-is;
+  marks-rest = beyond-trans (M .rest) (T .marks-rest);
+  queue-rest = T .queue-rest;
+}
+
+-- ## Outcomes
+
+pub refused-by : {w h : ℕ} {s : Pass} {plane marks queue : List ℕ} (x : ℕ) → x ≡ refusalOf w h s plane marks queue
+    → (x ≡ 0 → ⊥) → PassOutcome w h s plane marks queue (Refused x) plane marks queue
+refused-by zero e f = absurd (f refl)
+refused-by {w} {h} {s} {plane} {marks} {queue} (suc x) e f = record {
+  answer = ap (λ (k : ℕ). answered k (passCount (four w) s plane)) e;
+  plane-is = ap (λ (k : ℕ). planeAfter k plane (passed (four w) s plane)) e;
+  refused = λ k q. (refl, refl);
+  marks-rest = beyond-refl (w * h) marks;
+  queue-rest = beyond-refl (w * h) queue;
+}
+
+pub done-by : {w h r : ℕ} {s : Pass} {plane marks queue plane' marks' queue' : List ℕ}
+    → refusalOf w h s plane marks queue ≡ 0 → Over w h s plane marks queue plane' marks' queue' r
+    → PassOutcome w h s plane marks queue (Done r) plane' marks' queue'
+done-by {w} {h} {r} {s} {plane} z O = record {
+  answer = ap Done (O .count-is) ∙ ap (λ (k : ℕ). answered k (passCount (four w) s plane)) (sym z);
+  plane-is = O .plane-is ∙ ap (λ (k : ℕ). planeAfter k plane (passed (four w) s plane)) (sym z);
+  refused = λ k q. absurd (omega arith);
+  marks-rest = O .marks-rest;
+  queue-rest = O .queue-rest;
+}
+
+-- ## A call is a step of the model
+
+pub call-is : {w h : ℕ} {s : Pass} {plane marks queue plane' marks' queue' : List ℕ} {r : Answer}
+    → PassOutcome w h s plane marks queue r plane' marks' queue' → (old : List Answer)
+    → call w h (record { plane = plane; answers = old }) (callOn (length marks) (length queue) s)
+    ≡ record { plane = plane'; answers = old ++ (r ∷ []) }
+unfolding call
+call-is O old =
+    ap₂ (λ (p : List ℕ) (a : Answer). record { plane = p; answers = old ++ (a ∷ []) }) (sym (O .plane-is)) (sym (O .answer))
+
+-- any sequence of calls gives the model's answers and state
+sequence-from : {w h : ℕ} {plane last : List ℕ} {cs : List Call} {rs : List Answer} → Sequence w h plane cs rs last
+    → (old : List Answer)
+    → chain w h (record { plane = plane; answers = old }) cs ≡ record { plane = last; answers = old ++ rs }
+unfolding chain
+sequence-from none old = ap (λ (a : List Answer). record { plane = _; answers = a }) (sym (append-nil old))
+sequence-from {w} {h} {last = last} (more {r = r} {cs = cs} {rs = rs} O S) old =
+    ap (λ (s : State). chain w h s cs) (call-is O old)
+    ∙ sequence-from S (old ++ (r ∷ []))
+    ∙ ap (λ (a : List Answer). record { plane = last; answers = a }) (append-assoc old (r ∷ []) rs)
+
+pub sequence-is : {w h : ℕ} {plane last : List ℕ} {cs : List Call} {rs : List Answer} → Sequence w h plane cs rs last
+    → chain w h (start plane) cs ≡ record { plane = last; answers = rs }
+sequence-is S = sequence-from S []

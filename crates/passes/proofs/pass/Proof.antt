@@ -1,0 +1,43 @@
+-- `passes::pass` meets its contract: refused with the first number that applies and nothing changed, or treated.
+-- Assumes nothing.
+use mathlib.Core.Path.{_≡_, sym, _∙_}
+use borrow.Author.Needs.{needs}
+use Rattle.model.proofs.Chains.{accepted, ordered}
+use Rattle.passes.proofs.Calls.{refused-by, done-by}
+use Rattle.passes.proofs.pass.Statement.{statement}
+use Rattle.passes.proofs.pass.Tie as tie
+
+refusal-of-requires : tie.Need-refusal-of-requires
+refusal-of-requires c κs = search needs
+
+returns : tie.Need-returns
+returns c = refused-by _ (c .before .refusal-of .ensures) (c .if1 .taken)
+
+treat-requires : tie.Need-treat-requires
+treat-requires c κs =
+    let fine = accepted _ _ _ _ (sym (c .before .before .before .before .refusal-of .ensures) ∙ c .before .before .before .if1 .left) in
+    (fine .0, ordered _ (fine .1))
+
+same-length : tie.Need-same-length
+same-length c = search needs
+
+same-length-2 : tie.Need-same-length-2
+same-length-2 c = search needs
+
+same-length-3 : tie.Need-same-length-3
+same-length-3 c = search needs
+
+returns-2 : tie.Need-returns-2
+returns-2 c = done-by (sym (c .before .before .before .before .before .before .before .before .before .before .before .refusal-of .ensures) ∙ c .before .before .before .before .before .before .before .before .before .before .if1 .left) (c .before .before .before .before .before .before .treat .ensures)
+
+pub pass-spec : {M : Type 1} → statement M
+pass-spec =
+    tie.close
+    (tie.spec
+    refusal-of-requires
+    returns
+    treat-requires
+    same-length
+    same-length-2
+    same-length-3
+    returns-2)
