@@ -1,0 +1,5 @@
+pub mod Frames
+pub mod Scales
+pub mod Calls
+pub mod Overwrite
+pub mod Examples
