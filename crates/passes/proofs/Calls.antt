@@ -47,8 +47,8 @@ marked-coded {near} {n} {s} {plane} {marks} {marks'} M = record {
 
 pub marked-section : {w h : ℕ} {s : Pass} {t : Next} {plane marks marks' queue : List ℕ}
     → Lent w h (length plane) (length marks) (length queue) → s .a ≤ s .b → Marked s plane marks marks' (w * h)
-    → (t .low ≡ 0) × (t .high ≡ 0) → Section plane marks' queue w h 1 s t
-marked-section {w} {h} L ab M z = record {
+    → (t .low ≡ 1 → ⊥) × (t .high ≡ 1 → ⊥) → Section plane marks' queue w h 1 s t
+marked-section {w} {h} L ab M f = record {
   lent = record {
     size = L .size;
     whole = L .whole;
@@ -57,8 +57,8 @@ marked-section {w} {h} L ab M z = record {
   };
   order = ab;
   real = omega arith;
-  low = λ e. absurd (omega (arith, z .0, e));
-  high = λ e. absurd (omega (arith, z .1, e));
+  low = f .0;
+  high = f .1;
   coded = marked-coded M;
 }
 

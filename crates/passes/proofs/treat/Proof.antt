@@ -1,5 +1,4 @@
 -- `passes::treat` meets its contract: the section is marked with 1 and treated. Assumes nothing.
-use mathlib.Core.Path.{_≡_, refl}
 use native.Mathlib.Omega.{arith}
 use borrow.Author.Needs.{needs}
 use Rattle.passes.proofs.Calls.{marked-section, over}
@@ -17,7 +16,8 @@ mark-section-requires c κs =
 treat-section-requires : tie.Need-treat-section-requires
 treat-section-requires c κs =
     let s = c .before .before .before .before .before .before .before .before .before .before .before in
-    marked-section (s .pre .0) (s .pre .1) (c .before .before .before .before .before .mark-section .ensures) (refl, refl)
+    let M = c .before .before .before .before .before .mark-section .ensures in
+    marked-section (s .pre .0) (s .pre .1) M ((λ e. absurd (omega arith)), (λ e. absurd (omega arith)))
 
 same-length : tie.Need-same-length
 same-length c = search needs
