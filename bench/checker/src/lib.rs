@@ -1,0 +1,51 @@
+//! The second implementation behind two C functions, with which the benchmark checks what it measures.
+
+use mlhe_reference::{enhance, pass, Pass, Rule, Settings};
+use std::slice;
+
+/// Enhances a frame with the plain rule. Answers the count; anything refused ends the benchmark.
+///
+/// # Safety
+///
+/// The frame has 3 × w × h bytes, the plane w × h and the output 3 × w × h, and none of them overlap.
+#[no_mangle]
+pub unsafe extern "C" fn checker_enhance(
+    frame: *const u8,
+    w: usize,
+    h: usize,
+    last_level: u32,
+    area: u32,
+    low: u32,
+    high: u32,
+    plane: *mut u8,
+    output: *mut u8,
+) -> u64 {
+    let n = w * h;
+    let frame = slice::from_raw_parts(frame, 3 * n);
+    let plane = slice::from_raw_parts_mut(plane, n);
+    let output = slice::from_raw_parts_mut(output, 3 * n);
+    let settings = Settings { last_level, area, rule: Rule::Plain { low, high } };
+    enhance(frame, w, h, &settings, plane, n, n, output).expect("the benchmark's calls are sound")
+}
+
+/// Runs one pass with the plain rule. Answers the count; anything refused ends the benchmark.
+///
+/// # Safety
+///
+/// The plane has w × h bytes.
+#[no_mangle]
+pub unsafe extern "C" fn checker_pass(
+    plane: *mut u8,
+    w: usize,
+    h: usize,
+    a: u8,
+    b: u8,
+    area: u32,
+    low: u32,
+    high: u32,
+) -> u64 {
+    let n = w * h;
+    let plane = slice::from_raw_parts_mut(plane, n);
+    let settings = Pass { a, b, area, rule: Rule::Plain { low, high } };
+    pass(plane, n, n, w, h, &settings).expect("the benchmark's calls are sound")
+}

@@ -1,0 +1,258 @@
+// The benchmark: the published structure and the project's library in one run, call by call in turn, on planes made
+// here. It prints tables of times and ratios, and checks on every plane that bytes and counts agree with the second
+// implementation's. The library is there if WITH_MLHE is defined; see library.hpp.
+//
+// Times are of the calling thread alone, and the least of several rounds is taken: other work on the machine then
+// disturbs least. Every buffer is written once before it is measured.
+
+#include "library.hpp"
+#include "planes.hpp"
+#include "published.hpp"
+
+#include <algorithm>
+#include <cmath>
+#include <cstdio>
+#include <cstdlib>
+#include <cstring>
+#include <ctime>
+#include <functional>
+#include <string>
+#include <vector>
+
+extern "C" {
+std::uint64_t checker_enhance(const std::uint8_t *frame, std::size_t w, std::size_t h, std::uint32_t last_level,
+                              std::uint32_t area, std::uint32_t low, std::uint32_t high, std::uint8_t *plane,
+                              std::uint8_t *output);
+std::uint64_t checker_pass(std::uint8_t *plane, std::size_t w, std::size_t h, std::uint8_t a, std::uint8_t b,
+                           std::uint32_t area, std::uint32_t low, std::uint32_t high);
+}
+
+namespace {
+
+using published::Parameters;
+
+int rounds = 7;
+std::vector<double> ratios;
+
+double seconds() {
+    timespec now;
+    clock_gettime(CLOCK_THREAD_CPUTIME_ID, &now);
+    return static_cast<double>(now.tv_sec) + 1e-9 * static_cast<double>(now.tv_nsec);
+}
+
+// What a call left behind. Before a call all of it is blank, so that nothing of the call before counts for it.
+struct Result {
+    std::uint64_t count;
+    std::vector<std::uint8_t> plane;
+    std::vector<std::uint8_t> output;
+
+    explicit Result(std::size_t n) : plane(n), output(3 * n) { blank(); }
+    void blank() {
+        count = ~std::uint64_t{0};
+        std::fill(plane.begin(), plane.end(), 238);
+        std::fill(output.begin(), output.end(), 238);
+    }
+    bool operator==(const Result &other) const {
+        return count == other.count && plane == other.plane && output == other.output;
+    }
+};
+
+// The times of one call of each, in seconds. The library's is 0 where there is none.
+struct Times {
+    double published;
+    double library;
+};
+
+// The least time of a call, over all rounds. Short calls are repeated within a round.
+class Stopwatch {
+  public:
+    void measure(const std::function<void()> &call) {
+        const double start = seconds();
+        int calls = 0;
+        do {
+            call();
+            calls++;
+        } while (seconds() - start < 0.01);
+        least = std::min(least, (seconds() - start) / calls);
+    }
+    double time() const { return least; }
+
+  private:
+    double least = 1e9;
+};
+
+void require(bool holds, const std::string &what) {
+    if (!holds) {
+        std::printf("DIFFERENT: %s\n", what.c_str());
+        std::exit(1);
+    }
+}
+
+// Measures two calls in turn and checks what they left behind.
+Times compare(const std::string &name, const Result &expected, const std::function<void(Result &)> &by_published,
+              const std::function<void(Result &)> &by_library) {
+    Result result(expected.plane.size());
+    Stopwatch published_watch, library_watch;
+    for (int round = 0; round < rounds; round++) {
+        result.blank();
+        published_watch.measure([&] { by_published(result); });
+        require(result == expected, "published structure, " + name);
+        if (library::linked) {
+            result.blank();
+            library_watch.measure([&] { by_library(result); });
+            require(result == expected, "library, " + name);
+        }
+    }
+    return {published_watch.time(), library::linked ? library_watch.time() : 0};
+}
+
+Times time_enhance(const planes::Plane &plane, const Parameters &parameters) {
+    const std::size_t n = plane.values.size();
+    const std::vector<std::uint8_t> frame = planes::coloured(plane);
+    library::Memory memory(n);
+    Result expected(n);
+    expected.count = checker_enhance(frame.data(), plane.w, plane.h, parameters.last_level,
+                                     static_cast<std::uint32_t>(parameters.area), parameters.low, parameters.high,
+                                     expected.plane.data(), expected.output.data());
+    return compare(
+        plane.name, expected,
+        [&](Result &r) {
+            r.count = published::enhance(frame.data(), plane.w, plane.h, parameters, r.plane.data(), r.output.data());
+        },
+        [&](Result &r) {
+            r.count = library::enhance(frame.data(), plane.w, plane.h, parameters, r.plane.data(), memory,
+                                       r.output.data());
+        });
+}
+
+// A pass on the plane itself. The copy that each call starts from is part of both times.
+Times time_pass(const planes::Plane &plane, int min, int max, const Parameters &parameters) {
+    const std::size_t n = plane.values.size();
+    library::Memory memory(n);
+    Result expected(n);
+    expected.plane = plane.values;
+    expected.count = checker_pass(expected.plane.data(), plane.w, plane.h, static_cast<std::uint8_t>(min),
+                                  static_cast<std::uint8_t>(max), static_cast<std::uint32_t>(parameters.area),
+                                  parameters.low, parameters.high);
+    return compare(
+        plane.name, expected,
+        [&](Result &r) {
+            r.plane = plane.values;
+            r.count = published::pass(r.plane.data(), plane.w, plane.h, min, max, parameters);
+        },
+        [&](Result &r) {
+            r.plane = plane.values;
+            r.count = library::pass(r.plane.data(), plane.w, plane.h, min, max, parameters, memory);
+        });
+}
+
+void head(const std::string &title) {
+    std::printf("\n%s\n%-28s %12s %10s", title.c_str(), "", "published ms", "ns/pixel");
+    if (library::linked) {
+        std::printf(" %12s %10s %8s", "library ms", "ns/pixel", "ratio");
+    }
+    std::printf("\n");
+}
+
+void row(const std::string &name, std::size_t n, const Times &times) {
+    const double pixel = 1e9 / static_cast<double>(n);
+    std::printf("%-28s %12.2f %10.1f", name.c_str(), 1e3 * times.published, pixel * times.published);
+    if (library::linked) {
+        std::printf(" %12.2f %10.1f %8.2f", 1e3 * times.library, pixel * times.library,
+                    times.library / times.published);
+    }
+    std::printf("\n");
+    std::fflush(stdout);
+}
+
+std::string sides(int w, int h) { return std::to_string(w) + " x " + std::to_string(h); }
+
+void every_plane_and_shape() {
+    const int shapes[3][2] = {{1024, 1024}, {4096, 256}, {256, 4096}};
+    for (const auto &shape : shapes) {
+        head("Enhancement, house setting, " + sides(shape[0], shape[1]));
+        for (const std::string &kind : planes::kinds()) {
+            const planes::Plane plane = planes::make(kind, shape[0], shape[1]);
+            const Times times = time_enhance(plane, published::house);
+            row(kind, plane.values.size(), times);
+            if (library::linked) {
+                ratios.push_back(times.library / times.published);
+            }
+        }
+    }
+}
+
+void least_area_1() {
+    head("Enhancement, house setting but least area 1, " + sides(1024, 1024));
+    for (const std::string kind : {"natural", "clean", "noise", "checkerboard", "tiles"}) {
+        const planes::Plane plane = planes::make(kind, 1024, 1024);
+        Parameters parameters = published::house;
+        parameters.area = 1;
+        row(kind, plane.values.size(), time_enhance(plane, parameters));
+    }
+}
+
+void growth_with_pixels() {
+    head("Growth with the number of pixels, house setting");
+    for (const std::string kind : {"natural", "noise"}) {
+        for (const int side : {64, 256, 512, 1024}) {
+            const planes::Plane plane = planes::make(kind, side, side);
+            row(kind + " " + sides(side, side), plane.values.size(), time_enhance(plane, published::house));
+        }
+    }
+}
+
+// One level's share is what the levels cost beyond level 0, over their number. Intensity and colours are in every row.
+void growth_with_levels_and_single_passes() {
+    head("Growth with L, natural, " + sides(1024, 1024));
+    const planes::Plane plane = planes::make("natural", 1024, 1024);
+    Times first{}, last{};
+    for (int level = 0; level <= 7; level++) {
+        Parameters parameters = published::house;
+        parameters.last_level = level;
+        last = time_enhance(plane, parameters);
+        first = level == 0 ? last : first;
+        row("L " + std::to_string(level), plane.values.size(), last);
+    }
+    head("Single passes, natural, " + sides(1024, 1024));
+    row("(one level of the above)", plane.values.size(),
+        {(last.published - first.published) / 7, (last.library - first.library) / 7});
+    const int sections[5][2] = {{0, 255}, {0, 127}, {128, 255}, {64, 127}, {96, 111}};
+    for (const auto &section : sections) {
+        const std::string name = "[" + std::to_string(section[0]) + ", " + std::to_string(section[1]) + "]";
+        row(name, plane.values.size(), time_pass(plane, section[0], section[1], published::house));
+    }
+}
+
+void summary() {
+    if (!library::linked) {
+        std::printf("\nThe library is not linked; the published structure's bytes and counts are right.\n");
+        return;
+    }
+    double logarithms = 0, greatest = 0;
+    for (const double ratio : ratios) {
+        logarithms += std::log(ratio);
+        greatest = std::max(greatest, ratio);
+    }
+    std::printf("\nAll bytes and counts agree. Ratio on all planes and shapes with the house setting: "
+                "geometric mean %.2f, greatest %.2f.\n",
+                std::exp(logarithms / static_cast<double>(ratios.size())), greatest);
+    std::printf("Lent to the library beside plane and output: n bytes of marks and 4 n bytes of queue.\n");
+}
+
+} // namespace
+
+int main(int argc, char **argv) {
+    if (argc == 2 && std::strcmp(argv[1], "--quick") == 0) {
+        rounds = 1;
+    } else if (argc != 1) {
+        std::fprintf(stderr, "%s [--quick]\n", argv[0]);
+        return 2;
+    }
+    every_plane_and_shape();
+    least_area_1();
+    growth_with_pixels();
+    growth_with_levels_and_single_passes();
+    summary();
+    return 0;
+}

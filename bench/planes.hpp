@@ -1,0 +1,35 @@
+// The planes of the benchmark. They are made by whole numbers from fixed seeds, so every machine makes the same ones.
+#pragma once
+
+#include <cstdint>
+#include <string>
+#include <vector>
+
+namespace planes {
+
+struct Plane {
+    std::string name;
+    int w;
+    int h;
+    std::vector<std::uint8_t> values;
+};
+
+// The names of all kinds, in the order of the tables:
+//   natural       several octaves of smooth noise, edges and grain
+//   clean         the same without grain
+//   noise         every pixel a random byte
+//   gradient      a slope from corner to corner
+//   flat          one value
+//   checkerboard  pixels of two values in turn: components of one pixel
+//   comb          lines of one pixel's width in two values, joined at opposite ends
+//   spiral        a line of one pixel's width, wound to the middle
+//   tiles         squares of 5 by 5 pixels, each of one random value: components just above the house's least area
+const std::vector<std::string> &kinds();
+
+// A plane of one of these kinds.
+Plane make(const std::string &kind, int w, int h);
+
+// A frame whose intensities are the plane's: the channels lie around them by a hue that changes slowly.
+std::vector<std::uint8_t> coloured(const Plane &plane);
+
+} // namespace planes
