@@ -16,13 +16,15 @@ use Rattle.planes.proofs.Enumerations.{count-indexes}
 use Rattle.planes.proofs.Tests.{less-or-not}
 use Rattle.tones.specs.Tones.{sumTo, scaled, greatest, least, spread, plainTone, clipped, limitedTone, tone}
 use Rattle.tones.specs.Tones.{keptBy, kept}
-use Rattle.tones.specs.Histograms.{values, Component, Listed, Alike, Tally, Inside, Histogram, Counted, Lowest, Highest}
-use Rattle.tones.specs.Histograms.{Refilled, Sums, limitedBy, ClippedSums, Tabled, Painted, Retoned}
+use Rattle.tones.specs.Histograms.{values, Component, Listed, Alike, Painted, Retoned}
+use Rattle.tones.specs.Histograms.{Tally, Inside, Histogram, Counted, Lowest, Highest, Refilled, Sums, limitedBy}
+use Rattle.tones.specs.Histograms.{ClippedSums, Tabled}
 use Rattle.tones.specs.declared.Rule.{Rule}
 use Rattle.tones.specs.declared.Rule.the-variants.{Plain}
 use Rattle.tones.proofs.Sums.{sum-le, sum-same, sum-thousand, sumTo-mono, sumTo-last}
 use Rattle.tones.proofs.Sound.{plain-rises}
-use Rattle.tones.proofs.Values.{In, in-inside, inside-all, inside-sum, least-le, least-in, greatest-ge, greatest-in, spread-map}
+use Rattle.tones.proofs.Values.{In, in-inside, inside-all, inside-sum, spread-map}
+use Rattle.tones.proofs.Values.{least-le, least-in, greatest-ge, greatest-in}
 use Rattle.tones.proofs.Ends.{plain-greatest}
 
 -- ## Sums
@@ -92,7 +94,9 @@ module _ {m a b : ℕ} {vs counts : List ℕ} (c : Counted counts m a b) (h : Hi
   kept-by-ends low high {x} {y} l g =
       let only : sumTo (at counts) a x ≡ at counts x = sumTo-last (at counts) (l .from) (l .none) in
       let tone : scaled a b (at counts x) m ≡ plainTone a b vs (least vs)
-      = ap (λ s. scaled a b s m) (sym only) ∙ plain-by-sum x (l .from) (l .to) ∙ ap (plainTone a b vs) (lowest-least l) in
+      = ap (λ s. scaled a b s m) (sym only)
+      ∙ plain-by-sum x (l .from) (l .to)
+      ∙ ap (plainTone a b vs) (lowest-least l) in
       let after : spread (map (plainTone a b vs) vs) ≡ b - scaled a b (at counts x) m
       = spread-map (plainTone a b vs) (plain-rises a b vs) vs some-values
       ∙ ap₂ _-_ (plain-greatest a b vs (c .order) some-values) (sym tone) in
@@ -142,17 +146,17 @@ module _ {m a b : ℕ} {counts clips : List ℕ} (c : Counted counts m a b) (mos
   }
 
 -- with a clip of k thousandths of m, the sums are those of the limited rule
-pub clipped-of : {k m a b : ℕ} {counts clips sums : List ℕ} → Counted counts m a b
-    → Refilled (λ v. min (1000 * at counts v) (k * m)) a (b + 1) counts clips
+pub clipped-of : (k m : ℕ) {a b most : ℕ} {counts clips sums : List ℕ} → Counted counts m a b → most ≡ k * m
+    → Refilled (λ v. min (1000 * at counts v) most) a (b + 1) counts clips
     → Refilled (sumTo (at clips) a) a (b + 1) clips sums
     → ClippedSums k m a b counts sums
 unfolding limitedTone clipped
-clipped-of {k} {m} {a} {b} {counts} {clips} {sums} c clip s = record {
-  rising = clipped-sums c (k * m) clip s;
+clipped-of k m {a} {b} {most} {counts} {clips} {sums} c e clip s = record {
+  rising = clipped-sums c most clip s;
   exact = λ vs h v av vb.
       let size : m ≡ length vs = histogram-size h c in
       let each : (u : ℕ) → a ≤ u → u ≤ b → at clips u ≡ clipped k vs u = λ u au ub.
-      clip .new u au (omega arith) ∙ ap₂ (λ (q n : ℕ). min (1000 * q) (k * n)) (h .entry u au ub) size in
+      clip .new u au (omega arith) ∙ ap₂ (λ (q n : ℕ). min (1000 * q) n) (h .entry u au ub) (e ∙ ap (k *_) size) in
       let to : (u : ℕ) → a ≤ u → u ≤ b → at sums u ≡ sumTo (clipped k vs) a u = λ u au ub.
       s .new u au (omega arith)
       ∙ sum-same (at clips) (clipped k vs) a (u - a + 1) (λ x ax xu. each x ax (omega arith)) in
@@ -166,8 +170,8 @@ limited-tabled c t = record { exact = λ vs h v av vb. t .new v av (omega arith)
 
 -- ## Components
 
-module _ {plane queue counts : List ℕ} {m a b : ℕ} (k : Component plane queue m a b) (t : Tally (values plane queue m) counts)
-    (byte : b < 256) where
+module _ {plane queue counts : List ℕ} {m a b : ℕ} (k : Component plane queue m a b)
+    (t : Tally (values plane queue m) counts) (byte : b < 256) where
   -- a value that no pixel of the component has does not occur
   absent : (v : ℕ) → ((i : ℕ) → i < m → v ≡ at plane (at queue i) → ⊥) → count (eqb v) (values plane queue m) ≡ 0
   absent v none =

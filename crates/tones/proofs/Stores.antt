@@ -1,5 +1,5 @@
--- What stores leave: entries filled one after another, sums made in place, counts, and painted pixels. Each invariant of
--- a loop has a law for where the loop begins and one for a turn. Assumes nothing.
+-- What stores leave: entries filled one after another, sums made in place, counts, and painted pixels. The invariant of
+-- each loop has a law for where it begins and one for a turn. Assumes nothing.
 use Prim.Native.Nat.{ℕ, zero, suc, _+_, _-_, _*_, _≤_, _<_}
 use mathlib.Core.Path.{_≡_, refl, sym, ap, _∙_}
 use mathlib.Core.Logic.{⊎-elim}
@@ -78,7 +78,8 @@ grow {vs} {counts} x h small = record {
       (λ o. omega (arith, h .entry v lt, no-more (eqb v) vs x (ne-eqb v x o)));
 }
 
-pub tally-none : (plane queue : List ℕ) {counts : List ℕ} → counts ≡ replicate 256 0 → Tally (values plane queue 0) counts
+pub tally-none : (plane queue : List ℕ) {counts : List ℕ} → counts ≡ replicate 256 0
+    → Tally (values plane queue 0) counts
 tally-none plane queue {counts} e = record {
   size = ap length e ∙ length-replicate {A = ℕ} 256 0;
   entry = λ v lt. ap (λ l. at l v) e ∙ getD-replicate 256 v 0 0 lt;
@@ -119,7 +120,8 @@ pub painted-more : {f : ℕ → ℕ} {plane queue plane' : List ℕ} {m i x : �
     → Painted f plane queue (set plane' (at queue i) x) (i + 1)
 painted-more {f} {plane} {queue} {plane'} {m} {i} {x} h d lt inside eq = record {
   size = simp length-set (h .size);
-  drawn = λ j ji. at-set (λ n. n ≡ f (at plane (at queue j))) plane' (at queue i) (at queue j) x (omega (arith, h .size))
+  drawn = λ j ji. at-set (λ n. n ≡ f (at plane (at queue j))) plane' (at queue i) (at queue j) x
+      (omega (arith, h .size))
       (λ (e : at queue j ≡ at queue i). eq ∙ ap f (painted-old h d lt ∙ ap (at plane) (sym e)))
       (λ o. ⊎-elim
       (λ (e : j ≡ i). absurd (o (ap (at queue) e)))

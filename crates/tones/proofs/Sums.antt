@@ -26,7 +26,9 @@ sum-le f g i (suc n) h =
 
 pub sum-same : (f g : ℕ → ℕ) (i n : ℕ) → ((v : ℕ) → i ≤ v → v < i + n → f v ≡ g v) → sum f i n ≡ sum g i n
 sum-same f g i zero h = refl
-sum-same f g i (suc n) h = ap₂ _+_ (sum-same f g i n (λ v l u. h v l (omega arith))) (h (i + n) (omega arith) (omega arith))
+sum-same f g i (suc n) h = ap₂ _+_
+    (sum-same f g i n (λ v l u. h v l (omega arith)))
+    (h (i + n) (omega arith) (omega arith))
 
 pub sum-thousand : (f : ℕ → ℕ) (i n : ℕ) → sum (λ v. 1000 * f v) i n ≡ 1000 * sum f i n
 sum-thousand f i zero = refl

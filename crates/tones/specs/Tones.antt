@@ -58,9 +58,9 @@ plainTone a b vs v = scaled a b (count (λ x. leb x v) vs) (length vs)
 unfoldable pub clipped : ℕ → List ℕ → ℕ → ℕ
 clipped k vs v = min (1000 * count (eqb v) vs) (k * length vs)
 
--- W values lie in [a, b] and n of them up to v; all is 1000 m, and e is E, what the clipping leaves over. Each value has
--- its clipped count and E / W more, so that the sum up to v over 1000 m is (W * clipped counts + n * E) / (W * 1000 m).
--- Nothing but the tone is rounded.
+-- w is W, the number of values of [a, b], n of which are no greater than v; all is 1000 m; e is E, what the clipping
+-- leaves over. Each value has its clipped count and E / W more, so that the sum up to v over 1000 m is
+-- (W * sum of the clipped counts + n * E) / (W * 1000 m). Nothing but the tone is rounded.
 unfoldable pub limitedTone : ℕ → ℕ → ℕ → List ℕ → ℕ → ℕ
 limitedTone k a b vs v =
     let w = b - a + 1 in

@@ -3,7 +3,7 @@
 //   retone                                 gives a component a rule, and says whether it was retoned
 //   retone_plain, retone_limited           the same for each rule, from the counts
 //   histogram                              counts the values
-//   sum_up, clip, sum_clipped              sums of counts, in place
+//   sum_up, clip_of, clip, sum_clipped     sums of counts and of clipped counts, in place
 //   lowest, highest, keeps, plain_keeps    the test that keeps the old values
 //   nearest, scale, next_tone              one tone, with the one rounding of both rules
 //   limited_tone, fill_plain, fill_limited, plain_table, limited_table    tables of tones
@@ -224,12 +224,21 @@ fn fill_limited(sums: &[u32; 256], table: &mut [u8; 256], m: usize, a: u8, b: u8
     }
 }
 
+// The clip in thousandths of a pixel: k thousandths of m pixels.
+fn clip_of(k: u16, m: usize) -> u64
+    requires { ⌜ k * m < 2 ^ 64 ⌝ }
+    ensures { λ r. ⌜ r ≡ k * m ⌝ }
+{
+    k as u64 * m as u64
+}
+
 // Clips the counts of the values of [a, b], and sums them.
 fn sum_clipped(counts: &mut [u32; 256], m: usize, a: u8, b: u8, k: u16)
     requires { ⌜ Counted (now counts) m a b ⌝ }
     ensures { λ r. ⌜ ClippedSums k m a b (now (counts .entry)) (now (counts .exit)) ⌝ }
 {
-    clip(counts, a, b, k as u64 * m as u64);
+    let most = clip_of(k, m);
+    clip(counts, a, b, most);
     sum_up(counts, a, b);
 }
 

@@ -1,5 +1,5 @@
--- `tones::clip` meets its contract. The invariant: the entries from a to below v are clipped, and the others are as they
--- were. The measure is what is left up to b. Assumes nothing.
+-- `tones::clip` meets its contract. The invariant: the entries from a to below v are clipped, and the others are as
+-- they were. The measure is what is left up to b. Assumes nothing.
 use Prim.Native.Nat.{_+_, _-_, _*_, _≤_, min}
 use mathlib.Core.Path.{_≡_, ap, _∙_}
 use native.Mathlib.Nat.{min-le-left}
@@ -39,7 +39,8 @@ old c = c .before .loop .inv .1 .1 .old _ (λ _ g. omega arith)
 few : (c : tie.In-loop Inv-loop μ-loop) → at (c .before .before .args .counts .now) (c .before .loop .v) ≤ 1048576
 few c =
     let a = c .before .before .args in
-    omega (arith, term-le (at (a .counts .now)) {a = a .a} {v = c .before .loop .v} {b = a .b} (omega arith) (omega arith))
+    let v = c .before .loop .v in
+    omega (arith, term-le (at (a .counts .now)) {a = a .a} {v = v} {b = a .b} (omega arith) (omega arith))
 
 cast-lesser : tie.Need-cast-lesser Inv-loop μ-loop
 cast-lesser c = omega (arith, old (c .before), few (c .before))
@@ -54,7 +55,9 @@ lesser-requires c κs = search needs
 clipped : (c : tie.After-lesser Inv-loop μ-loop) →
     let a = c .before .before .before .before .args in
     c .lesser .result ≡ min (1000 * at (a .counts .now) (c .before .before .before .loop .v)) (a .most)
-clipped c = c .lesser .ensures ∙ ap (λ n. min (1000 * n) (c .before .before .before .before .args .most)) (old (c .before .before))
+clipped c =
+    let most = c .before .before .before .before .args .most in
+    c .lesser .ensures ∙ ap (λ n. min (1000 * n) most) (old (c .before .before))
 
 cast-counts : tie.Need-cast-counts Inv-loop μ-loop
 cast-counts c =

@@ -13,7 +13,8 @@ use Rattle.tones.proofs.fill_plain.Tie as tie
 
 abbrev Inv-loop : tie.InvT-loop
 Inv-loop sums table₀ m a b end last₀ tone₀ v₀ table last tone v =
-    ((a ≤ v) × (v ≤ b + 1)) × ((tone ≡ scaled a b last m) × Refilled (λ k. scaled a b (at sums k) m) a v table₀ table)
+    ((a ≤ v) × (v ≤ b + 1))
+    × (((last ≤ m) × (tone ≡ scaled a b last m)) × Refilled (λ k. scaled a b (at sums k) m) a v table₀ table)
 
 abbrev μ-loop : tie.MeasureT-loop
 μ-loop sums table₀ m a b end last₀ tone₀ v₀ table last tone v = b + 1 - v
@@ -22,7 +23,9 @@ add-end : tie.Need-add-end Inv-loop μ-loop
 add-end c = omega arith
 
 loop-holds : tie.Need-loop-holds Inv-loop μ-loop
-loop-holds c = (omega arith, (scaled-none (c .args .a) (c .args .b) (c .args .m) (c .pre .0 .some), refilled-none _))
+loop-holds c =
+    let none = scaled-none (c .args .a) (c .args .b) (c .args .m) (c .pre .0 .some) in
+    (omega arith, ((omega arith, none), refilled-none _))
 
 mul-x : tie.Need-mul-x Inv-loop μ-loop
 mul-x c = omega arith
@@ -30,12 +33,18 @@ mul-x c = omega arith
 element-copy-out-x : tie.Need-element-copy-out-x Inv-loop μ-loop
 element-copy-out-x c = omega arith
 
+-- in a turn, the sum at v is no more than m
+sum-le : (c : tie.In-loop Inv-loop μ-loop) →
+    at (c .before .before .args .sums .now) (c .before .loop .v) ≤ c .before .before .args .m
+sum-le c =
+    let pre = c .before .before .pre .0 in
+    omega (arith, pre .rises (c .before .loop .v) (omega arith) (omega arith), pre .top)
+
 next-tone-requires : tie.Need-next-tone-requires Inv-loop μ-loop
 next-tone-requires c κs =
     let pre = c .before .before .before .pre .0 in
     let s = c .before .before .loop in
-    let within = pre .rises (s .v) (omega arith) (omega arith) in
-    ((pre .order, (omega (arith, within, pre .top), (pre .some, pre .few))), s .inv .1 .0)
+    ((pre .order, (omega (arith, sum-le (c .before)), (pre .some, pre .few))), s .inv .1 .0 .1)
 
 element-write-table : tie.Need-element-write-table Inv-loop μ-loop
 element-write-table c = omega arith
@@ -49,8 +58,8 @@ loop-less c = omega arith
 loop-again : tie.Need-loop-again Inv-loop μ-loop
 loop-again c =
     let inv = c .before .before .before .loop .inv in
-    let more = refilled-more (inv .1 .1) (inv .0 .0) (omega arith) (c .next-tone .ensures) in
-    (omega arith, (c .next-tone .ensures, more))
+    let tone = c .next-tone .ensures in
+    (omega arith, ((sum-le (c .before .before), tone), refilled-more (inv .1 .1) (inv .0 .0) (omega arith) tone))
 
 returns : tie.Need-returns Inv-loop μ-loop
 returns c =

@@ -28,7 +28,9 @@ cast-p : tie.Need-cast-p Inv-loop μ-loop
 cast-p c = omega (arith, c .shared-slice-known .given (c .before .before .loop .i))
 
 shared-slice-read-v : tie.Need-shared-slice-read-v Inv-loop μ-loop
-shared-slice-read-v c = c .before .before .before .before .pre .0 .pixels (c .before .before .before .loop .i) (omega arith)
+shared-slice-read-v c =
+    let pixels = c .before .before .before .before .pre .0 .pixels in
+    pixels (c .before .before .before .loop .i) (omega arith)
 
 -- where a turn's value is read: that value, and that it is a byte
 value : tie.After-shared-slice-known2 Inv-loop μ-loop → ℕ

@@ -10,7 +10,9 @@ returns : tie.Need-returns
 returns c = simp (eq-eqb _ _ (c .if1 .taken))
 
 mul-if2 : tie.Need-mul-if2
-mul-if2 c = omega (arith, mul-le-mul-left {m = c .before .args .s} {n = 255} (c .before .args .high) (omega arith))
+mul-if2 c =
+    let a = c .before .args in
+    omega (arith, mul-le-mul-left {m = a .s} {n = 255} (a .high) (omega arith))
 
 mul-if2-2 : tie.Need-mul-if2-2
 mul-if2-2 c = search needs
@@ -23,7 +25,8 @@ mul-result c = search needs
 
 mul-result-2 : tie.Need-mul-result-2
 mul-result-2 c =
-    omega (arith, mul-le-mul-left {m = c .before .before .args .s} {n = 255} (c .before .before .args .low) (omega arith))
+    let a = c .before .before .args in
+    omega (arith, mul-le-mul-left {m = a .s} {n = 255} (a .low) (omega arith))
 
 returns-3 : tie.Need-returns-3
 returns-3 c = simp (ne-eqb _ _ (c .before .if1 .left), le-ltb _ _ (c .if2 .left))

@@ -1,5 +1,5 @@
--- `tones::lowest` meets its contract. The invariant: no value from a to below v occurs. The measure is what is left up to
--- b. Assumes nothing.
+-- `tones::lowest` meets its contract. The invariant: no value from a to below v occurs. The measure is what is left
+-- up to b. Assumes nothing.
 use Prim.Native.Nat.{ℕ, _-_, _≤_, _<_}
 use mathlib.Core.Path.{_≡_, ap, _∙_}
 use mathlib.Core.Logic.{⊎-elim}

@@ -1,5 +1,5 @@
--- `tones::paint_limited` meets its contract. The invariant: the queue's first i pixels are painted. The measure is what is
--- left of m. Assumes nothing.
+-- `tones::paint_limited` meets its contract. The invariant: the queue's first i pixels are painted. The measure is what
+-- is left of m. Assumes nothing.
 use Prim.Native.Nat.{ℕ, _-_, _≤_, _<_}
 use mathlib.Core.Path.{_≡_}
 use lib.ListN.{length}

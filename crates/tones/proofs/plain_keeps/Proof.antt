@@ -32,7 +32,8 @@ element-copy-out-scale c = search needs
 
 -- the count of the least value is no more than m
 few : (c : tie.After-scale-arg) →
-    at (c .before .before .before .args .counts .now) (c .before .before .lowest .result) ≤ c .before .before .before .args .m
+    let a = c .before .before .before .args in
+    at (a .counts .now) (c .before .before .lowest .result) ≤ a .m
 few c =
     let counts = c .before .before .before .args .counts .now in
     let x = c .before .before .lowest .ensures in
@@ -42,7 +43,9 @@ cast-scale : tie.Need-cast-scale
 cast-scale c = omega (arith, few c)
 
 scale-requires : tie.Need-scale-requires
-scale-requires c κs = (c .before .before .before .pre .order, (few c, (c .before .before .before .pre .some, omega arith)))
+scale-requires c κs =
+    let pre = c .before .before .before .pre in
+    (pre .order, (few c, (pre .some, omega arith)))
 
 sub-t : tie.Need-sub-t
 sub-t c =

@@ -4,7 +4,7 @@ use Prim.Native.Nat.{ℕ}
 use mathlib.Core.Path.{refl}
 use mathlib.Core.List.{List}
 use Rattle.tones.specs.Tones.{tone, kept}
-use Rattle.tones.specs.Histograms.{values, Alike, Histogram, Counted}
+use Rattle.tones.specs.Histograms.{values, Alike, Histogram, Counted, limitedBy}
 use Rattle.tones.proofs.Histograms.{counted-of, histogram-of, retoned-painted}
 use borrow.Author.Needs.{needs}
 use native.Mathlib.Omega.{arith}
@@ -40,7 +40,11 @@ returns c =
     let painted = c .before .before .paint-limited .ensures in
     let clipped = c .before .before .before .before .before in
     let start = clipped .before .before .before .before .before in
-    λ vs s. retoned-painted refl refl (clipped .sum-clipped .ensures .exact vs (counts-of start s)) (start .pre .0) painted
+    λ vs s.
+    let exact = clipped .sum-clipped .ensures .exact vs (counts-of start s) in
+    let a = start .args in
+    let f = limitedBy (clipped .sum-clipped .last .0) (a .m) (a .a) (a .b) in
+    retoned-painted {f = f} refl refl exact (start .pre .0) painted
 
 limited-table-requires : tie.Need-limited-table-requires
 limited-table-requires c κs = (counted (c .before .before .before .before .before), refl)
@@ -57,7 +61,9 @@ returns-2 c =
     let painted = c .before .before .paint .ensures in
     let tabled = c .before .before .before .before .before in
     let start = tabled .before .before .before .before .before .before in
-    λ vs s. retoned-painted refl refl (tabled .limited-table .ensures .exact vs (counts-of start s)) (start .pre .0) painted
+    λ vs s.
+    let exact = tabled .limited-table .ensures .exact vs (counts-of start s) in
+    retoned-painted refl refl exact (start .pre .0) painted
 
 pub retone-limited-spec : {M : Type 1} → statement M
 retone-limited-spec =

@@ -45,7 +45,8 @@ returns-2 c =
     let start = test .before .before .before .before .before in
     λ vs s.
     let h = counts-of start s in
-    retoned-painted (test .before .plain-keeps .ensures vs h) (test .if1 .left) (tabled .exact vs h) (start .pre .0) painted
+    let keeps = test .before .plain-keeps .ensures vs h in
+    retoned-painted keeps (test .if1 .left) (tabled .exact vs h) (start .pre .0) painted
 
 pub retone-plain-spec : {M : Type 1} → statement M
 retone-plain-spec =
