@@ -1,10 +1,10 @@
 -- Where the rules end: the plain rule gives the greatest value b, both rules give the value b itself b, and with a clip
 -- of 1,000 thousandths the limited rule is the plain one. (With a smaller clip the limited rule may give the greatest
 -- value less than b: what is left over goes to the values above it, too.) Assumes nothing.
-use Prim.Native.Nat.{ℕ, zero, suc, _+_, _-_, _*_, _/_, _≤_, _<_, min}
-use mathlib.Core.Path.{_≡_, refl, sym, ap, ap₂, _∙_}
+use Prim.Native.Nat.{ℕ, _+_, _-_, _*_, _/_, _≤_}
+use mathlib.Core.Path.{_≡_, sym, ap, ap₂, _∙_}
 use mathlib.Core.List.{List}
-use native.Mathlib.Nat.{div-eq-of-lt-le, mul-div-mul-left, mul-le-mul, mul-le-mul-right, mul-add, min-eq-left, le-trans}
+use native.Mathlib.Nat.{div-eq-of-lt-le, mul-div-mul-left, mul-le-mul, mul-le-mul-right, mul-add, min-eq-left}
 use native.Mathlib.Omega.{arith}
 use lib.ListN.{length}
 use lib.Dec.{leb, eqb}
@@ -18,7 +18,7 @@ use Rattle.tones.specs.declared.Rule.the-variants.{Plain}
 use Rattle.tones.specs.declared.Rule.the-variants.{Limited}
 use Rattle.tones.proofs.Sums.{sum-same, sum-thousand}
 use Rattle.tones.proofs.Sound.{clipped-le}
-use Rattle.tones.proofs.Values.{inside-all, inside-sum, count-greatest}
+use Rattle.tones.proofs.Values.{in-inside, inside-all, inside-sum, greatest-in, count-greatest}
 
 -- ## Rounding
 
@@ -90,6 +90,13 @@ limited-unclipped k a b vs s h v av vb =
     ap (λ x. scaled a b x (w * (1000 * m))) part
     ∙ ap₂ (λ (x y : ℕ). a + rounded x y) num den
     ∙ ap (a +_) (rounded-cancel (w * 1000) ((b - a) * c) m (omega arith))
+
+-- then its greatest value becomes b, too
+pub limited-greatest : (k a b : ℕ) (vs : List ℕ) → a ≤ b → 1 ≤ length vs → Inside a b vs → 1000 ≤ k
+    → limitedTone k a b vs (greatest vs) ≡ b
+limited-greatest k a b vs ab some s h =
+    let within = in-inside s (greatest-in vs some) in
+    limited-unclipped k a b vs s h (greatest vs) (within .0) (within .1) ∙ plain-greatest a b vs ab some
 
 -- ## Rules
 

@@ -1,11 +1,11 @@
 -- What counts say of every list of values that has them: how many values it has, its least and its greatest value, its
 -- tones and whether they are kept back. Assumes nothing.
-use Prim.Native.Nat.{ℕ, suc, _+_, _-_, _*_, _≤_, _<_, min}
+use Prim.Native.Nat.{ℕ, _+_, _-_, _*_, _≤_, _<_, min}
 use mathlib.Core.Path.{_≡_, refl, sym, ap, ap₂, _∙_}
 use mathlib.Core.Logic.{⊎-elim}
-use mathlib.Core.Bool.{Bool, true, false, not, cond}
+use mathlib.Core.Bool.{Bool, true, false}
 use mathlib.Core.List.{List, map}
-use native.Mathlib.Nat.{le-trans, le-antisymm, min-le-left, min-eq-left}
+use native.Mathlib.Nat.{le-antisymm, min-le-left, min-eq-left}
 use native.Mathlib.Omega.{arith}
 use lib.ListN.{length, take, length-map, length-take}
 use lib.Dec.{eqb, leb}
@@ -17,7 +17,7 @@ use Rattle.planes.proofs.Tests.{less-or-not}
 use Rattle.tones.specs.Tones.{sumTo, scaled, greatest, least, spread, plainTone, clipped, limitedTone, tone}
 use Rattle.tones.specs.Tones.{keptBy, kept}
 use Rattle.tones.specs.Histograms.{values, Component, Listed, Alike, Painted, Retoned}
-use Rattle.tones.specs.Histograms.{Tally, Inside, Histogram, Counted, Lowest, Highest, Refilled, Sums, limitedBy}
+use Rattle.tones.specs.Histograms.{Tally, Histogram, Counted, Lowest, Highest, Refilled, Sums, limitedBy}
 use Rattle.tones.specs.Histograms.{ClippedSums, Tabled}
 use Rattle.tones.specs.declared.Rule.{Rule}
 use Rattle.tones.specs.declared.Rule.the-variants.{Plain}

@@ -1,7 +1,7 @@
 -- Every tone rule is sound: on [a, b] it never falls, and it stays in [a, b]. What a rule adds to a is a part x of a
 -- whole y of b - a, rounded, and x grows with the value. The value b always becomes b. Assumes nothing.
-use Prim.Native.Nat.{ℕ, zero, suc, _+_, _-_, _*_, _≤_, _<_, min}
-use mathlib.Core.Path.{_≡_, refl, sym, ap, _∙_}
+use Prim.Native.Nat.{ℕ, _+_, _-_, _*_, _≤_}
+use mathlib.Core.Path.{_≡_, ap}
 use mathlib.Core.Bool.{Bool, true, false, cond}
 use mathlib.Core.List.{List}
 use native.Mathlib.Nat.{le-trans, min-le-left, mul-le-mul-left, mul-le-mul-right, mul-add}
@@ -17,7 +17,7 @@ use Rattle.tones.specs.Sound.{Sound}
 use Rattle.tones.specs.declared.Rule.{Rule}
 use Rattle.tones.specs.declared.Rule.the-variants.{Plain}
 use Rattle.tones.specs.declared.Rule.the-variants.{Limited}
-use Rattle.tones.proofs.Sums.{sum-mono, sum-le, sum-thousand, sum-counts-le, sumTo-mono}
+use Rattle.tones.proofs.Sums.{sum-le, sum-thousand, sum-counts-le, sumTo-mono}
 
 -- ## Parts of b - a
 

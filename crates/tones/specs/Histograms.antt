@@ -1,14 +1,23 @@
 -- Components as the first entries of a queue, their counts, and what becomes of a plane. Definitions only.
 --
---   values      the values of a component's pixels, in the queue's order
---   Component   the queue's first m entries are pixels of the plane, each once, with values in [a, b]
---   Alike       two lists have the same values, perhaps in another order
---   Inside      all values of a list lie in [a, b]
---   Histogram   an array of counts, by the list of values
---   Counted     the counts of some m pixels
---   Tabled      a table of tones, by every list of values that has the counts
---   Painted     the listed pixels have new values, and the others are as they were
---   Retoned     what a tone rule makes of a component
+-- For callers:
+--   values            the values of a component's pixels, in the queue's order
+--   Component         the queue's first m entries are pixels of the plane, each once, with values in [a, b]
+--   Alike             two lists have the same values, perhaps in another order
+--   Retoned, Retones  what a tone rule makes of a component, by a list of its values, and by every such list
+-- For the functions within:
+--   Listed, Distinct  the queue's first m entries are pixels of the plane; no two are the same
+--   Tally             256 counts, one for each value
+--   Inside            all values of a list lie in [a, b]
+--   Histogram         the counts of [a, b], by the list of values
+--   Counted           the counts of [a, b] of some m pixels
+--   Lowest, Highest   the least and the greatest value that occurs
+--   Refilled          an array with new entries from a on, and what they are
+--   Sums              sums that never fall
+--   limitedBy         the limited rule's tone, by the sums of the clipped counts
+--   Tabled            a table of tones, by every list of values that has the counts
+--   ClippedSums       the sums of the clipped counts, by every list of values that has the counts
+--   Painted           the listed pixels have new values, and the others are as they were
 use Prim.Native.Nat.{ℕ, _+_, _-_, _*_, _≤_, _<_}
 use mathlib.Core.Path.{_≡_}
 use mathlib.Core.Bool.{Bool, not, cond}
@@ -90,7 +99,7 @@ pub record Refilled (f : ℕ → ℕ) (a e : ℕ) (l l' : List ℕ) : Type 0 whe
   pub new : (v : ℕ) → a ≤ v → v < e → at l' v ≡ f v
   pub old : (v : ℕ) → (a ≤ v → v < e → ⊥) → at l' v ≡ at l v
 
--- sums in the entries of [a, b], up to `most` at b, for m pixels
+-- in [a, b], no entry is above that at b, which is no more than `most`; there are m pixels
 pub record Sums (sums : List ℕ) (most m a b : ℕ) : Type 0 where
   pub order : a ≤ b
   pub some : 1 ≤ m

@@ -1,6 +1,6 @@
 -- `tones::fill_limited` meets its contract. The invariant: the entries from a to below v are tones. The measure is what
 -- is left up to b. Assumes nothing.
-use Prim.Native.Nat.{_+_, _-_, _*_, _≤_, min}
+use Prim.Native.Nat.{_+_, _-_, _≤_}
 use mathlib.Core.Path.{_≡_}
 use Rattle.tones.specs.Histograms.{Refilled, limitedBy}
 use Rattle.tones.proofs.Stores.{refilled-none, refilled-more}

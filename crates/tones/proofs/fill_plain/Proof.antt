@@ -1,6 +1,6 @@
 -- `tones::fill_plain` meets its contract. The invariant: the entries from a to below v are tones, and `tone` is that of
 -- the sum `last`. The measure is what is left up to b. Assumes nothing.
-use Prim.Native.Nat.{_+_, _-_, _*_, _≤_, min}
+use Prim.Native.Nat.{_+_, _-_, _≤_}
 use mathlib.Core.Path.{_≡_}
 use Rattle.planes.specs.Lists.{at}
 use Rattle.tones.specs.Tones.{scaled}

@@ -5,7 +5,7 @@ use mathlib.Core.Path.{refl}
 use mathlib.Core.List.{List}
 use Rattle.tones.specs.Tones.{tone}
 use Rattle.tones.specs.Histograms.{values, Alike, Histogram, Counted}
-use Rattle.tones.proofs.Histograms.{listed-of, counted-of, histogram-of, retoned-kept, retoned-painted}
+use Rattle.tones.proofs.Histograms.{counted-of, histogram-of, retoned-kept, retoned-painted}
 use borrow.Author.Needs.{needs}
 use native.Mathlib.Omega.{arith}
 use Rattle.tones.proofs.retone_plain.Statement.{statement}
