@@ -1,5 +1,5 @@
 -- Every tone rule is sound: on [a, b] it never falls, and it stays in [a, b]. What a rule adds to a is a part x of a
--- whole y of b - a, rounded, and x grows with the value. The value b always becomes b. Assumes nothing.
+-- whole y of b - a, rounded, and x grows with the value. Assumes nothing.
 use Prim.Native.Nat.{ℕ, _+_, _-_, _*_, _≤_}
 use mathlib.Core.Path.{_≡_, ap}
 use mathlib.Core.Bool.{Bool, true, false, cond}
