@@ -8,7 +8,9 @@ ghost use mathlib.Core.Path.{_≡_};
 ghost use mathlib.Core.Bool.{true, false};
 ghost use Prim.Native.Nat.{ℕ, _+_, _-_, _*_, _^_, _≤_, _<_};
 ghost use lib.ListN.{length};
+ghost use Rattle.enhance.specs.Calls.{settingsRefusal, memoryRefusal, enhanceRefusal, Enhanced, EnhanceOutcome};
 ghost use Rattle.enhance.specs.Recursion.{Deeper, NextIs, Ready, Due, Halves, Equalised, Halved, Run};
+use model::Answer;
 use model::Pass;
 use passes::Next;
 use tones::Rule;
@@ -211,4 +213,111 @@ fn run_levels(
         return count + below;
     }
     count
+}
+
+// 9 where the last level is above 7, else the refusal of the area or of the rule, else 0.
+fn settings_refusal(settings: Settings) -> u8
+    ensures { λ r. ⌜ r ≡ settingsRefusal settings ⌝ }
+{
+    if 7 < settings.last {
+        return 9;
+    }
+    let area = settings.area;
+    let small = model::area_refusal(area);
+    if small != 0 {
+        return small;
+    }
+    let rule = settings.rule;
+    model::rule_refusal(rule)
+}
+
+// 4 where marks or queue are shorter than n, else 14 where the output is shorter than 3 n, else 0.
+fn room_refusal(n: usize, marks: usize, queue: usize, output: usize) -> u8
+    requires { ⌜ n ≤ 1048576 ⌝ }
+    ensures { λ r. ⌜ r ≡ memoryRefusal n marks queue output ⌝ }
+{
+    if marks < n {
+        return 4;
+    }
+    if queue < n {
+        return 4;
+    }
+    if output < 3 * n {
+        return 14;
+    }
+    0
+}
+
+// 1, 2, 3, 4, 14, 9, 6, 7, 8 in that order for an enhancement, by the lengths that are lent, or 0.
+fn refusal_of(
+    w: usize,
+    h: usize,
+    frame: usize,
+    plane: usize,
+    marks: usize,
+    queue: usize,
+    output: usize,
+    settings: Settings,
+) -> u8
+    ensures { λ r. ⌜ r ≡ enhanceRefusal w h frame plane marks queue output settings ⌝ }
+{
+    let shape = colours::intensity_refusal(w, h, frame, plane);
+    if shape != 0 {
+        return shape;
+    }
+    let memory = room_refusal(w * h, marks, queue, output);
+    if memory != 0 {
+        return memory;
+    }
+    settings_refusal(settings)
+}
+
+// The enhancement of a frame that is accepted. How many components were retoned.
+fn enhance_frame(
+    frame: &[u8],
+    w: usize,
+    h: usize,
+    settings: Settings,
+    plane: &mut [u8],
+    marks: &mut [u8],
+    queue: &mut [u32],
+    output: &mut [u8],
+) -> u32
+    requires { ⌜ enhanceRefusal w h (length (now frame)) (length (now plane)) (length (now marks)) (length (now queue)) (length (now output)) settings ≡ 0 ⌝ }
+    ensures { λ r. ⌜ Enhanced w h settings (now (frame .entry)) (now (marks .entry)) (now (queue .entry)) (now (output .entry)) r (now (plane .exit)) (now (marks .exit)) (now (queue .exit)) (now (output .exit)) ⌝ }
+{
+    let filled = colours::intensity(frame, w, h, plane);
+    let count = run_levels(plane, marks, queue, w, h, settings);
+    let written = colours::recolour(frame, w, h, plane, output);
+    count
+}
+
+// Enhances a frame of w columns and h rows, or answers the refusal that it meets with. The new intensity is left in the
+// plane and the recoloured frame in the output; marks and queue are working memory that may come with any content.
+pub fn enhance(
+    frame: &[u8],
+    w: usize,
+    h: usize,
+    settings: Settings,
+    plane: &mut [u8],
+    marks: &mut [u8],
+    queue: &mut [u32],
+    output: &mut [u8],
+) -> Answer
+    ensures { λ r. ⌜ EnhanceOutcome w h settings (now (frame .entry)) (now (plane .entry)) (now (marks .entry)) (now (queue .entry)) (now (output .entry)) r (now (plane .exit)) (now (marks .exit)) (now (queue .exit)) (now (output .exit)) ⌝ }
+{
+    let refusal = refusal_of(
+        w,
+        h,
+        frame.len(),
+        plane.len(),
+        marks.len(),
+        queue.len(),
+        output.len(),
+        settings,
+    );
+    if refusal != 0 {
+        return Answer::Refused(refusal);
+    }
+    Answer::Done(enhance_frame(frame, w, h, settings, plane, marks, queue, output))
 }

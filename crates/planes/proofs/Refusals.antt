@@ -5,7 +5,7 @@ use mathlib.Core.Logic.{_⊎_, inl, inr}
 use mathlib.Core.Bool.{Bool, true, false, _||_}
 use native.Mathlib.Omega.{arith}
 use lib.Dec.{ltb, eqb}
-use borrow.Author.Tests.{ltb-false, eqb-false}
+use borrow.Author.Tests.{ltb-false, le-ltb, eqb-false, ne-eqb}
 use Rattle.planes.specs.Refusals.{when, _▷_, badSide, sizeRefusal, Sized}
 use Rattle.planes.proofs.Tests.{or-none}
 
@@ -47,3 +47,15 @@ sized w h limit e =
     let rows = good-side h (sides .1) in
     let few = ltb-false limit (w * h) (when-none (ltb limit (w * h)) 1 (tests .1)) in
     record { wide = columns .0; narrow = columns .1; high = rows .0; low = rows .1; few = few }
+
+-- and back
+pub sized-none : (w h limit : ℕ) → Sized w h limit → sizeRefusal w h limit ≡ 0
+unfolding sizeRefusal
+sized-none w h limit S =
+    simp (
+      ne-eqb w 0 (λ e. absurd (omega (arith, S .wide))),
+      le-ltb 4096 w (S .narrow),
+      ne-eqb h 0 (λ e. absurd (omega (arith, S .high))),
+      le-ltb 4096 h (S .low),
+      le-ltb limit (w * h) (S .few),
+    )

@@ -1,0 +1,45 @@
+-- `enhance::enhance` meets its contract: refused with the first number that applies and nothing changed, or enhanced.
+-- Assumes nothing.
+use mathlib.Core.Path.{sym, _∙_}
+use Rattle.enhance.proofs.Calls.{refused-by, done-by}
+use borrow.Author.Needs.{needs}
+use Rattle.enhance.proofs.enhance.Statement.{statement}
+use Rattle.enhance.proofs.enhance.Tie as tie
+
+refusal-of-requires : tie.Need-refusal-of-requires
+refusal-of-requires c κs = search needs
+
+returns : tie.Need-returns
+returns c = refused-by _ (c .before .refusal-of .ensures) (c .if1 .taken)
+
+enhance-frame-requires : tie.Need-enhance-frame-requires
+enhance-frame-requires c κs = sym (c .before .before .before .before .before .refusal-of .ensures) ∙ c .before .before .before .before .if1 .left
+
+same-length : tie.Need-same-length
+same-length c = search needs
+
+same-length-2 : tie.Need-same-length-2
+same-length-2 c = search needs
+
+same-length-3 : tie.Need-same-length-3
+same-length-3 c = search needs
+
+same-length-4 : tie.Need-same-length-4
+same-length-4 c = search needs
+
+returns-2 : tie.Need-returns-2
+returns-2 c =
+    done-by (sym (c .before .before .before .before .before .before .before .before .before .before .before .before .before .before .refusal-of .ensures) ∙ c .before .before .before .before .before .before .before .before .before .before .before .before .before .if1 .left) (c .before .before .before .before .before .before .before .before .enhance-frame .ensures)
+
+pub enhance-spec : {M : Type 1} → statement M
+enhance-spec =
+    tie.close
+    (tie.spec
+    refusal-of-requires
+    returns
+    enhance-frame-requires
+    same-length
+    same-length-2
+    same-length-3
+    same-length-4
+    returns-2)
