@@ -1,13 +1,12 @@
 -- What the reader's next move tells of the byte: a digit, whitespace, or neither. Assumes nothing.
 use Prim.Native.Nat.{ℕ, _-_, _≤_}
 use mathlib.Core.Path.{_≡_, refl, sym, _∙_}
-use mathlib.Core.Bool.{Bool, true, false, _&&_, _||_, cond}
+use mathlib.Core.Bool.{Bool, true, false, cond}
 use native.Mathlib.Omega.{arith}
-use lib.Dec.{eqb, leb}
+use lib.Dec.{leb}
 use borrow.Author.Tests.{leb-true, le-leb, lt-leb, ne-eqb}
 use Rattle.planes.proofs.Tests.{and-left, and-right}
 use Rattle.netpbm.specs.Bytes.{isDigit, isWhite, moveFor}
-use Rattle.netpbm.specs.declared.Move.{Move}
 use Rattle.netpbm.specs.declared.Move.the-variants.{Take, Skip, Stop}
 
 -- a digit's code is 48 to 57

@@ -1,4 +1,4 @@
--- Worked examples of reading, by computation. Assumes nothing.
+-- Worked examples of reading and writing, by computation: one theorem. Assumes nothing.
 use Prim.Native.Nat.{ℕ}
 use Prim.Native.Char.{code}
 use Prim.Native.String.{String, [] as none, _∷_ as _then_}
@@ -10,6 +10,7 @@ use Rattle.planes.specs.Refusals.{sizeRefusal, greatestPixels}
 use Rattle.netpbm.specs.Bytes.{isDigit, isWhite}
 use Rattle.netpbm.specs.Grammar.{mark, number, field, header}
 use Rattle.netpbm.specs.Reading.{frameRefusal, readAnswer}
+use Rattle.netpbm.specs.Writing.{decimal, heading, encoding, writeRefusal}
 use Rattle.netpbm.specs.declared.Header.{Header}
 use Rattle.netpbm.specs.declared.Header.the-variants.{Refused, Frame}
 
@@ -25,7 +26,7 @@ read text = readAnswer (ascii text) greatestPixels
 abbrev read-small : String → Header
 read-small text = readAnswer (ascii text) 16384
 
--- the rows of the table of refusals that concern files, in the order in which they are tested
+-- the refusals of reading, in the order in which they are tested, and then writing
 pub record Examples : Type 0 where
   -- a frame
   pub accepted : read "P6 1 1 255 abc" ≡ Frame 1 1 11
@@ -63,9 +64,20 @@ pub record Examples : Type 0 where
   pub two-bytes : read "P6 1 1 255 ab" ≡ Refused 12
   -- 13: bytes after the raster
   pub four-bytes : read "P6 1 1 255 abcd" ≡ Refused 13
+  -- writing: the bytes of a frame, and of numbers
+  pub written : encoding (ascii "abcdef") 2 1 ≡ ascii "P6\n2 1\n255\nabcdef"
+  pub numbers : map decimal (0 ∷ 7 ∷ 10 ∷ 99 ∷ 100 ∷ 4096 ∷ 999999 ∷ [])
+      ≡ map ascii ("0" ∷ "7" ∷ "10" ∷ "99" ∷ "100" ∷ "4096" ∷ "999999" ∷ [])
+  -- writing is refused with 1, 2, 3 and 14, in that order; 1 by 1 needs 14 bytes
+  pub write-no-width : writeRefusal 0 1 3 0 ≡ 1
+  pub write-too-many : writeRefusal 4096 257 3 0 ≡ 2
+  pub write-other-raster : writeRefusal 2 1 3 0 ≡ 3
+  pub write-little-room : writeRefusal 1 1 3 2 ≡ 14
+  pub write-one-byte-short : writeRefusal 1 1 3 13 ≡ 14
+  pub write-room : writeRefusal 1 1 3 14 ≡ 0
 
 pub examples : Examples
-unfolding readAnswer header mark field number isDigit isWhite frameRefusal sizeRefusal
+unfolding readAnswer header mark field number isDigit isWhite frameRefusal sizeRefusal decimal heading writeRefusal
 examples = record {
   accepted = refl;
   all-whitespace = refl;
@@ -92,4 +104,12 @@ examples = record {
   no-raster = refl;
   two-bytes = refl;
   four-bytes = refl;
+  written = refl;
+  numbers = refl;
+  write-no-width = refl;
+  write-too-many = refl;
+  write-other-raster = refl;
+  write-little-room = refl;
+  write-one-byte-short = refl;
+  write-room = refl;
 }

@@ -6,27 +6,26 @@
 --   malformed-iff   reading answers refusal 10 exactly where no header begins the bytes
 --
 -- Assumes nothing.
-use Prim.Native.Nat.{ℕ, zero, suc, _+_, _-_, _*_, _≤_, _<_}
+use Prim.Native.Nat.{ℕ, zero, suc, _-_, _*_, _≤_}
 use mathlib.Core.Path.{_≡_, refl, sym, ap, subst₂, subst₃, _∙_}
 use mathlib.Core.Logic.{_↔_}
-use mathlib.Core.Bool.{Bool, true, false, _&&_, not, cond}
+use mathlib.Core.Bool.{Bool, true, false, cond}
 use mathlib.Core.List.{List, [], _∷_, _++_, append-assoc, append-nil}
 use native.Mathlib.Omega.{arith}
-use lib.Dec.{leb}
 use lib.ListN.{length, length-drop}
 use borrow.Author.Tests.{le-leb}
 use Rattle.planes.specs.Lists.{every}
 use Rattle.planes.specs.Refusals.{Sized}
 use Rattle.planes.proofs.Tests.{and-left, and-right}
-use Rattle.netpbm.specs.Bytes.{isDigit, isWhite, value}
-use Rattle.netpbm.specs.Parsers.{Parsed, failed, parsed, next, check, one, some, takeWhile, dropWhile}
+use Rattle.netpbm.specs.Bytes.{isDigit, isWhite}
+use Rattle.netpbm.specs.Parsers.{Parsed, failed, parsed, takeWhile, dropWhile}
 use Rattle.netpbm.specs.Grammar.{mark, number, field, Numbers, header}
 use Rattle.netpbm.specs.Reading.{frameRefusal, framed, answered, readAnswer}
 use Rattle.netpbm.specs.declared.Header.the-variants.{Refused, Frame}
 use Rattle.netpbm.specs.Frames.{Spaces, Numeral, IsHeader, IsFrame}
 use Rattle.netpbm.proofs.Bytes.{digit-not-white, white-not-digit}
 use Rattle.netpbm.proofs.Parsers.{while-split, while-none, some-present, Run}
-use Rattle.netpbm.proofs.Grammar.{Digits, Spaced, Parts, header-passed, header-suffix}
+use Rattle.netpbm.proofs.Grammar.{Spaced, Parts, header-passed, header-suffix}
 use Rattle.netpbm.proofs.Refusals.{Accepted, frame-accepted, accepted-frame, never-malformed}
 
 -- the longest beginning that passes a test, of a list that begins with bytes that all pass

@@ -7,3 +7,9 @@ pub mod Cursors
 pub mod Answers
 pub mod Frames
 pub mod Examples
+pub mod Decimal
+pub mod Placing
+pub mod Heading
+pub mod Digits
+pub mod Writing
+pub mod RoundTrip

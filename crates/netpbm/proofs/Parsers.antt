@@ -1,6 +1,6 @@
 -- Laws of the parsers: what each tells of the bytes where it passes, and runs of bytes that pass a test, one byte at a
 -- time from a place of the list on. Assumes nothing.
-use Prim.Native.Nat.{ℕ, zero, suc, _+_, _-_, _≤_, _<_}
+use Prim.Native.Nat.{ℕ, _+_, _-_, _≤_, _<_}
 use mathlib.Core.Path.{_≡_, refl, sym, ap, _∙_}
 use mathlib.Core.Logic.{⊎-elim}
 use mathlib.Core.Bool.{Bool, true, false, false≢true, true≢false, cond}

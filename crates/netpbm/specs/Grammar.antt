@@ -2,7 +2,6 @@
 -- digits, each after one or more whitespace bytes, then one whitespace byte. What it leaves is the raster.
 -- Definitions only.
 use Prim.Native.Nat.{ℕ}
-use mathlib.Core.List.{List}
 use lib.Dec.{leb}
 use lib.ListN.{length}
 use Rattle.netpbm.specs.Bytes.{isDigit, isWhite, value}

@@ -4,3 +4,4 @@ pub mod Grammar
 pub mod Cursors
 pub mod Reading
 pub mod Frames
+pub mod Writing

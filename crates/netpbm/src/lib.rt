@@ -1,9 +1,10 @@
-// P6 frames: reading a header.
+// P6 frames: reading a header, and writing a frame.
 //
 // read          width, height and the raster's offset of a frame of at most 1,048,576 pixels, or a refusal
 // read_within   the same, with the greatest number of pixels given
+// write         a frame into a lent output: the length written, or a refusal
 ghost use mathlib.Core.Path.{_≡_};
-ghost use Prim.Native.Nat.{_+_, _≤_};
+ghost use Prim.Native.Nat.{_+_, _≤_, _<_};
 ghost use lib.ListN.{length, drop};
 ghost use Rattle.planes.specs.Refusals.{greatestPixels};
 ghost use Rattle.netpbm.specs.Bytes.{isWhite, moveFor};
@@ -11,6 +12,7 @@ ghost use Rattle.netpbm.specs.Parsers.{takeWhile, one};
 ghost use Rattle.netpbm.specs.Grammar.{mark, number, field, header};
 ghost use Rattle.netpbm.specs.Cursors.{passed, endedNumber, numberAt, fieldsAt};
 ghost use Rattle.netpbm.specs.Reading.{frameRefusal, readAnswer};
+ghost use Rattle.netpbm.specs.Writing.{decimal, heading, writeRefusal, Put, Wrote};
 
 // The greatest number of digits of a number in a header.
 const DIGITS: usize = 6;
@@ -49,6 +51,12 @@ enum Fields {
 pub enum Header {
     Refused(u8),
     Frame { w: usize, h: usize, offset: usize },
+}
+
+// The answer to writing: the number of bytes written, or the refusal's number.
+pub enum Written {
+    Refused(u8),
+    Length(usize),
 }
 
 // Header bytes sorted into digits, whitespace (TAB, LF, VT, FF, CR and space) and the rest.
@@ -240,4 +248,88 @@ pub fn read(bytes: &[u8]) -> Header
     ensures { λ r. ⌜ r ≡ readAnswer (now (bytes .entry)) greatestPixels ⌝ }
 {
     read_within(bytes, planes::PIXELS)
+}
+
+// How many digits a number below 10,000 has.
+fn digits_of(x: usize) -> usize
+    requires { ⌜ x < 10000 ⌝ }
+    ensures { λ r. ⌜ r ≡ length (decimal x) ⌝ }
+{
+    if x < 10 {
+        return 1;
+    }
+    if x < 100 {
+        return 2;
+    }
+    if x < 1000 {
+        return 3;
+    }
+    4
+}
+
+// The refusal of writing a frame with a raster and an output of so many bytes, or 0.
+fn write_refusal(w: usize, h: usize, raster: usize, output: usize) -> u8
+    ensures { λ r. ⌜ r ≡ writeRefusal w h raster output ⌝ }
+{
+    let refused = planes::size_refusal(w, h, planes::PIXELS);
+    if refused != 0 {
+        return refused;
+    }
+    if raster != 3 * (w * h) {
+        return 3;
+    }
+    if output < 9 + digits_of(w) + digits_of(h) + raster {
+        return 14;
+    }
+    0
+}
+
+// Writes `bytes` into `output` from `at` on, and answers the place after them.
+fn put_bytes(output: &mut [u8], at: usize, bytes: &[u8]) -> usize
+    requires { ⌜ at + length (now bytes) ≤ length (now output) ⌝ }
+    ensures { λ r. ⌜ Put (now (output .entry)) at (now (bytes .entry)) r (now (output .exit)) ⌝ }
+{
+    let mut i = 0;
+    while i < bytes.len() {
+        output[at + i] = bytes[i];
+        i += 1;
+    }
+    at + i
+}
+
+// Writes the digits of x into `output` from `at` on, and answers the place after them.
+fn put_number(output: &mut [u8], at: usize, x: usize) -> usize
+    requires { ⌜ (x < 1000000) × (at + length (decimal x) ≤ length (now output)) ⌝ }
+    ensures { λ r. ⌜ Put (now (output .entry)) at (decimal x) r (now (output .exit)) ⌝ }
+{
+    if x < 10 {
+        output[at] = (48 + x) as u8;
+        return at + 1;
+    }
+    let last = put_number(output, at, x / 10);
+    output[last] = (48 + x % 10) as u8;
+    last + 1
+}
+
+// Writes the header, and answers the place after it, where the raster begins.
+fn put_header(output: &mut [u8], w: usize, h: usize) -> usize
+    requires { ⌜ ((w < 1000000) × (h < 1000000)) × (length (heading w h) ≤ length (now output)) ⌝ }
+    ensures { λ r. ⌜ Put (now (output .entry)) 0 (heading w h) r (now (output .exit)) ⌝ }
+{
+    let after_mark = put_bytes(output, 0, b"P6\n");
+    let after_w = put_number(output, after_mark, w);
+    let after_space = put_bytes(output, after_w, b" ");
+    let after_h = put_number(output, after_space, h);
+    put_bytes(output, after_h, b"\n255\n")
+}
+
+pub fn write(raster: &[u8], w: usize, h: usize, output: &mut [u8]) -> Written
+    ensures { λ r. ⌜ Wrote (now (raster .entry)) w h (now (output .entry)) r (now (output .exit)) ⌝ }
+{
+    let refusal = write_refusal(w, h, raster.len(), output.len());
+    if refusal != 0 {
+        return Written::Refused(refusal);
+    }
+    let offset = put_header(output, w, h);
+    Written::Length(put_bytes(output, offset, raster))
 }

@@ -1,6 +1,5 @@
 -- `netpbm::frame_refusal` meets its contract: each answer follows from the tests that led to it. Where the size is not
 -- refused the product of the sides fits. Assumes nothing.
-use Prim.Native.Nat.{_*_}
 use mathlib.Core.Path.{_≡_, sym, _∙_}
 use native.Mathlib.Omega.{arith}
 use borrow.Author.Needs.{needs}

@@ -1,6 +1,6 @@
 -- `netpbm::read_header` meets its contract: each part of the header that was read is what the grammar makes of the
 -- bytes from its place on, and the first part that is malformed makes the grammar fail. Assumes nothing.
-use Prim.Native.Nat.{ℕ, _+_, _-_, _≤_, _<_}
+use Prim.Native.Nat.{ℕ, _+_, _-_, _≤_}
 use mathlib.Core.Path.{_≡_, sym, ap, _∙_}
 use mathlib.Core.Bool.{true}
 use mathlib.Core.List.{List}

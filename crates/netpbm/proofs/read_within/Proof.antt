@@ -1,15 +1,13 @@
 -- `netpbm::read_within` meets its contract: the answer for what the grammar makes of the bytes. The raster is what
 -- stands from the offset on, so its length is the length of all bytes less the offset. Assumes nothing.
-use Prim.Native.Nat.{ℕ, zero, suc, _-_, _≤_}
-use mathlib.Core.Path.{_≡_, refl, sym, ap, _∙_}
-use native.Mathlib.Omega.{arith}
+use Prim.Native.Nat.{_≤_}
+use mathlib.Core.Path.{_≡_, sym, _∙_}
 use borrow.Author.Needs.{needs}
-use lib.ListN.{length, drop, length-drop}
+use lib.ListN.{length, drop}
 use denote.Ref.{now}
 use Rattle.netpbm.specs.Parsers.{parsed}
 use Rattle.netpbm.specs.Grammar.{header}
-use Rattle.netpbm.specs.Reading.{frameRefusal, framed, readAnswer}
-use Rattle.netpbm.specs.declared.Header.the-variants.{Refused, Frame}
+use Rattle.netpbm.specs.Reading.{framed, readAnswer}
 use Rattle.netpbm.proofs.Cursors.{header-lost, header-read}
 use Rattle.netpbm.proofs.Answers.{framed-refused, answer-framed}
 use Rattle.netpbm.proofs.read_within.Statement.{statement}

@@ -1,0 +1,88 @@
+-- What writing leaves reads back: the first bytes of the output, as many as writing answered, are read with the same
+-- width and height, and the raster stands at the offset that reading answers.
+--
+--   reads-back   at any limit that the frame keeps
+--   round-trip   at the library's own limit, which every written frame keeps
+--
+-- Assumes nothing.
+use Prim.Native.Nat.{ℕ, _-_, _*_, _≤_, _<_}
+use mathlib.Core.Path.{_≡_, refl}
+use mathlib.Core.Bool.{true}
+use mathlib.Core.List.{List, [], _∷_}
+use native.Mathlib.Omega.{arith}
+use lib.ListN.{length, take, drop, length-append}
+use lib.Seq.{drop-at}
+use Rattle.planes.specs.Refusals.{greatestPixels}
+use Rattle.netpbm.specs.Bytes.{isWhite}
+use Rattle.netpbm.specs.Reading.{readAnswer}
+use Rattle.netpbm.specs.Frames.{Spaces, IsHeader, IsFrame}
+use Rattle.netpbm.specs.Writing.{decimal, heading, encoding, Wrote}
+use Rattle.netpbm.specs.declared.Header.the-variants.{Frame}
+use Rattle.netpbm.specs.declared.Written.the-variants.{Length}
+use Rattle.netpbm.proofs.Decimal.{decimal-numeral}
+use Rattle.netpbm.proofs.Frames.{accepted-iff}
+use Rattle.netpbm.proofs.Writing.{wrote-size, wrote-writable, wrote-frame}
+
+one-space : (b : ℕ) → isWhite b ≡ true → Spaces (b ∷ [])
+one-space b e = record { white = rw e; present = omega arith }
+
+line-feed : isWhite 10 ≡ true
+unfolding isWhite
+line-feed = refl
+
+space : isWhite 32 ≡ true
+unfolding isWhite
+space = refl
+
+-- the written bytes are a header and a raster
+written-header : (raster : List ℕ) (w h : ℕ) → w < 1000000 → h < 1000000
+    → IsHeader (encoding raster w h) w h 255 raster
+unfolding heading
+written-header raster w h wide high = record {
+  spaces₁ = 10 ∷ [];
+  width = decimal w;
+  spaces₂ = 32 ∷ [];
+  height = decimal h;
+  spaces₃ = 10 ∷ [];
+  depth = decimal 255;
+  separator = 10;
+  parts = refl;
+  spaces₁-are = one-space 10 line-feed;
+  width-is = decimal-numeral w wide;
+  spaces₂-are = one-space 32 space;
+  height-is = decimal-numeral h high;
+  spaces₃-are = one-space 10 line-feed;
+  depth-is = decimal-numeral 255 (omega arith);
+  separator-is = line-feed;
+}
+
+-- the first `size` bytes of an output, read back
+pub record ReadsBack (raster : List ℕ) (w h limit size : ℕ) (output' : List ℕ) : Type 0 where
+  pub answers : readAnswer (take size output') limit ≡ Frame w h (size - length raster)
+  pub stands : drop (size - length raster) (take size output') ≡ raster
+
+module _ {raster : List ℕ} {w h : ℕ} {output : List ℕ} {size : ℕ} {output' : List ℕ}
+    (wrote : Wrote raster w h output (Length size) output') where
+  pub reads-back : (limit : ℕ) → w * h ≤ limit → ReadsBack raster w h limit size output'
+  reads-back limit few =
+      let frame = encoding raster w h in
+      let fine = wrote-writable wrote in
+      let s = fine .size in
+      let whole = wrote-size wrote in
+      let counted = length-append (heading w h) raster in
+      let place : length (heading w h) ≡ size - length raster = omega arith in
+      let is-frame : IsFrame frame limit w h (size - length raster) =
+      record {
+        raster = raster;
+        header = written-header raster w h (omega arith) (omega arith);
+        sized = record { wide = s .wide; narrow = s .narrow; high = s .high; low = s .low; few = few };
+        filled = fine .filled;
+        placed = omega arith;
+      } in
+      record {
+        answers = rw (wrote-frame wrote) (accepted-iff frame limit w h (size - length raster) .1 is-frame);
+        stands = rw (wrote-frame wrote) (drop-at (heading w h) raster (size - length raster) place);
+      }
+
+  pub round-trip : ReadsBack raster w h greatestPixels size output'
+  round-trip = reads-back greatestPixels (wrote-writable wrote .size .few)
