@@ -12,7 +12,7 @@ use Rattle.model.specs.declared.Pass.{Pass}
 use Rattle.model.specs.declared.Answer.{Answer}
 use Rattle.model.specs.declared.Answer.the-variants.{Done}
 use Rattle.model.specs.Passes.{passed, passCount}
-use Rattle.model.specs.Calls.{passRefusal, answerCount, total, State, start, call, chain}
+use Rattle.model.specs.Calls.{Call, passRefusal, answerCount, total, State, start, call, chain}
 use Rattle.model.specs.Runs.{run, runCount, All, none, more}
 use Rattle.model.specs.Enhancement.{passes, callOf, enhanced, recursive}
 use Rattle.model.proofs.Order.{length-passed}
@@ -22,28 +22,53 @@ total-append : (xs ys : List Answer) → total (xs ++ ys) ≡ total xs + total y
 total-append [] ys = sym (zero-add (total ys))
 total-append (x ∷ xs) ys = ap (answerCount x +_) (total-append xs ys) ∙ sym (add-assoc (answerCount x) (total xs) (total ys))
 
+-- ## Chains of accepted calls
+
+-- `of` makes a call of a pass
+module _ (w h : ℕ) (of : Pass → Call) (same : (s : Pass) → of s .pass ≡ s) where
+  abbrev Taken : Pass → Type 0
+  Taken s = passRefusal w h (w * h) (of s) ≡ 0
+
+  abbrev runs : State → List Pass → State
+  runs s ss = chain w h s (map of ss)
+
+  abbrev after : State → Pass → State
+  after s t = record {
+    plane = passed (four w) t (s .plane);
+    answers = s .answers ++ (Done (passCount (four w) t (s .plane)) ∷ []);
+  }
+
+  one : (s : State) (t : Pass) → length (s .plane) ≡ w * h → Taken t → call w h s (of t) ≡ after s t
+  unfolding call
+  one s t l e = rw (l, e, same t, call) refl
+
+  pub chain-calls : (ss : List Pass) → All Taken ss → (s : State) → length (s .plane) ≡ w * h
+      → (runs s ss .plane ≡ run (four w) ss (s .plane))
+      × (total (runs s ss .answers) ≡ total (s .answers) + runCount (four w) ss (s .plane))
+  unfolding chain run runCount
+  chain-calls [] none s l = (refl, sym (add-zero (total (s .answers))))
+  chain-calls (t ∷ ss) (more e a) s l =
+      let next = after s t in
+      let n = passCount (four w) t (s .plane) in
+      let r = chain-calls ss a next (length-passed (four w) (four-sym w) t (s .plane) ∙ l) in
+      let sum : total (runs next ss .answers)
+      ≡ total (s .answers) + (n + runCount (four w) ss (passed (four w) t (s .plane))) =
+      omega (arith, r .1, total-append (s .answers) (Done n ∷ [])) in (
+        ap (λ (z : State). runs z ss .plane) (one s t l e) ∙ r .0,
+        ap (λ (z : State). total (runs z ss .answers)) (one s t l e) ∙ sum,
+      )
+
+-- ## The enhancement
+
 module _ (w h : ℕ) where
   abbrev Accepted : Pass → Type 0
   Accepted s = passRefusal w h (w * h) (callOf (w * h) s) ≡ 0
 
-  abbrev runs : State → List Pass → State
-  runs s ss = chain w h s (map (callOf (w * h)) ss)
-
-  one : (s : State) (t : Pass) → length (s .plane) ≡ w * h → Accepted t
-      → call w h s (callOf (w * h) t) ≡ record { plane = passed (four w) t (s .plane); answers = s .answers ++ (Done (passCount (four w) t (s .plane)) ∷ []) }
-  unfolding call callOf
-  one s t l e = rw (l, e, call) refl
-
   pub chain-runs : (ss : List Pass) → All Accepted ss → (s : State) → length (s .plane) ≡ w * h
-      → (runs s ss .plane ≡ run (four w) ss (s .plane)) × (total (runs s ss .answers) ≡ total (s .answers) + runCount (four w) ss (s .plane))
-  unfolding chain run runCount
-  chain-runs [] none s l = (refl, sym (add-zero (total (s .answers))))
-  chain-runs (t ∷ ss) (more e a) s l =
-      let next : State = record { plane = passed (four w) t (s .plane); answers = s .answers ++ (Done (passCount (four w) t (s .plane)) ∷ []) } in
-      let r = chain-runs ss a next (length-passed (four w) (four-sym w) t (s .plane) ∙ l) in
-      let sum : total (runs next ss .answers) ≡ total (s .answers) + (passCount (four w) t (s .plane) + runCount (four w) ss (passed (four w) t (s .plane))) =
-      omega (arith, r .1, total-append (s .answers) (Done (passCount (four w) t (s .plane)) ∷ [])) in
-      (ap (λ (z : State). runs z ss .plane) (one s t l e) ∙ r .0, ap (λ (z : State). total (runs z ss .answers)) (one s t l e) ∙ sum)
+      → (chain w h s (map (callOf (w * h)) ss) .plane ≡ run (four w) ss (s .plane))
+      × (total (chain w h s (map (callOf (w * h)) ss) .answers) ≡ total (s .answers) + runCount (four w) ss (s .plane))
+  unfolding callOf
+  chain-runs = chain-calls w h (callOf (w * h)) (λ s. refl)
 
   -- an enhancement whose passes are all accepted: the recursion's plane and sum
   pub enhanced-recursion : (last area : ℕ) (rule : Rule) (p : List ℕ) → last ≤ 7 → length p ≡ w * h → All Accepted (passes last area rule)

@@ -1,0 +1,13 @@
+-- `passlists::answer` meets its contract: each answer follows from the test that led to it. Assumes nothing.
+use Rattle.passlists.proofs.Outcomes.{answer-refused, answer-done}
+use Rattle.passlists.proofs.answer.Statement.{statement}
+use Rattle.passlists.proofs.answer.Tie as tie
+
+returns : tie.Need-returns
+returns c = answer-refused _ _ (c .if1 .taken)
+
+returns-2 : tie.Need-returns-2
+returns-2 c = answer-done _ _ (c .if1 .left)
+
+pub answer-spec : {M : Type 1} → statement M
+answer-spec = tie.close (tie.spec returns returns-2)

@@ -1,0 +1,4 @@
+pub mod Format
+pub mod Refusals
+pub mod Outcomes
+pub mod Steps
