@@ -1,13 +1,13 @@
--- The invariant of a flood, from its first pixel to its last, over any neighbour relation. The entries in use are pixels
--- of the component, each once, and all that has changed is that they lost their marks; the neighbours of those already
--- spread from are no longer marked. When all have been spread from, the entries are closed under neighbours, so they are
--- the whole component. Assumes nothing.
+-- The invariant of a flood, from its first pixel to its last, over any neighbour relation that has the neighbours in a
+-- row. The entries in use are pixels of the component, each once, and all that has changed is that they lost their
+-- marks; no pixel beside them in their rows has the code, and no neighbour of those already spread from. When all have
+-- been spread from, the entries are closed under neighbours, so they are the whole component. Assumes nothing.
 use Prim.Native.Nat.{ℕ, zero, suc, _+_, _*_, _≤_, _<_}
 use mathlib.Core.Path.{_≡_, refl, sym, ap, ap₂, subst, _∙_}
 use mathlib.Core.Logic.{_⊎_, inl, inr}
 use mathlib.Core.Bool.{Bool, true, false, cond, _||_, true≢false}
 use mathlib.Core.List.{List}
-use native.Mathlib.Nat.{eq-or-lt-of-le}
+use native.Mathlib.Nat.{eq-or-lt-of-le, mul-mod-right}
 use native.Mathlib.Numerals.{add-one}
 use native.Mathlib.Omega.{arith}
 use lib.Dec.{eqb}
@@ -16,18 +16,21 @@ use lib.Seq.{getD-set-same, getD-set-other}
 use borrow.Author.Tests.{eq-eqb, ne-eqb}
 use Rattle.planes.specs.Lists.{at}
 use Rattle.planes.specs.Neighbours.{Near, Chain, here, step}
-use Rattle.planes.specs.Enumerations.{among, Place, Enumerates}
-use Rattle.planes.proofs.Tests.{or-left, or-right, or-false, same-test, less-or-not}
+use Rattle.planes.specs.Enumerations.{among, Enumerates}
+use Rattle.planes.proofs.Tests.{or-right, or-false, same-test, less-or-not}
 use Rattle.planes.proofs.Stores.{at-set}
 use Rattle.planes.proofs.Neighbours.{filled}
 use Rattle.planes.proofs.Enumerations.{among-at, among-place, entries-size}
 use Rattle.components.specs.Regions.{alike, region}
-use Rattle.components.specs.Floods.{Visited, passed, took, Taken, none, one, Spread, Room, Floodable, Flooded}
-use Rattle.components.proofs.Regions.{alike-of, alike-to, alike-near, region-below, region-linked}
-use Rattle.components.proofs.Visits.{room-for, room-took, room-of}
+use Rattle.components.specs.Floods.{inRow, rowEnd, Shut, Joined, Beyond, Taken, none, one, Reached, Spread}
+use Rattle.components.specs.Floods.{Room, Floodable, Flooded}
+use Rattle.components.proofs.Regions.{alike-of, alike-to, alike-near, alike-on, region-below, region-linked}
+use Rattle.components.proofs.Rows.{row-end-le}
+use Rattle.components.proofs.Taken.{room-for, room-less, room-of}
+use Rattle.components.proofs.Taken.{taken-kept, taken-room, taken-was, taken-map}
 
--- the first `tail` entries are pixels of the component of `start`, each once; they lost their marks, and nothing else has
--- changed since marks₀ and queue₀
+-- the first `tail` entries are pixels of the component of `start`, each once; they lost their marks, and nothing else
+-- has changed since marks₀ and queue₀
 pub record Searched (near : Near) (n code start : ℕ) (marks₀ queue₀ marks queue : List ℕ) (tail : ℕ) : Type 0 where
   pub below : (k : ℕ) → k < tail → at queue k < n
   pub fresh : (k : ℕ) → k < tail → among queue k (at queue k) ≡ false
@@ -38,13 +41,14 @@ pub record Searched (near : Near) (n code start : ℕ) (marks₀ queue₀ marks 
   pub marks-length : length marks ≡ length marks₀
   pub queue-length : length queue ≡ length queue₀
 
--- and no neighbour of the first `head` entries has the code
-pub record Flooding (near : Near) (n code start : ℕ) (marks₀ queue₀ marks queue : List ℕ) (head tail : ℕ)
+-- no pixel beside them in their rows has the code, and no neighbour of the first `head`
+pub record Flooding (near : Near) (w n code start : ℕ) (marks₀ queue₀ marks queue : List ℕ) (head tail : ℕ)
     : Type 0 where
   pub searched : Searched near n code start marks₀ queue₀ marks queue tail
   pub room : Room marks queue n code tail
-  pub started : among queue tail start ≡ true
+  pub begun : at marks start ≡ code → ⊥
   pub order : head ≤ tail
+  pub rows : (k : ℕ) → k < tail → Shut (inRow w) code marks (at queue k)
   pub closed : (k q : ℕ) → k < head → q < n → near (at queue k) q ≡ true → at marks q ≡ code → ⊥
 
 -- ## A pixel q that has the code is taken
@@ -61,21 +65,18 @@ module _ {near : Near} {n code start : ℕ} {marks₀ queue₀ marks queue : Lis
   space : tail < length queue
   space = room-for R q h e
 
-  inside : q < length marks
-  inside = omega (arith, R .covered)
-
-  mark-by : (p : ℕ) (t : Bool) → among queue tail p ≡ t → at marks p ≡ cond t 0 (at marks₀ p)
-  mark-by p t d = I .marks-are p ∙ ap (λ (t : Bool). cond t 0 (at marks₀ p)) d
+  mark-by : (t : Bool) → among queue tail q ≡ t → at marks q ≡ cond t 0 (at marks₀ q)
+  mark-by t d = I .marks-are q ∙ ap (λ (t : Bool). cond t 0 (at marks₀ q)) d
 
   free : among queue tail q ≡ false
   free = go (among queue tail q) refl
     where
       go : (t : Bool) → among queue tail q ≡ t → t ≡ false
-      go true d = absurd (omega (arith, R .real, sym e ∙ mark-by q true d))
+      go true d = absurd (omega (arith, R .real, sym e ∙ mark-by true d))
       go false d = refl
 
   had-it : at marks₀ q ≡ code
-  had-it = sym (mark-by q false free) ∙ e
+  had-it = sym (mark-by false free) ∙ e
 
   other : (k : ℕ) → (k ≡ tail → ⊥) → at queue' k ≡ at queue k
   other k d = getD-set-other queue tail k q 0 d
@@ -91,13 +92,8 @@ module _ {near : Near} {n code start : ℕ} {marks₀ queue₀ marks queue : Lis
   among-new p =
       rw add-one (ap₂ _||_ (among-old tail p (omega arith)) (ap (eqb p) (getD-set-same queue tail q 0 space)))
 
-  -- a pixel that has the code had it before
-  lost : (p : ℕ) → at marks' p ≡ code → at marks p ≡ code
-  lost p = at-set (λ (x : ℕ). x ≡ code → at marks p ≡ code) marks q p 0 inside
-      (λ _ z. absurd (omega (arith, R .real))) (λ _ z. z)
-
   new-marks : (p : ℕ) → at marks' p ≡ cond (among queue' (tail + 1) p) 0 (at marks₀ p)
-  new-marks p = at-set (λ (x : ℕ). x ≡ Mark (among queue' (tail + 1) p)) marks q p 0 inside
+  new-marks p = at-set (λ (x : ℕ). x ≡ Mark (among queue' (tail + 1) p)) marks q p 0 (omega (arith, R .covered))
       (λ d. sym (ap Mark (among-new p ∙ or-right (among queue tail p) (eqb p q) (eq-eqb p q d))))
       (λ d. I .marks-are p
       ∙ sym (ap Mark (among-new p ∙ ap (among queue tail p ||_) (ne-eqb p q d) ∙ or-false (among queue tail p))))
@@ -127,9 +123,18 @@ module _ {near : Near} {n code start : ℕ} {marks₀ queue₀ marks queue : Lis
     queue-length = rw length-set (I .queue-length);
   }
 
--- ## The first pixel
+-- pixels to which a chain leads are taken
+take-all : {near : Near} {n code start tail tail' : ℕ} {marks₀ queue₀ marks queue marks' queue' : List ℕ}
+    → Searched near n code start marks₀ queue₀ marks queue tail → Room marks queue n code tail
+    → Taken (Chain (alike near marks₀ code) n start) n code marks queue tail marks' queue' tail'
+    → Searched near n code start marks₀ queue₀ marks' queue' tail'
+take-all I R none = I
+take-all I R (one {q} t c h e) = push (take-all I R t) (taken-room R t) q h e c
 
-nothing-yet : (near : Near) (n code start : ℕ) (marks queue : List ℕ) → Searched near n code start marks queue marks queue 0
+-- ## The first run
+
+nothing-yet : (near : Near) (n code start : ℕ) (marks queue : List ℕ)
+    → Searched near n code start marks queue marks queue 0
 unfolding among
 nothing-yet near n code start marks queue = record {
   below = λ k l. absurd (omega arith);
@@ -142,109 +147,116 @@ nothing-yet near n code start marks queue = record {
   queue-length = refl;
 }
 
-begin : {near : Near} {n code start tail' : ℕ} {marks queue marks' queue' : List ℕ} → Room marks queue n code 0
-    → start < n → at marks start ≡ code → Visited marks queue code start 0 marks' queue' tail'
-    → Flooding near n code start marks queue marks' queue' 0 tail'
-begin R h e (passed f) = absurd (f e)
-begin {near} {n} {code} {start} {marks = marks} {queue = queue} R h e (took _) =
-    let I = nothing-yet near n code start marks queue in
-    record {
-      searched = push I R start h e here;
-      room = room-took R start h e;
-      started = among-new I R start h e start ∙ or-right (among queue 0 start) _ (eq-eqb start start refl);
-      order = omega arith;
-      closed = λ k q l. absurd (omega arith);
-    }
+module _ {near : Near} {marks queue : List ℕ} {w h code start : ℕ}
+    (rows-near : (u v : ℕ) → inRow w u v ≡ true → near u v ≡ true) (F : Floodable marks queue w h code start) where
+  ends : rowEnd w start ≤ w * h
+  ends = row-end-le w (w * h) start (F .size .wide) (mul-mod-right w h) (F .inside)
 
-pub flood-begin : {near : Near} {marks queue marks' queue' : List ℕ} {w h code start tail' : ℕ}
-    → Floodable marks queue w h code start → Visited marks queue code start 0 marks' queue' tail'
-    → Flooding near (w * h) code start marks queue marks' queue' 0 tail'
-flood-begin f v = begin (room-of f) (f .inside) (f .has) v
+  -- what `reach` requires of the first pixel
+  pub may-begin : (1 ≤ w) × Room marks queue (rowEnd w start) code 0
+  may-begin = (F .size .wide, room-less (room-of F) (rowEnd w start) ends)
 
--- ## Neighbours are taken
+  -- a chain leads to what is joined to `start` in its row
+  first-chain : (x : ℕ) → Joined (inRow w) (rowEnd w start) marks code start x
+      → Chain (alike near marks code) (w * h) start x
+  first-chain x j =
+      alike-on (inRow w) near (rowEnd w start) (w * h) code marks marks ends rows-near (λ u e. e) here (j .chain)
 
--- the entries in use have lost their marks
-pub entry-off : {near : Near} {n code start : ℕ} {marks₀ queue₀ marks queue : List ℕ} {tail : ℕ}
-    → Searched near n code start marks₀ queue₀ marks queue tail → (k : ℕ) → k < tail → at marks (at queue k) ≡ 0
-entry-off {marks₀ = marks₀} {queue = queue} {tail} I k l =
-    I .marks-are (at queue k) ∙ ap (λ (t : Bool). cond t 0 (at marks₀ (at queue k))) (among-at queue tail k l)
-
-module _ {near : Near} {n code start : ℕ} {marks₀ queue₀ : List ℕ} where
-  -- a neighbour q of the entry p
-  take-one : {head p q tail : ℕ} {marks queue : List ℕ} → Flooding near n code start marks₀ queue₀ marks queue head tail
-      → Place queue tail p → near p q ≡ true → q < n → at marks q ≡ code
-      → Flooding near n code start marks₀ queue₀ (set marks q 0) (set queue tail q) head (tail + 1)
-  take-one {p = p} {q = q} {tail = tail} {queue = queue} F r nearby h e =
-      let I = F .searched in
-      let R = F .room in
-      let chain = subst (Chain (alike near marks₀ code) n start) (r .holds) (I .reached (r .index) (r .below)) in
-      let had-p = subst (λ (x : ℕ). at marks₀ x ≡ code) (r .holds) (I .had (r .index) (r .below)) in
+  pub flood-begin : {tail' : ℕ} {marks' queue' : List ℕ} → Reached w code start marks queue 0 marks' queue' tail'
+      → Flooding near w (w * h) code start marks queue marks' queue' 0 tail'
+  flood-begin T =
+      let taken = taken-map ends first-chain (T .taken) in
       record {
-        searched = push I R q h e (step chain (alike-of near n code marks₀ had-p (had-it I R q h e) nearby) h);
-        room = room-took R q h e;
-        started = among-new I R q h e start ∙ or-left (among queue tail start) _ (F .started);
-        order = omega (arith, F .order);
-        closed = λ k r l hr b d.
-            let same = other I R q h e k (λ z. absurd (omega (arith, F .order))) in
-            F .closed k r l hr (subst (λ (x : ℕ). near x r ≡ true) same b) (lost I R q h e r d);
+        searched = take-all (nothing-yet near (w * h) code start marks queue) (room-of F) taken;
+        room = taken-room (room-of F) taken;
+        begun = T .off;
+        order = omega arith;
+        rows = λ k l. T .rows k (omega arith) l;
+        closed = λ k q l. absurd (omega arith);
       }
 
-  take-all : {head tail tail' : ℕ} {marks queue marks' queue' : List ℕ}
-      → Flooding near n code start marks₀ queue₀ marks queue head tail
-      → Taken near n code marks queue tail marks' queue' tail'
-      → Flooding near n code start marks₀ queue₀ marks' queue' head tail'
-  take-all F none = F
-  take-all F (one t r b h e) = take-one (take-all F t) r b h e
+-- ## One turn of the loop
 
--- what was in the queue stays
-kept : {near : Near} {n code tail tail' : ℕ} {marks queue marks' queue' : List ℕ}
-    → Taken near n code marks queue tail marks' queue' tail'
-    → (tail ≤ tail') × ((k : ℕ) → k < tail → at queue' k ≡ at queue k)
-kept none = (omega arith, λ k l. refl)
-kept (one {tail' = tail'} {queue' = queue'} t r b h e) =
-    let s = kept t in
-    (omega (arith, s .0), λ k l. getD-set-other queue' tail' k _ 0 (λ z. absurd (omega (arith, s .0))) ∙ s .1 k l)
+module _ {near : Near} {w n code start head tail : ℕ} {marks₀ queue₀ marks queue : List ℕ}
+    (F : Flooding near w n code start marks₀ queue₀ marks queue head tail) (l : head < tail) where
+  -- the entries in use have lost their marks
+  entry-off : (k : ℕ) → k < tail → at marks (at queue k) ≡ 0
+  entry-off k h =
+      F .searched .marks-are (at queue k)
+      ∙ ap (λ (t : Bool). cond t 0 (at marks₀ (at queue k))) (among-at queue tail k h)
 
--- one turn of the loop
-pub turn : {near : Near} {n code start head tail tail' : ℕ} {marks₀ queue₀ marks queue marks' queue' : List ℕ}
-    → Flooding near n code start marks₀ queue₀ marks queue head tail → head < tail
-    → Spread near n code (at queue head) marks queue tail marks' queue' tail'
-    → Flooding near n code start marks₀ queue₀ marks' queue' (head + 1) tail'
-turn {near} {n} {code} {head = head} {tail} {marks' = marks'} {queue' = queue'} F l s =
-    let G = take-all F (s .taken) in
-    let r = kept (s .taken) in
-    record {
-      searched = G .searched;
-      room = G .room;
-      started = G .started;
-      order = omega (arith, r .0);
-      closed = λ k q m hq b d. let m' : k ≤ head = omega arith in elim (eq-or-lt-of-le m') [
-        | inl c ↦ s .closed q hq (subst (λ (x : ℕ). near x q ≡ true) (ap (at queue') c ∙ r .1 head l) b) d
-        | inr c ↦ G .closed k q c hq b d
-      ];
-    }
+  -- what `spread` requires of the entry at the head
+  pub head-off : at marks (at queue head) ≡ code → ⊥
+  head-off e = absurd (omega (arith, F .room .real, sym (entry-off head l) ∙ e))
+
+  -- a pixel that has the code had it at the beginning
+  first-had : (x : ℕ) → at marks x ≡ code → at marks₀ x ≡ code
+  first-had x e = go (among queue tail x) refl
+    where
+      go : (t : Bool) → among queue tail x ≡ t → at marks₀ x ≡ code
+      go true d = absurd (omega (
+        arith,
+        F .room .real,
+        sym e ∙ F .searched .marks-are x ∙ ap (λ (t : Bool). cond t 0 (at marks₀ x)) d,
+      ))
+      go false d = sym (F .searched .marks-are x ∙ ap (λ (t : Bool). cond t 0 (at marks₀ x)) d) ∙ e
+
+  -- a chain leads to what is beyond the entry at the head
+  from-start : (x : ℕ) → Beyond near n marks code (at queue head) x → Chain (alike near marks₀ code) n start x
+  from-start x b =
+      let had = F .searched .had head l in
+      let first = first-had (b .next) (b .joined .has) in
+      let link = alike-of near n code marks₀ had first (b .nearby) in
+      alike-on near near n n code marks marks₀ (omega arith) (λ u v e. e) first-had
+      (step (F .searched .reached head l) link (b .below)) (b .joined .chain)
+
+  pub turn : {tail' : ℕ} {marks' queue' : List ℕ}
+      → Spread near w n code (at queue head) marks queue tail marks' queue' tail'
+      → Flooding near w n code start marks₀ queue₀ marks' queue' (head + 1) tail'
+  turn S =
+      let kept = taken-kept (S .taken) in
+      let was = taken-was (F .room) (S .taken) in
+      record {
+        searched = take-all (F .searched) (F .room) (taken-map (omega arith) from-start (S .taken));
+        room = taken-room (F .room) (S .taken);
+        begun = λ e. F .begun (was start e);
+        order = omega (arith, kept .0);
+        rows = λ k h x. elim (less-or-not k tail) [
+          | inl d ↦ λ e c. F .rows k d x (subst (λ (y : ℕ). inRow w y x ≡ true) (kept .1 k d) e) (was x c)
+          | inr d ↦ S .rows k d h x
+        ];
+        closed = λ k q m hq b d.
+            let m' : k ≤ head = omega arith in
+            let b' = subst (λ (x : ℕ). near x q ≡ true) (kept .1 k (omega arith)) b in
+            elim (eq-or-lt-of-le m') [
+              | inl c ↦ S .closed q hq (subst (λ (x : ℕ). near (at queue x) q ≡ true) c b') d
+              | inr c ↦ F .closed k q c hq b' (was q d)
+            ];
+      }
 
 -- ## The last pixel
 
-module _ {near : Near} {n code start : ℕ} {marks₀ queue₀ marks queue : List ℕ} {head tail : ℕ}
-    (F : Flooding near n code start marks₀ queue₀ marks queue head tail) (inside : start < n) (empty : tail ≤ head) where
+module _ {near : Near} {w n code start : ℕ} {marks₀ queue₀ marks queue : List ℕ} {head tail : ℕ}
+    (F : Flooding near w n code start marks₀ queue₀ marks queue head tail) (inside : start < n)
+    (has : at marks₀ start ≡ code) (empty : tail ≤ head) where
   abbrev Link : Near
   Link = alike near marks₀ code
 
+  -- a pixel that had the code and has it no longer is an entry
+  gone : (x : ℕ) → at marks₀ x ≡ code → (at marks x ≡ code → ⊥) → among queue tail x ≡ true
+  gone x e f = go (among queue tail x) refl
+    where
+      go : (t : Bool) → among queue tail x ≡ t → t ≡ true
+      go true d = refl
+      go false d = absurd (f (F .searched .marks-are x ∙ ap (λ (t : Bool). cond t 0 (at marks₀ x)) d ∙ e))
+
   -- the entries are closed under neighbours
   shut : (u v : ℕ) → u < n → v < n → among queue tail u ≡ true → Link u v ≡ true → among queue tail v ≡ true
-  shut u v hu hv m e = go (among queue tail v) refl
-    where
-      r : Place queue tail u
-      r = among-place queue tail u m
-
-      nearby : near (at queue (r .index)) v ≡ true
-      nearby = subst (λ (x : ℕ). near x v ≡ true) (sym (r .holds)) (alike-near near n code marks₀ u v e)
-
-      go : (t : Bool) → among queue tail v ≡ t → t ≡ true
-      go true d = refl
-      go false d = absurd (F .closed (r .index) v (omega (arith, r .below)) hv nearby
-          (F .searched .marks-are v ∙ ap (λ (t : Bool). cond t 0 (at marks₀ v)) d ∙ alike-to near n code marks₀ u v e))
+  shut u v hu hv m e =
+      let r = among-place queue tail u m in
+      let nearby = alike-near near n code marks₀ u v e in
+      gone v (alike-to near n code marks₀ u v e) (λ d. F .closed (r .index) v (omega (arith, r .below)) hv
+      (subst (λ (x : ℕ). near x v ≡ true) (sym (r .holds)) nearby) d)
 
   -- and a chain leads to each
   come : (u : ℕ) → u < n → among queue tail u ≡ true → Chain Link n start u
@@ -254,7 +266,7 @@ module _ {near : Near} {n code start : ℕ} {marks₀ queue₀ marks queue : Lis
 
   is-region : (x : ℕ) → among queue tail x ≡ region near n marks₀ code start x
   is-region x = elim (less-or-not x n) [
-    | inl h ↦ filled Link n start (among queue tail) inside (F .started) shut come x h
+    | inl h ↦ filled Link n start (among queue tail) inside (gone start has (F .begun)) shut come x h
         ∙ sym (region-linked near n code marks₀ start x h)
     | inr h ↦ same-test (among queue tail x) (region near n marks₀ code start x)
         (λ m. let r = among-place queue tail x m in

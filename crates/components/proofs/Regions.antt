@@ -1,10 +1,11 @@
 -- Regions as sets, over any neighbour relation: a region is what chains of neighbours that have the code reach, it is
 -- one for all its pixels where the relation is symmetric, and it stays as it is when the pixels of whole other regions
 -- get marks that are not the code. Each law goes by induction over a chain. Assumes nothing.
-use Prim.Native.Nat.{ℕ, _<_}
+use Prim.Native.Nat.{ℕ, _≤_, _<_}
 use mathlib.Core.Path.{_≡_, refl, sym, ap, ap₂, _∙_}
 use mathlib.Core.Bool.{Bool, true, false, cond, _&&_}
 use mathlib.Core.List.{List}
+use native.Mathlib.Omega.{arith}
 use lib.Dec.{ltb, eqb}
 use borrow.Author.Tests.{eqb-true, eq-eqb, lt-ltb, ltb-true}
 use Rattle.planes.specs.Lists.{at}
@@ -89,9 +90,24 @@ module _ (near : Near) (n code : ℕ) (marks : List ℕ) where
         (λ d. link-trans Link n s v u hv d (link-near Link n (alike-sym v u ∙ e)))
         ∙ sym (region-linked s v hv)
 
+-- ## Chains of one relation go on with those of another
+
+-- where near₁ holds near does, and what has the code in marks₁ has it in marks
+pub alike-on : (near₁ near : Near) (m n code : ℕ) (marks₁ marks : List ℕ) → m ≤ n
+    → ((u v : ℕ) → near₁ u v ≡ true → near u v ≡ true) → ((u : ℕ) → at marks₁ u ≡ code → at marks u ≡ code)
+    → {s i j : ℕ} → Chain (alike near marks code) n s i → Chain (alike near₁ marks₁ code) m i j
+    → Chain (alike near marks code) n s j
+alike-on near₁ near m n code marks₁ marks h f g c here = c
+alike-on near₁ near m n code marks₁ marks h f g c (step {j = j} {k = k} d e l) =
+    let from-j = g j (alike-from near₁ m code marks₁ j k e) in
+    let to-k = g k (alike-to near₁ m code marks₁ j k e) in
+    let nearby = f j k (alike-near near₁ m code marks₁ j k e) in
+    let link = alike-of near n code marks from-j to-k nearby in
+    step (alike-on near₁ near m n code marks₁ marks h f g c d) link (omega arith)
+
 -- ## Whole regions get other marks
 
--- `marks'` differs from `marks` in that the pixels that are gone, which are whole regions, have other marks than the code
+-- marks' differs from marks in that the pixels that are gone, which are whole regions, have other marks than the code
 module _ (near : Near) (n code : ℕ) (marks marks' : List ℕ) (gone : ℕ → Bool) (other : ℕ → ℕ)
     (differs : (p : ℕ) → other p ≡ code → ⊥) (marks-are : (p : ℕ) → at marks' p ≡ cond (gone p) (other p) (at marks p))
     (whole : (u v : ℕ) → u < n → v < n → alike near marks code u v ≡ true → gone u ≡ gone v) where
@@ -111,13 +127,10 @@ module _ (near : Near) (n code : ℕ) (marks marks' : List ℕ) (gone : ℕ → 
   is p d e = mark-by p false d ∙ e
 
   before : {s x : ℕ} → Chain (alike near marks' code) n s x → Chain (alike near marks code) n s x
-  before here = here
-  before (step {j = j} {k = k} c e l) =
-      let from-j = was j (alike-from near n code marks' j k e) .1 in
-      let to-k = was k (alike-to near n code marks' j k e) .1 in
-      step (before c) (alike-of near n code marks from-j to-k (alike-near near n code marks' j k e)) l
+  before c = alike-on near near n n code marks' marks (omega arith) (λ u v e. e) (λ u e. was u e .1) here c
 
-  after : {s x : ℕ} → s < n → gone s ≡ false → Chain (alike near marks code) n s x → Chain (alike near marks' code) n s x
+  after : {s x : ℕ} → s < n → gone s ≡ false → Chain (alike near marks code) n s x
+      → Chain (alike near marks' code) n s x
   after h d here = here
   after {s} h d (step {j = j} {k = k} c e l) =
       let r = along near n code marks gone whole h c in

@@ -1,10 +1,16 @@
 -- Rows of a plane as stretches of its pixels, and facts of every pixel of a stretch. Assumes nothing.
-use Prim.Native.Nat.{ℕ, suc, _+_, _*_, _/_, _%_, _≤_, _<_}
-use mathlib.Core.Path.{_≡_, sym, ap, subst, _∙_}
-use mathlib.Core.Logic.{⊎-elim, inl, inr}
-use native.Mathlib.Nat.{eq-or-lt-of-le, div-add-mod', mul-le-mul-right, mul-comm, add-mul, one-mul}
+use Prim.Native.Nat.{ℕ, _+_, _-_, _*_, _/_, _%_, _≤_, _<_}
+use mathlib.Core.Path.{_≡_, sym, ap, ap₂, subst, _∙_}
+use mathlib.Core.Logic.{_⊎_, ⊎-elim, inl, inr}
+use mathlib.Core.Bool.{true, _&&_}
+use native.Mathlib.Nat.{eq-or-lt-of-le, div-add-mod', mod-lt, mul-le-mul-right, mul-comm, add-mul, one-mul}
 use native.Mathlib.Omega.{arith}
-use lib.Arith.{digits-mod}
+use lib.Arith.{digits-div}
+use lib.Dec.{eqb}
+use borrow.Author.Tests.{eqb-true, eq-eqb}
+use Rattle.planes.specs.Neighbours.{apart}
+use Rattle.planes.proofs.Tests.{or-cases, or-left, or-comm, and-left, and-right, and-both, eqb-sym, less-or-not}
+use Rattle.components.specs.Floods.{inRow, rowEnd}
 
 -- ## Row y of a plane of w columns and h rows is the w pixels from y * w on
 
@@ -21,15 +27,45 @@ past-rows y w h p =
     let m : h * w ≤ y * w = mul-le-mul-right w p in
     omega (arith, mul-comm w h)
 
--- rows are whole, so a pixel that is not the last of its row is not the last of the plane
-pub in-row : (w n p : ℕ) → 1 ≤ w → n % w ≡ 0 → p < n → p % w + 1 < w → p + 1 < n
-in-row w n p wide whole h l = elim (eq-or-lt-of-le h) [
-  | inl e ↦ absurd (omega (arith, sym (digits-mod (p / w) l) ∙ ap (_% w) (assoc ∙ e) ∙ whole))
-  | inr k ↦ omega arith
-]
-  where
-    assoc : p / w * w + (p % w + 1) ≡ suc p
-    assoc = omega (arith, div-add-mod' p w)
+module _ (w : ℕ) where
+  pub row-bounds : (p : ℕ) → 1 ≤ w → (p / w * w ≤ p) × (p < rowEnd w p)
+  row-bounds p wide =
+      let whole = div-add-mod' p w in
+      let column = mod-lt p wide in
+      (omega arith, omega arith)
+
+  pub row-of : (y p : ℕ) → y * w ≤ p → p < y * w + w → p / w ≡ y
+  row-of y p l h =
+      let c : p - y * w < w = omega arith in
+      let e : y * w + (p - y * w) ≡ p = omega arith in
+      sym (ap (_/ w) e) ∙ digits-div y c
+
+  -- rows are whole, so each ends within the plane
+  pub row-end-le : (n p : ℕ) → 1 ≤ w → n % w ≡ 0 → p < n → rowEnd w p ≤ n
+  row-end-le n p wide whole h = elim (less-or-not (p / w) (n / w)) [
+    | inl l ↦ omega (arith, row-inside (p / w) w (n / w) l, mul-comm w (n / w), div-add-mod' n w)
+    | inr l ↦ omega (arith, mul-le-mul-right w l, div-add-mod' n w, row-bounds p wide .0)
+  ]
+
+  -- ## Neighbours in a row
+
+  pub in-row : (p q : ℕ) → inRow w p q ≡ true → (q / w ≡ p / w) × ((p + 1 ≡ q) ⊎ (q + 1 ≡ p))
+  unfolding inRow
+  in-row p q e =
+      let row = eqb-true (p / w) (q / w) (and-left (eqb (p / w) (q / w)) (apart p q) e) in
+      let next = or-cases (eqb (p + 1) q) (eqb (q + 1) p) (and-right (eqb (p / w) (q / w)) (apart p q) e) in
+      (sym row, elim next [ inl d ↦ inl (eqb-true (p + 1) q d) | inr d ↦ inr (eqb-true (q + 1) p d) ])
+
+  pub in-row-sym : (p q : ℕ) → inRow w p q ≡ inRow w q p
+  unfolding inRow
+  in-row-sym p q = ap₂ _&&_ (eqb-sym (p / w) (q / w)) (or-comm (eqb (p + 1) q) (eqb (q + 1) p))
+
+  -- two pixels of row y that follow each other
+  pub in-row-next : (y p q : ℕ) → y * w ≤ p → q < y * w + w → q ≡ p + 1 → inRow w p q ≡ true
+  unfolding inRow
+  in-row-next y p q l h e =
+      let row : p / w ≡ q / w = row-of y p l (omega arith) ∙ sym (row-of y q (omega arith) h) in
+      and-both (eq-eqb (p / w) (q / w) row) (or-left (eqb (p + 1) q) (eqb (q + 1) p) (eq-eqb (p + 1) q (sym e)))
 
 -- ## Facts of a stretch
 

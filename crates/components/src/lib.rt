@@ -4,15 +4,14 @@
 // next_pixel   the first pixel from one on, in reading order, that has the code
 // flood        takes the component of a pixel: its marks become 0, and its pixels are the first entries of the queue
 //
-// Which pixels are neighbours is known to `spread` alone.
-ghost use mathlib.Core.Path.{_≡_};
+// A pixel is taken with its run: the pixels of its row that have the code and follow one another. Which pixels of other
+// rows are neighbours is known to `spread` alone.
 ghost use Prim.Native.Nat.{_+_, _*_, _≤_, _<_};
 ghost use lib.ListN.{length};
-ghost use Rattle.planes.specs.Lists.{at};
 ghost use Rattle.planes.specs.Neighbours.{four};
 ghost use Rattle.components.specs.Search.{Searchable, Tells, Skipped, NextPixel};
-ghost use Rattle.components.specs.Floods.{Above, Left, Right, Below};
-ghost use Rattle.components.specs.Floods.{Visited, Spreadable, Spread, Floodable, Flooded};
+ghost use Rattle.components.specs.Floods.{rowEnd, Above, Below, RunStart, RunTaken, Reached};
+ghost use Rattle.components.specs.Floods.{Room, Spreadable, Spread, Floodable, Flooded};
 
 // What a search finds.
 pub enum Found {
@@ -77,39 +76,67 @@ pub fn next_pixel(marks: &[u8], w: usize, h: usize, code: u8, from: usize) -> Fo
     }
 }
 
-// Takes the pixel q if it has the code: its mark becomes 0, and it is put at the queue's tail. The new tail.
-fn visit(marks: &mut [u8], queue: &mut [u32], code: u8, q: usize, tail: usize) -> usize
-    requires { ⌜ (q < 1048576) × ((q < length (now marks)) × (at (now marks) q ≡ code → tail < length (now queue))) ⌝ }
-    ensures { λ r. ⌜ Visited (now (marks .entry)) (now (queue .entry)) code q tail (now (marks .exit))
+// The first pixel of the run of pixels that have the code and end before q, in the row that starts at `row`; q if the
+// pixel before it has not the code.
+fn run_start(marks: &[u8], code: u8, row: usize, q: usize) -> usize
+    requires { ⌜ (row ≤ q) × (q ≤ length (now marks)) ⌝ }
+    ensures { λ r. ⌜ RunStart (now (marks .entry)) code row q r ⌝ }
+{
+    let mut first = q;
+    while row < first {
+        if marks[first - 1] != code {
+            return first;
+        }
+        first -= 1;
+    }
+    first
+}
+
+// Takes pixels from `at` on while they have the code, up to `end`: the mark of each becomes 0, and it is put at the
+// queue's tail. The new tail.
+fn take_run(
+    marks: &mut [u8],
+    queue: &mut [u32],
+    code: u8,
+    at: usize,
+    end: usize,
+    tail: usize,
+) -> usize
+    requires { ⌜ (at ≤ end) × Room (now marks) (now queue) end code tail ⌝ }
+    ensures { λ r. ⌜ RunTaken code at end (now (marks .entry)) (now (queue .entry)) tail (now (marks .exit))
+        (now (queue .exit)) r ⌝ }
+{
+    let mut next = tail;
+    for p in at..end {
+        if marks[p] != code {
+            return next;
+        }
+        marks[p] = 0;
+        queue[next] = p as u32;
+        next += 1;
+    }
+    next
+}
+
+// Takes the pixel q, if it has the code, with the run of its row. The new tail.
+fn reach(marks: &mut [u8], queue: &mut [u32], w: usize, code: u8, q: usize, tail: usize) -> usize
+    requires { ⌜ (1 ≤ w) × Room (now marks) (now queue) (rowEnd w q) code tail ⌝ }
+    ensures { λ r. ⌜ Reached w code q (now (marks .entry)) (now (queue .entry)) tail (now (marks .exit))
         (now (queue .exit)) r ⌝ }
 {
     if marks[q] != code {
         return tail;
     }
-    marks[q] = 0;
-    queue[tail] = q as u32;
-    tail + 1
+    let row = q - q % w;
+    let first = run_start(marks, code, row, q);
+    take_run(marks, queue, code, first, row + w, tail)
 }
 
-// The neighbours of the pixel p in column x, of n pixels in rows of w: p itself where the plane ends there.
+// The neighbours of the pixel p above and below, of n pixels in rows of w: p itself where the plane ends there.
 fn above(p: usize, w: usize) -> usize
     ensures { λ r. ⌜ Above w p r ⌝ }
 {
     if p < w { p } else { p - w }
-}
-
-fn left(p: usize, x: usize) -> usize
-    requires { ⌜ x ≤ p ⌝ }
-    ensures { λ r. ⌜ Left x p r ⌝ }
-{
-    if x == 0 { p } else { p - 1 }
-}
-
-fn right(p: usize, x: usize, w: usize) -> usize
-    requires { ⌜ (x < w) × (p < 1048576) ⌝ }
-    ensures { λ r. ⌜ Right w x p r ⌝ }
-{
-    if x + 1 < w { p + 1 } else { p }
 }
 
 fn below(p: usize, w: usize, n: usize) -> usize
@@ -119,7 +146,8 @@ fn below(p: usize, w: usize, n: usize) -> usize
     if p + w < n { p + w } else { p }
 }
 
-// Takes the neighbours of the pixel p, which is in the queue, that have the code. The new tail.
+// Takes what is next to the pixel p, which was taken with the run of its row: the runs of its neighbours in other rows
+// that have the code. The new tail.
 fn spread(
     marks: &mut [u8],
     queue: &mut [u32],
@@ -130,14 +158,11 @@ fn spread(
     tail: usize,
 ) -> usize
     requires { ⌜ Spreadable (now marks) (now queue) w n code p tail ⌝ }
-    ensures { λ r. ⌜ Spread (four w) n code p (now (marks .entry)) (now (queue .entry)) tail (now (marks .exit))
+    ensures { λ r. ⌜ Spread (four w) w n code p (now (marks .entry)) (now (queue .entry)) tail (now (marks .exit))
         (now (queue .exit)) r ⌝ }
 {
-    let x = p % w;
-    let t1 = visit(marks, queue, code, above(p, w), tail);
-    let t2 = visit(marks, queue, code, left(p, x), t1);
-    let t3 = visit(marks, queue, code, right(p, x, w), t2);
-    visit(marks, queue, code, below(p, w, n), t3)
+    let next = reach(marks, queue, w, code, above(p, w), tail);
+    reach(marks, queue, w, code, below(p, w, n), next)
 }
 
 // Takes the component of the pixel `start` among those that have the code, breadth first. The number of its pixels.
@@ -154,7 +179,7 @@ pub fn flood(
         (now (queue .exit)) r ⌝ }
 {
     let n = w * h;
-    let mut tail = visit(marks, queue, code, start, 0);
+    let mut tail = reach(marks, queue, w, code, start, 0);
     let mut head = 0;
     while head < tail {
         let p = queue[head] as usize;

@@ -1,16 +1,16 @@
--- `components::flood` meets its contract. The loop's invariant, `Flooding`, is stated over every beginning from which the
--- flood may have come to where the loop begins, since an invariant does not see the function's entry; `so-far` applies it
--- to the entry. The measure is what the head has left of the queue. Assumes nothing.
-use Prim.Native.Nat.{ℕ, _+_, _-_, _*_, _≤_, _<_}
-use mathlib.Core.Path.{_≡_, refl, sym, _∙_}
+-- `components::flood` meets its contract. The loop's invariant, `Flooding`, is stated over every beginning from which
+-- the flood may have come to where the loop begins, since an invariant does not see the function's entry; f is the
+-- invariant from the entry s on. The measure is what the head has left of the queue. Assumes nothing.
+use Prim.Native.Nat.{ℕ, _-_}
+use mathlib.Core.Path.{_≡_, refl}
 use mathlib.Core.List.{List}
 use native.Mathlib.Nat.{mul-mod-right}
 use native.Mathlib.Omega.{arith}
 use borrow.Author.Needs.{needs}
 use lib.ListN.{length}
 use Rattle.planes.specs.Neighbours.{four}
-use Rattle.components.proofs.Visits.{room-of, may-visit}
-use Rattle.components.proofs.Flooding.{Flooding, flood-begin, turn, finish, entry-off}
+use Rattle.components.proofs.Flooding.{Flooding, head-off, turn, finish}
+use Rattle.components.proofs.Four.{four-may-begin, four-begin}
 use Rattle.components.proofs.flood.Statement.{statement}
 use Rattle.components.proofs.flood.Tie as tie
 
@@ -18,8 +18,8 @@ abbrev Inv-loop : tie.InvT-loop
 Inv-loop marks₀ queue₀ w h code start n tail₀ head₀ marks queue tail head =
     (length marks ≡ length marks₀)
     × ((length queue ≡ length queue₀)
-    × ((marks' queue' : List ℕ) → Flooding (four w) n code start marks' queue' marks₀ queue₀ head₀ tail₀
-    → Flooding (four w) n code start marks' queue' marks queue head tail))
+    × ((marks' queue' : List ℕ) → Flooding (four w) w n code start marks' queue' marks₀ queue₀ head₀ tail₀
+    → Flooding (four w) w n code start marks' queue' marks queue head tail))
 
 abbrev μ-loop : tie.MeasureT-loop
 μ-loop marks₀ queue₀ w h code start n tail₀ head₀ marks queue tail head = length queue - head
@@ -27,10 +27,8 @@ abbrev μ-loop : tie.MeasureT-loop
 mul-n : tie.Need-mul-n Inv-loop μ-loop
 mul-n c = omega (arith, c .before .before .pre .size .few)
 
-visit-requires : tie.Need-visit-requires Inv-loop μ-loop
-visit-requires c κs =
-    let s = c .before .before .before .before in
-    may-visit (room-of (s .pre)) _ (s .pre .inside)
+reach-requires : tie.Need-reach-requires Inv-loop μ-loop
+reach-requires c κs = four-may-begin (c .before .before .before .before .pre)
 
 loop-holds : tie.Need-loop-holds Inv-loop μ-loop
 loop-holds c = (refl, (refl, λ _ _ f. f))
@@ -40,7 +38,7 @@ mul-p c =
     let l = c .before in
     let v = l .before .before .before .before .before in
     let s = v .before .before .before .before .before in
-    let f = l .loop .inv .1 .1 _ _ (flood-begin {near = four (s .args .w)} (s .pre) (v .visit .ensures)) in
+    let f = l .loop .inv .1 .1 _ _ (four-begin (s .pre) (v .reach .ensures)) in
     omega (arith, f .room .spare, c .loop-test .taken)
 
 slice-read-p : tie.Need-slice-read-p Inv-loop μ-loop
@@ -48,7 +46,7 @@ slice-read-p c =
     let l = c .before .before in
     let v = l .before .before .before .before .before in
     let s = v .before .before .before .before .before in
-    let f = l .loop .inv .1 .1 _ _ (flood-begin {near = four (s .args .w)} (s .pre) (v .visit .ensures)) in
+    let f = l .loop .inv .1 .1 _ _ (four-begin (s .pre) (v .reach .ensures)) in
     omega (arith, f .room .spare, c .before .loop-test .taken)
 
 cast-p : tie.Need-cast-p Inv-loop μ-loop
@@ -59,7 +57,7 @@ add-head c =
     let l = c .before .before in
     let v = l .before .before .before .before .before in
     let s = v .before .before .before .before .before in
-    let f = l .loop .inv .1 .1 _ _ (flood-begin {near = four (s .args .w)} (s .pre) (v .visit .ensures)) in
+    let f = l .loop .inv .1 .1 _ _ (four-begin (s .pre) (v .reach .ensures)) in
     omega (arith, f .room .spare, c .before .loop-test .taken)
 
 spread-requires : tie.Need-spread-requires Inv-loop μ-loop
@@ -67,15 +65,15 @@ spread-requires c κs =
     let l = c .before .before .before .before in
     let v = l .before .before .before .before .before in
     let s = v .before .before .before .before .before in
-    let f = l .loop .inv .1 .1 _ _ (flood-begin {near = four (s .args .w)} (s .pre) (v .visit .ensures)) in
+    let f = l .loop .inv .1 .1 _ _ (four-begin (s .pre) (v .reach .ensures)) in
     let t = c .before .before .before .loop-test .taken in
     record {
       wide = s .pre .size .wide;
       narrow = s .pre .size .narrow;
       whole = mul-mod-right (s .args .w) (s .args .h);
       inside = f .searched .below _ t;
-      off = entry-off (f .searched) _ t;
-      queued = record { index = l .loop .head; below = t; holds = refl };
+      off = head-off f t;
+      shut = f .rows _ t;
       room = f .room;
     }
 
@@ -84,7 +82,7 @@ loop-less c =
     let l = c .before .before .before .before .before .before .before .before .before in
     let v = l .before .before .before .before .before in
     let s = v .before .before .before .before .before in
-    let f = l .loop .inv .1 .1 _ _ (flood-begin {near = four (s .args .w)} (s .pre) (v .visit .ensures)) in
+    let f = l .loop .inv .1 .1 _ _ (four-begin (s .pre) (v .reach .ensures)) in
     omega (arith, f .room .spare, c .before .before .before .before .before .before .before .before .loop-test .taken)
 
 loop-again : tie.Need-loop-again Inv-loop μ-loop
@@ -105,8 +103,8 @@ returns c =
     let l = c .before in
     let v = l .before .before .before .before .before in
     let s = v .before .before .before .before .before in
-    let f = l .loop .inv .1 .1 _ _ (flood-begin {near = four (s .args .w)} (s .pre) (v .visit .ensures)) in
-    finish f (s .pre .inside) (c .loop-test .left)
+    let f = l .loop .inv .1 .1 _ _ (four-begin (s .pre) (v .reach .ensures)) in
+    finish f (s .pre .inside) (s .pre .has) (c .loop-test .left)
 
 pub flood-spec : {M : Type 1} → statement M
 flood-spec =
@@ -115,7 +113,7 @@ flood-spec =
     Inv-loop
     μ-loop
     mul-n
-    visit-requires
+    reach-requires
     loop-holds
     mul-p
     slice-read-p

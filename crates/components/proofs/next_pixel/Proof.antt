@@ -1,7 +1,7 @@
 -- `components::next_pixel` meets its contract. The invariant of both loops: nothing is found yet, and no pixel from
--- `from` on and before the present one has the code. Their measures are the rows and the columns that are left. s is the
--- function's entry, `row` and `column` the turns of the loops. Assumes nothing.
-use Prim.Native.Nat.{ℕ, _+_, _*_, _-_, _≤_, _<_}
+-- `from` on and before the present one has the code. Their measures are the rows and the columns that are left. s is
+-- the function's entry, `row` and `column` the turns of the loops. Assumes nothing.
+use Prim.Native.Nat.{_+_, _*_, _-_, _≤_}
 use mathlib.Core.Path.{_≡_}
 use mathlib.Core.Logic.{⊎-elim}
 use native.Mathlib.Nat.{div-add-mod', mod-lt}

@@ -1,0 +1,76 @@
+-- `components::reach` meets its contract: where q has the code, the first pixel of its run is found and the run taken
+-- from there. s is the function's entry. Assumes nothing.
+use Prim.Native.Nat.{_-_}
+use native.Mathlib.Nat.{div-add-mod'}
+use native.Mathlib.Omega.{arith}
+use borrow.Author.Needs.{needs}
+use Rattle.components.proofs.Rows.{row-bounds}
+use Rattle.components.proofs.Taken.{room-less}
+use Rattle.components.proofs.Runs.{not-reached, reached}
+use Rattle.components.proofs.reach.Statement.{statement}
+use Rattle.components.proofs.reach.Tie as tie
+
+slice-read-if1 : tie.Need-slice-read-if1
+slice-read-if1 c =
+    let s = c .before .before .before in
+    omega (arith, row-bounds (s .args .w) (s .args .q) (s .pre .0) .1, s .pre .1 .covered)
+
+returns : tie.Need-returns
+returns c = not-reached (c .if1 .taken)
+
+rem-row : tie.Need-rem-row
+rem-row c = search needs
+
+sub-row : tie.Need-sub-row
+sub-row c =
+    let s = c .before .before .before .before in
+    omega (arith, div-add-mod' (s .args .q) (s .args .w))
+
+run-start-requires : tie.Need-run-start-requires
+run-start-requires c κs =
+    let s = c .before .before .before .before .before in
+    (omega arith, omega (arith, row-bounds (s .args .w) (s .args .q) (s .pre .0) .1, s .pre .1 .covered))
+
+add-take-run : tie.Need-add-take-run
+add-take-run c =
+    let s = c .before .before .before .before .before .before .before .before in
+    let whole = div-add-mod' (s .args .q) (s .args .w) in
+    let bounds = row-bounds (s .args .w) (s .args .q) (s .pre .0) in
+    omega (arith, s .pre .1 .few)
+
+take-run-requires : tie.Need-take-run-requires
+take-run-requires c κs =
+    let s = c .before .before .before .before .before .before .before .before in
+    let whole = div-add-mod' (s .args .q) (s .args .w) in
+    let bounds = row-bounds (s .args .w) (s .args .q) (s .pre .0) in
+    (omega (arith, c .before .before .run-start .ensures .upto), room-less (s .pre .1) _ (omega arith))
+
+same-length : tie.Need-same-length
+same-length c = search needs
+
+same-length-2 : tie.Need-same-length-2
+same-length-2 c = search needs
+
+returns-2 : tie.Need-returns-2
+returns-2 c =
+    let s = c .before .before .before .before .before .before .before .before .before .before .before .before .before in
+    let i = c .before .before .before .before .before .before .before .before .before in
+    let run-start = c .before .before .before .before .before .before .before .run-start in
+    let take-run = c .before .before .before .before .take-run in
+    let whole = div-add-mod' (s .args .q) (s .args .w) in
+    reached (s .pre .0) (s .pre .1) (omega arith) (i .if1 .left) (run-start .ensures) (take-run .ensures)
+
+pub reach-spec : {M : Type 1} → statement M
+reach-spec =
+    tie.close
+    (tie.spec
+    slice-read-if1
+    returns
+    rem-row
+    sub-row
+    run-start-requires
+    add-take-run
+    take-run-requires
+    same-length
+    same-length-2
+    returns-2)
