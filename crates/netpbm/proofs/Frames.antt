@@ -83,16 +83,16 @@ pub header-accepts : {bytes : List ℕ} {w h maxval : ℕ} {raster : List ℕ} �
     → header bytes ≡ parsed (record { width = w; height = h; maxval = maxval }) raster
 unfolding header mark
 header-accepts {bytes} {w} {h} {maxval} {raster} p =
-    let after-depth = p .separator ∷ raster in
-    let after-height = p .spaces₃ ++ (p .depth ++ after-depth) in
-    let after-width = p .spaces₂ ++ (p .height ++ after-height) in
-    let after-mark = p .spaces₁ ++ (p .width ++ after-width) in
+    let after-maxval = p .separator ∷ raster in
+    let after-h = p .spaces₃ ++ (p .maxval-digits ++ after-maxval) in
+    let after-w = p .spaces₂ ++ (p .h-digits ++ after-h) in
+    let after-mark = p .spaces₁ ++ (p .w-digits ++ after-w) in
     let nested : bytes ≡ 80 ∷ 54 ∷ after-mark = p .parts ∙ simp append-assoc in
-    let width = field-accepts (p .spaces₁-are) (p .width-is) after-width (no-digit (p .spaces₂-are) _) in
-    let height = field-accepts (p .spaces₂-are) (p .height-is) after-height (no-digit (p .spaces₃-are) _) in
-    let end : takeWhile isDigit after-depth ≡ [] = rw (white-not-digit (p .separator) (p .separator-is)) in
-    let depth = field-accepts (p .spaces₃-are) (p .depth-is) after-depth end in
-    rw (nested, width, height, depth, p .separator-is)
+    let w-field = field-accepts (p .spaces₁-are) (p .w-is) after-w (no-digit (p .spaces₂-are) _) in
+    let h-field = field-accepts (p .spaces₂-are) (p .h-is) after-h (no-digit (p .spaces₃-are) _) in
+    let end : takeWhile isDigit after-maxval ≡ [] = rw (white-not-digit (p .separator) (p .separator-is)) in
+    let maxval-field = field-accepts (p .spaces₃-are) (p .maxval-is) after-maxval end in
+    rw (nested, w-field, h-field, maxval-field, p .separator-is)
 
 -- from the grammar to the parts
 pub record Split (bytes : List ℕ) (x : ℕ) (rest : List ℕ) : Type 0 where
@@ -127,27 +127,27 @@ spaced-splits p =
 pub header-parts : {bytes : List ℕ} {n : Numbers} {raster : List ℕ} → Parts bytes n raster
     → IsHeader bytes (n .width) (n .height) (n .maxval) raster
 header-parts {bytes} {n} {raster} p =
-    let width = spaced-splits (p .width-is) in
-    let height = spaced-splits (p .height-is) in
-    let depth = spaced-splits (p .maxval-is) in
-    let from-depth = depth .is ∙ ap (λ (l : List ℕ). depth .spaces ++ (depth .numeral ++ l)) (p .separator .is) in
-    let from-height = height .is ∙ ap (λ (l : List ℕ). height .spaces ++ (height .numeral ++ l)) from-depth in
-    let from-width = width .is ∙ ap (λ (l : List ℕ). width .spaces ++ (width .numeral ++ l)) from-height in
+    let w = spaced-splits (p .width-is) in
+    let h = spaced-splits (p .height-is) in
+    let m = spaced-splits (p .maxval-is) in
+    let from-maxval = m .is ∙ ap (λ (l : List ℕ). m .spaces ++ (m .numeral ++ l)) (p .separator .is) in
+    let from-h = h .is ∙ ap (λ (l : List ℕ). h .spaces ++ (h .numeral ++ l)) from-maxval in
+    let from-w = w .is ∙ ap (λ (l : List ℕ). w .spaces ++ (w .numeral ++ l)) from-h in
     record {
-      spaces₁ = width .spaces;
-      width = width .numeral;
-      spaces₂ = height .spaces;
-      height = height .numeral;
-      spaces₃ = depth .spaces;
-      depth = depth .numeral;
+      spaces₁ = w .spaces;
+      w-digits = w .numeral;
+      spaces₂ = h .spaces;
+      h-digits = h .numeral;
+      spaces₃ = m .spaces;
+      maxval-digits = m .numeral;
       separator = p .separator .byte;
-      parts = p .marked ∙ ap (λ (l : List ℕ). 80 ∷ 54 ∷ l) from-width ∙ simp append-assoc;
-      spaces₁-are = width .spaces-are;
-      width-is = width .numeral-is;
-      spaces₂-are = height .spaces-are;
-      height-is = height .numeral-is;
-      spaces₃-are = depth .spaces-are;
-      depth-is = depth .numeral-is;
+      parts = p .marked ∙ ap (λ (l : List ℕ). 80 ∷ 54 ∷ l) from-w ∙ simp append-assoc;
+      spaces₁-are = w .spaces-are;
+      w-is = w .numeral-is;
+      spaces₂-are = h .spaces-are;
+      h-is = h .numeral-is;
+      spaces₃-are = m .spaces-are;
+      maxval-is = m .numeral-is;
       separator-is = p .separator .test;
     }
 

@@ -1,4 +1,5 @@
--- The grammar of a header at places of the bytes. Assumes nothing.
+-- The parts of a header, each where its parser passes: the bytes that it takes and the bytes that it leaves.
+-- `header-passed` gathers them. Assumes nothing.
 use Prim.Native.Nat.{ℕ, _≤_, _<_}
 use mathlib.Core.Path.{_≡_, refl, sym, ap, _∙_}
 use mathlib.Core.Bool.{Bool, true, false, _&&_, cond, false≢true}

@@ -40,19 +40,19 @@ written-header : (raster : List ℕ) (w h : ℕ) → w < 1000000 → h < 1000000
 unfolding heading
 written-header raster w h wide high = record {
   spaces₁ = 10 ∷ [];
-  width = decimal w;
+  w-digits = decimal w;
   spaces₂ = 32 ∷ [];
-  height = decimal h;
+  h-digits = decimal h;
   spaces₃ = 10 ∷ [];
-  depth = decimal 255;
+  maxval-digits = decimal 255;
   separator = 10;
   parts = refl;
   spaces₁-are = one-space 10 line-feed;
-  width-is = decimal-numeral w wide;
+  w-is = decimal-numeral w wide;
   spaces₂-are = one-space 32 space;
-  height-is = decimal-numeral h high;
+  h-is = decimal-numeral h high;
   spaces₃-are = one-space 10 line-feed;
-  depth-is = decimal-numeral 255 (omega arith);
+  maxval-is = decimal-numeral 255 (omega arith);
   separator-is = line-feed;
 }
 

@@ -14,7 +14,7 @@ isDigit b = leb 48 b && leb b 57
 unfoldable pub isWhite : ℕ → Bool
 isWhite b = (leb 9 b && leb b 13) || eqb b 32
 
--- the header reader's next move, by the byte before it
+-- the header reader's next move, by the byte at its place
 unfoldable pub moveFor : ℕ → Move
 moveFor b = cond (isDigit b) (Take (b - 48)) (cond (isWhite b) Skip Stop)
 

@@ -25,20 +25,21 @@ pub record Numeral (x : ℕ) (s : List ℕ) : Type 0 where
 
 pub record IsHeader (bytes : List ℕ) (w h maxval : ℕ) (raster : List ℕ) : Type 0 where
   pub spaces₁ : List ℕ
-  pub width : List ℕ
+  pub w-digits : List ℕ
   pub spaces₂ : List ℕ
-  pub height : List ℕ
+  pub h-digits : List ℕ
   pub spaces₃ : List ℕ
-  pub depth : List ℕ
+  pub maxval-digits : List ℕ
   pub separator : ℕ
   pub parts : bytes
-      ≡ (80 ∷ 54 ∷ []) ++ spaces₁ ++ width ++ spaces₂ ++ height ++ spaces₃ ++ depth ++ (separator ∷ []) ++ raster
+      ≡ (80 ∷ 54 ∷ []) ++ spaces₁ ++ w-digits ++ spaces₂ ++ h-digits ++ spaces₃ ++ maxval-digits
+      ++ (separator ∷ []) ++ raster
   pub spaces₁-are : Spaces spaces₁
-  pub width-is : Numeral w width
+  pub w-is : Numeral w w-digits
   pub spaces₂-are : Spaces spaces₂
-  pub height-is : Numeral h height
+  pub h-is : Numeral h h-digits
   pub spaces₃-are : Spaces spaces₃
-  pub depth-is : Numeral maxval depth
+  pub maxval-is : Numeral maxval maxval-digits
   pub separator-is : isWhite separator ≡ true
 
 pub record IsFrame (bytes : List ℕ) (limit w h offset : ℕ) : Type 0 where

@@ -21,6 +21,7 @@ abbrev pub Parser : Type 0 → Type 0
 Parser A = List ℕ → Parsed A
 
 module _ {A B : Type 0} where
+  -- where the first parser fails both do; else the second goes on with its value and with what it leaves
   abbrev pub next : Parsed A → (A → Parser B) → Parsed B
   next failed f = failed
   next (parsed a rest) f = f a rest
@@ -56,6 +57,7 @@ abbrev pub dropWhile : (ℕ → Bool) → List ℕ → List ℕ
 dropWhile f [] = []
 dropWhile f (b ∷ bytes) = cond (f b) (dropWhile f bytes) (b ∷ bytes)
 
+-- a run that was taken, unless it is empty
 abbrev pub some : List ℕ → List ℕ → Parsed (List ℕ)
 some [] rest = failed
 some (b ∷ taken) rest = parsed (b ∷ taken) rest

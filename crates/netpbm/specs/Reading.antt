@@ -11,7 +11,7 @@ use Rattle.netpbm.specs.Grammar.{Numbers, header}
 use Rattle.netpbm.specs.declared.Header.{Header}
 use Rattle.netpbm.specs.declared.Header.the-variants.{Refused, Frame}
 
--- the refusal of a frame of `limit` pixels at most whose header has these numbers and is followed by so many bytes
+-- the first refusal that applies to a header with these numbers before so many bytes, where `limit` pixels are allowed
 unfoldable pub frameRefusal : ℕ → ℕ → ℕ → ℕ → ℕ → ℕ
 frameRefusal w h maxval raster limit =
     sizeRefusal w h limit ▷ when (not (eqb maxval 255)) 11
@@ -29,5 +29,6 @@ answered bytes limit (parsed n raster) =
     framed (frameRefusal (n .width) (n .height) (n .maxval) (length raster) limit)
     (n .width) (n .height) (length bytes - length raster)
 
+-- the answer for a list of bytes
 unfoldable pub readAnswer : List ℕ → ℕ → Header
 readAnswer bytes limit = answered bytes limit (header bytes)

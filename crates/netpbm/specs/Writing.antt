@@ -3,7 +3,9 @@
 --   decimal x      the digits of x
 --   heading w h    P6, LF, width, space, height, LF, 255, LF
 --   encoding       the heading and the raster
+--   writeRefusal   the first refusal that applies, or 0
 --   Wrote          the contract of writing: its answer, and the output after it
+--   Put            the contract of the functions that put bytes into the output
 use Prim.Native.Nat.{ℕ, zero, suc, _+_, _*_, _/_, _%_}
 use mathlib.Core.Path.{_≡_}
 use mathlib.Core.Bool.{cond, not}

@@ -20,7 +20,7 @@ const DIGITS: usize = 6;
 // The third number of a header: the greatest value of a channel.
 const MAXVAL: usize = 255;
 
-// What the header reader does next, by the byte before it.
+// What the header reader does next, by the byte at its place.
 enum Move {
     // A digit of this value: take it into the number.
     Take(u8),
@@ -30,9 +30,9 @@ enum Move {
     Stop,
 }
 
-// A number of a header: its value and the place after its last digit.
+// A number of a header: its value, and the place after its last digit.
 enum Number {
-    Read { value: usize, next: usize },
+    Read(usize, usize),
     Malformed,
 }
 
@@ -59,13 +59,13 @@ pub enum Written {
     Length(usize),
 }
 
-// Header bytes sorted into digits, whitespace (TAB, LF, VT, FF, CR and space) and the rest.
+// Header bytes sorted into digits, whitespace (TAB, LF, VT, FF and CR, which are 9 to 13, and space) and the rest.
 fn sorted(byte: u8) -> Move
     ensures { λ r. ⌜ r ≡ moveFor byte ⌝ }
 {
     match byte {
-        48..=57 => Move::Take(byte - 48),
-        9..=13 | 32 => Move::Skip,
+        b'0'..=b'9' => Move::Take(byte - b'0'),
+        b'\t'..=b'\r' | b' ' => Move::Skip,
         _ => Move::Stop,
     }
 }
@@ -94,7 +94,7 @@ fn ended(digits: usize, value: usize, next: usize) -> Number
     if digits == 0 {
         return Number::Malformed;
     }
-    Number::Read { value, next }
+    Number::Read(value, next)
 }
 
 // The number whose digits begin at `from`.
@@ -159,10 +159,10 @@ fn marked(bytes: &[u8]) -> bool
     if bytes.len() < 2 {
         return false;
     }
-    if bytes[0] != 80 {
+    if bytes[0] != b'P' {
         return false;
     }
-    bytes[1] == 54
+    bytes[1] == b'6'
 }
 
 // The whole header.
@@ -172,25 +172,13 @@ fn read_header(bytes: &[u8]) -> Fields
     if !marked(bytes) {
         return Fields::Broken;
     }
-    let Number::Read {
-        value: w,
-        next: after_w,
-    } = read_field(bytes, 2)
-    else {
+    let Number::Read(w, after_w) = read_field(bytes, 2) else {
         return Fields::Broken;
     };
-    let Number::Read {
-        value: h,
-        next: after_h,
-    } = read_field(bytes, after_w)
-    else {
+    let Number::Read(h, after_h) = read_field(bytes, after_w) else {
         return Fields::Broken;
     };
-    let Number::Read {
-        value: maxval,
-        next: after_maxval,
-    } = read_field(bytes, after_h)
-    else {
+    let Number::Read(maxval, after_maxval) = read_field(bytes, after_h) else {
         return Fields::Broken;
     };
     if !separated(bytes, after_maxval) {
@@ -225,6 +213,7 @@ fn frame_refusal(w: usize, h: usize, maxval: usize, raster: usize, limit: usize)
     0
 }
 
+// Refused with 10 where the header is malformed or ended, and else with 1, 2, 11, 12 or 13, in that order.
 pub fn read_within(bytes: &[u8], limit: usize) -> Header
     ensures { λ r. ⌜ r ≡ readAnswer (now (bytes .entry)) limit ⌝ }
 {
@@ -244,6 +233,7 @@ pub fn read_within(bytes: &[u8], limit: usize) -> Header
     Header::Frame { w, h, offset }
 }
 
+// Refused as above, with 2 for more than 1,048,576 pixels.
 pub fn read(bytes: &[u8]) -> Header
     ensures { λ r. ⌜ r ≡ readAnswer (now (bytes .entry)) greatestPixels ⌝ }
 {
@@ -297,7 +287,7 @@ fn put_bytes(output: &mut [u8], at: usize, bytes: &[u8]) -> usize
     at + i
 }
 
-// Writes the digits of x into `output` from `at` on, and answers the place after them.
+// Writes the digits of x into `output` from `at` on, and answers the place after them. The code of 0 is 48.
 fn put_number(output: &mut [u8], at: usize, x: usize) -> usize
     requires { ⌜ (x < 1000000) × (at + length (decimal x) ≤ length (now output)) ⌝ }
     ensures { λ r. ⌜ Put (now (output .entry)) at (decimal x) r (now (output .exit)) ⌝ }
@@ -323,6 +313,8 @@ fn put_header(output: &mut [u8], w: usize, h: usize) -> usize
     put_bytes(output, after_h, b"\n255\n")
 }
 
+// Refused with 1, 2, 3 or 14, in that order; then `output` stays as it is. Else its first bytes are P6, LF, width,
+// space, height, LF, 255, LF and the raster, and the bytes beyond stay.
 pub fn write(raster: &[u8], w: usize, h: usize, output: &mut [u8]) -> Written
     ensures { λ r. ⌜ Wrote (now (raster .entry)) w h (now (output .entry)) r (now (output .exit)) ⌝ }
 {
