@@ -140,9 +140,9 @@ fn treat_component(
     if is_inert(plane, queue, m, pass) {
         return 0;
     }
-    let count = retone_component(plane, queue, m, pass);
+    let retoned = retone_component(plane, queue, m, pass);
     renumber(marks, plane, queue, m, next);
-    count
+    retoned
 }
 
 // Treats the components of the pixels that have the code. How many were retoned.
