@@ -232,7 +232,7 @@ fn settings_refusal(settings: Settings) -> u8
 }
 
 // 4 where marks or queue are shorter than n, else 14 where the output is shorter than 3 n, else 0.
-fn room_refusal(n: usize, marks: usize, queue: usize, output: usize) -> u8
+pub fn room_refusal(n: usize, marks: usize, queue: usize, output: usize) -> u8
     requires { ⌜ n ≤ 1048576 ⌝ }
     ensures { λ r. ⌜ r ≡ memoryRefusal n marks queue output ⌝ }
 {

@@ -1,0 +1,171 @@
+/*
+ * Morpho-local histogram equalisation (MLHE) of frames: the library's C functions.
+ *
+ * Built by `rt staticlib capi`, which writes target/staticlib/libcapi.a for x86-64 Linux. Every function is proved to
+ * meet the contract that crates/capi states, and this page says the same in words.
+ *
+ * Planes and frames. A plane has w columns and h rows, each 1 to 4,096, and n = w * h pixels, at most 1,048,576: one
+ * byte each, row by row, left to right. A frame has the bytes red, green, blue for each pixel: 3 * n bytes.
+ *
+ * Answers. Every function answers one number. A negative answer -k is refusal k of enum mlhe_refusal: the first that
+ * applies, in the order that is given with the function. A refused call changes no lent byte. An answer of 0 or more is
+ * the function's own.
+ *
+ * Lent memory. Each pointer is followed by the number of its elements, and that many elements have to be readable (and
+ * writable, where the pointer is not to const). Within one call no writable memory may overlap any other memory. A null
+ * pointer is allowed only with the length 0. Nothing is allocated, nothing is kept after the call, and there is no
+ * global state, so that threads may call with memory of their own. marks and queue are working memory: at least n
+ * elements each, with any content; their first n elements are unspecified after an accepted call, and all others keep
+ * their values.
+ */
+#ifndef MLHE_H
+#define MLHE_H
+
+#include <stddef.h>
+#include <stdint.h>
+
+#ifdef __cplusplus
+extern "C" {
+#endif
+
+/* What is turned down. A function answers the number with a minus sign. */
+enum mlhe_refusal {
+    MLHE_REFUSED_SIDES = 1,         /* a side is 0 or above MLHE_GREATEST_SIDE */
+    MLHE_REFUSED_PIXELS = 2,        /* more than MLHE_GREATEST_PIXELS pixels */
+    MLHE_REFUSED_LENGTHS = 3,       /* the plane is not n bytes, or the frame not 3 * n */
+    MLHE_REFUSED_MEMORY = 4,        /* marks or queue have fewer than n elements */
+    MLHE_REFUSED_INTERVAL = 5,      /* a is above b */
+    MLHE_REFUSED_AREA = 6,          /* the least area is 0 or above MLHE_GREATEST_PIXELS */
+    MLHE_REFUSED_LIMITS = 7,        /* plain: low is above high, or high above 25,500 */
+    MLHE_REFUSED_CLIP = 8,          /* limited: k is above 1,000 */
+    MLHE_REFUSED_LEVEL = 9,         /* the last level is above 7 */
+    MLHE_REFUSED_HEADER = 10,       /* the header is malformed, or the bytes end in it */
+    MLHE_REFUSED_MAXVAL = 11,       /* the header's third number is not 255 */
+    MLHE_REFUSED_RASTER = 12,       /* the raster is short */
+    MLHE_REFUSED_TRAILING = 13,     /* there are bytes after the raster */
+    MLHE_REFUSED_OUTPUT = 14,       /* the output is shorter than needed */
+    MLHE_REFUSED_LIST_MARK = 15,    /* a pass list's mark or version is wrong */
+    MLHE_REFUSED_LIST_LENGTH = 16,  /* a pass list's count or length is wrong */
+    MLHE_REFUSED_RULE = 17          /* no such rule, limited with second != 0, or a set zero byte in a pass list */
+};
+
+/* The tone rules. Each goes with two numbers, first and second. */
+enum mlhe_rule {
+    MLHE_PLAIN = 0,  /* first is low and second is high, in hundredths; low <= high <= 25,500 */
+    MLHE_LIMITED = 1 /* first is the clip k in thousandths, 0 to 1,000; second is 0 */
+};
+
+enum {
+    MLHE_GREATEST_SIDE = 4096,
+    MLHE_GREATEST_PIXELS = 1048576,
+    /* The most bytes that mlhe_write puts before the raster: P6, LF, width, space, height, LF, 255, LF. */
+    MLHE_GREATEST_HEADER = 17,
+    /* The house setting of mlhe_enhance. */
+    MLHE_HOUSE_LAST = 7,
+    MLHE_HOUSE_AREA = 20,
+    MLHE_HOUSE_RULE = MLHE_PLAIN,
+    MLHE_HOUSE_LOW = 80,
+    MLHE_HOUSE_HIGH = 300
+};
+
+/*
+ * Reads the header of a P6 frame and measures the rest.
+ *
+ * bytes     the whole file, at most one frame
+ * numbers   at least 3 elements: the first three become the width, the height, and the place of the raster's first
+ *           byte, from which on there are 3 * n bytes
+ *
+ * Answers 0. Refusals, in order: 10, 1, 2, 11, 12, 13, and 14 where numbers has fewer than 3 elements.
+ */
+int64_t mlhe_read(const uint8_t *bytes, size_t bytes_length, size_t *numbers, size_t numbers_length);
+
+/*
+ * Writes a P6 frame.
+ *
+ * raster    3 * n bytes
+ * output    room for the header and the raster: 3 * n + MLHE_GREATEST_HEADER bytes are always enough; what lies beyond
+ *           the written bytes stays
+ *
+ * Answers the number of bytes written. Refusals, in order: 1, 2, 3, 14.
+ */
+int64_t mlhe_write(const uint8_t *raster, size_t raster_length, size_t w, size_t h, uint8_t *output,
+                   size_t output_length);
+
+/*
+ * Fills a plane with the intensities of a frame: the mean of the three channels, rounded to nearest, halves upward.
+ *
+ * frame     3 * n bytes
+ * plane     n bytes, all of which are written
+ *
+ * Answers 0. Refusals, in order: 1, 2, 3.
+ */
+int64_t mlhe_intensity(const uint8_t *frame, size_t frame_length, size_t w, size_t h, uint8_t *plane,
+                       size_t plane_length);
+
+/*
+ * One pass: every four-connected component of the pixels with a value from a to b that has at least `area` pixels gets
+ * the rule on its own pixels; all other pixels stay.
+ *
+ * plane     n bytes, changed in place
+ * marks     working memory, at least n elements
+ * queue     working memory, at least n elements
+ * rule, first, second   as in enum mlhe_rule
+ *
+ * Answers the number of components that were retoned. Refusals, in order: 1, 2, 3, 4, 17, 5, 6, 7, 8. As in a record of
+ * a pass list, 17 (a rule other than 0 and 1, or limited with second not 0) is tested before the other numbers.
+ */
+int64_t mlhe_pass(uint8_t *plane, size_t plane_length, uint8_t *marks, size_t marks_length, uint32_t *queue,
+                  size_t queue_length, size_t w, size_t h, uint8_t a, uint8_t b, uint32_t area, uint8_t rule,
+                  uint16_t first, uint16_t second);
+
+/*
+ * The passes of a list, one after the other. All records are checked before the first pass runs.
+ *
+ * list      the bytes MLP, version 1 and the count of passes (0 to 1,024), both 16-bit, then 12 bytes for each pass:
+ *           a, b, rule, 0, area (32-bit), first and second (16-bit); of each number the low byte first
+ * plane, marks, queue   as for mlhe_pass
+ *
+ * Answers the sum of the passes' counts. Refusals, in order: 1, 2, 3, 4, 16 (fewer than 7 bytes), 15, 16, then for each
+ * record 17, 5, 6, 7, 8.
+ */
+int64_t mlhe_run_list(const uint8_t *list, size_t list_length, uint8_t *plane, size_t plane_length, uint8_t *marks,
+                      size_t marks_length, uint32_t *queue, size_t queue_length, size_t w, size_t h);
+
+/*
+ * Recolours a frame from new intensities, such as passes leave them in the plane that mlhe_intensity filled.
+ *
+ * frame     3 * n bytes
+ * plane     n bytes
+ * output    at least 3 * n bytes, of which the first 3 * n are written
+ *
+ * Answers 0. Refusals, in order: 1, 2, 3, 14.
+ */
+int64_t mlhe_recolour(const uint8_t *frame, size_t frame_length, size_t w, size_t h, const uint8_t *plane,
+                      size_t plane_length, uint8_t *output, size_t output_length);
+
+/*
+ * Enhances a frame: intensity, the passes of the levels 0 to `last` (level l has 2^l sections of equal width; level 0
+ * has no least area), and recolouring.
+ *
+ * frame     3 * n bytes
+ * last      0 to 7
+ * area      the least area of a component from level 1 on
+ * rule, first, second   as in enum mlhe_rule
+ * plane     n bytes, which become the new intensity
+ * marks     working memory, at least n elements
+ * queue     working memory, at least n elements
+ * output    at least 3 * n bytes, of which the first 3 * n become the recoloured frame
+ *
+ * Answers the number of components that were retoned, on all levels. Refusals, in order: 1, 2, 3, 4, 14, 17, 9, 6, 7, 8.
+ * 17 (a rule other than 0 and 1, or limited with second not 0) is tested before the other numbers of the setting.
+ */
+int64_t mlhe_enhance(const uint8_t *frame, size_t frame_length, size_t w, size_t h, uint8_t last, uint32_t area,
+                     uint8_t rule, uint16_t first, uint16_t second, uint8_t *plane, size_t plane_length,
+                     uint8_t *marks, size_t marks_length, uint32_t *queue, size_t queue_length, uint8_t *output,
+                     size_t output_length);
+
+#ifdef __cplusplus
+}
+#endif
+
+#endif
