@@ -22,6 +22,9 @@ use Rattle.model.specs.Calls.{lentRefusal, numbersRefusal, passRefusal, planeAf
 use Rattle.passes.specs.Calls.{refusalOf, PassOutcome}
 use Rattle.enhance.specs.declared.Settings.{Settings}
 use Rattle.enhance.specs.Calls as enhance
+use Rattle.model.specs.Runs.{runCount}
+use Rattle.passlists.specs.Format.{ruleOf, passesOf}
+use Rattle.passlists.specs.Outcomes.{fileRefusal, ListOutcome}
 use Rattle.netpbm.specs.declared.Header.{Header}
 use Rattle.netpbm.specs.declared.Header.the-variants as Header
 use Rattle.netpbm.specs.Reading.{readAnswer}
@@ -32,9 +35,9 @@ use Rattle.netpbm.proofs.Writing.{wrote-size, wrote-writable}
 use Rattle.netpbm.proofs.Heading.{heading-length}
 use Rattle.netpbm.proofs.Decimal.{decimal-numeral}
 use Rattle.capi.specs.Numbers.{encoded, statusNumber, answerNumber, writtenNumber, Short}
-use Rattle.capi.specs.Numbers.{ruleOf, formRefusal, passOf, settingsOf}
+use Rattle.capi.specs.Numbers.{formRefusal, passOf, settingsOf}
 use Rattle.capi.specs.Calls.{IntensityNumber, recolourRefusalOf, RecolourNumber}
-use Rattle.capi.specs.Calls.{Retoned, passRefusalOf, PassNumber, enhanceRefusalOf, EnhanceNumber}
+use Rattle.capi.specs.Calls.{Retoned, passRefusalOf, PassNumber, ListNumber, enhanceRefusalOf, EnhanceNumber}
 use Rattle.capi.specs.Calls.{readNumber, numbersAfter, ReadNumber, WriteNumber}
 use Rattle.capi.proofs.Numbers.{status-number, answer-number, written-number, refused-number}
 
@@ -148,6 +151,21 @@ module _ (w h a b area rule first second : ℕ) (plane marks queue : List ℕ) w
         queue-rest = made .queue-rest;
       }
 
+-- ## Lists
+
+pub list-made : {w h : ℕ} (list : List ℕ) {plane marks queue plane' marks' queue' : List ℕ} {s : Answer} {r : ℤ}
+    → ListOutcome w h list plane marks queue s plane' marks' queue' → r ≡ answerNumber s
+    → ListNumber w h list plane marks queue r plane' marks' queue'
+list-made {w} {h} list {plane} {marks} {queue} o g =
+    let refusal = fileRefusal w h list plane marks queue in
+    record {
+      answer = g ∙ ap answerNumber (o .answer) ∙ answer-number refusal (runCount (four w) (passesOf list) plane);
+      plane-is = o .plane-is;
+      refused = o .refused;
+      marks-rest = o .marks-rest;
+      queue-rest = o .queue-rest;
+    }
+
 -- ## Enhancement
 
 module _ (w h last area rule first second : ℕ) (frame plane marks queue output : List ℕ) where
@@ -214,7 +232,8 @@ module _ (w h last area rule first second : ℕ) (frame plane marks queue output
       let refusal = enhance.refusalOf w h theSettings frame plane marks queue output in
       let made : enhance.EnhanceOutcome w h theSettings frame plane marks queue output s plane' marks' queue' output' =
       subst
-      (λ (x : Rule). enhance.EnhanceOutcome w h (settled x) frame plane marks queue output s plane' marks' queue' output')
+      (λ (x : Rule).
+      enhance.EnhanceOutcome w h (settled x) frame plane marks queue output s plane' marks' queue' output')
       d o in
       record {
         answer = g ∙ ap answerNumber (made .answer) ∙ answer-number refusal count

@@ -4,6 +4,7 @@
 --   IntensityNumber   the contract of `mlhe_intensity`
 --   RecolourNumber    the contract of `mlhe_recolour`
 --   PassNumber        the contract of `mlhe_pass`
+--   ListNumber        the contract of `mlhe_run_list`
 --   EnhanceNumber     the contract of `mlhe_enhance`
 --   ReadNumber        the contract of `mlhe_read`
 --   WriteNumber       the contract of `mlhe_write`
@@ -22,6 +23,9 @@ use Rattle.colours.specs.Calls.{intensityRefusal, recolourRefusal}
 use Rattle.model.specs.declared.Pass.{Pass}
 use Rattle.model.specs.Passes.{passed, passCount}
 use Rattle.model.specs.Calls.{lentRefusal, numbersRefusal, planeAfter, total}
+use Rattle.model.specs.Runs.{run, runCount}
+use Rattle.passlists.specs.Format.{passesOf}
+use Rattle.passlists.specs.Outcomes.{fileRefusal}
 use Rattle.enhance.specs.declared.Settings.{Settings}
 use Rattle.enhance.specs.Calls.{settingsRefusal, memoryRefusal, chainOf}
 use Rattle.netpbm.specs.declared.Header.{Header}
@@ -48,7 +52,7 @@ pub record RecolourNumber (w h : ℕ) (frame plane output : List ℕ) (r : ℤ) 
   -- no byte is changed
   pub refused : (k : ℕ) → recolourRefusalOf w h frame plane output ≡ suc k → output' ≡ output
 
--- ## A pass: the number of retoned components
+-- ## A pass or a list of passes: the number of retoned components
 
 -- a plane that becomes `after` with so many components retoned, unless there is a refusal: that is the answer then, and
 -- nothing changes; marks and queue keep their lengths and all entries from n on in any case
@@ -71,6 +75,12 @@ PassNumber w h a b area rule first second plane marks queue =
     let s = passOf a b area rule first second in
     Retoned w h (passRefusalOf w h rule second s plane marks queue) (passCount (four w) s plane)
     (passed (four w) s plane) plane marks queue
+
+-- 1 to 4, 16 for fewer than 7 bytes, 15, 16, then for each record 17, 5 to 8
+abbrev pub ListNumber : (w h : ℕ) (list plane marks queue : List ℕ) (r : ℤ) (plane' marks' queue' : List ℕ) → Type 0
+ListNumber w h list plane marks queue =
+    Retoned w h (fileRefusal w h list plane marks queue) (runCount (four w) (passesOf list) plane)
+    (run (four w) (passesOf list) plane) plane marks queue
 
 -- ## An enhancement: the sum of its passes' counts
 

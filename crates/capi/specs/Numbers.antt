@@ -4,18 +4,15 @@
 --   statusNumber   the answer of intensity or recolouring, encoded
 --   answerNumber   the answer of a pass, a list or an enhancement, encoded
 --   writtenNumber  the answer of writing, encoded
---   ruleOf         the tone rule for three numbers, as in a record of a pass list
---   formRefusal    17 for three numbers that stand for no rule
+--   formRefusal    17 for numbers that stand for no rule, as in a record of a pass list
 --   passOf         the pass for its numbers
---   settingsOf     the settings for their numbers
+--   settingsOf     the settings for their numbers; the rule's are those of a record of a pass list
 use Prim.Native.Nat.{ℕ, zero, suc, _<_}
 use mathlib.Core.Path.{_≡_}
-use mathlib.Core.Bool.{not, cond, _&&_, _||_}
+use mathlib.Core.Bool.{not, _&&_, _||_}
 use lib.IntN.{ℤ, pos, negsuc}
 use lib.Dec.{ltb, eqb}
 use Rattle.planes.specs.Refusals.{when}
-use Rattle.tones.specs.declared.Rule.{Rule}
-use Rattle.tones.specs.declared.Rule.the-variants.{Plain, Limited}
 use Rattle.model.specs.declared.Pass.{Pass}
 use Rattle.colours.specs.declared.Status.{Status}
 use Rattle.colours.specs.declared.Status.the-variants as Status
@@ -24,6 +21,7 @@ use Rattle.model.specs.declared.Answer.the-variants as Answer
 use Rattle.netpbm.specs.declared.Written.{Written}
 use Rattle.netpbm.specs.declared.Written.the-variants as Written
 use Rattle.enhance.specs.declared.Settings.{Settings}
+use Rattle.passlists.specs.Format.{ruleOf}
 
 -- the number of a refusal, 0 where there is none, and a value; negsuc k is -(k + 1)
 abbrev pub encoded : ℕ → ℕ → ℤ
@@ -46,10 +44,6 @@ writtenNumber (Written.Length size) = encoded 0 size
 -- a length that a signed number of 64 bits holds
 pub record Short (r : Written) : Type 0 where
   pub short : (size : ℕ) → r ≡ Written.Length size → size < 9223372036854775808
-
--- the rule 0 is plain, with low and high; any other is limited, with k
-abbrev pub ruleOf : ℕ → ℕ → ℕ → Rule
-ruleOf rule first second = cond (eqb rule 0) (Plain first second) (Limited first)
 
 -- 17: the rule is not 0 or 1, or limited's second number is set
 unfoldable pub formRefusal : ℕ → ℕ → ℕ

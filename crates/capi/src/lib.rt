@@ -3,6 +3,7 @@
 //
 // mlhe_intensity   0: the plane holds the intensities of the frame
 // mlhe_pass        the number of retoned components
+// mlhe_run_list    the number of retoned components, of all passes
 // mlhe_recolour    0: the output holds the frame, recoloured
 // mlhe_enhance     the number of retoned components, of all levels
 // mlhe_read        0: width, height and the raster's offset are in the lent numbers
@@ -15,9 +16,10 @@ ghost use Rattle.planes.specs.Refusals.{_▷_};
 ghost use Rattle.colours.specs.Calls.{intensityRefusal};
 ghost use Rattle.model.specs.Calls.{lentRefusal};
 ghost use Rattle.enhance.specs.Calls.{memoryRefusal};
+ghost use Rattle.passlists.specs.Format.{ruleOf};
 ghost use Rattle.capi.specs.Numbers.{encoded, statusNumber, answerNumber, writtenNumber, Short};
-ghost use Rattle.capi.specs.Numbers.{ruleOf, formRefusal};
-ghost use Rattle.capi.specs.Calls.{IntensityNumber, RecolourNumber, PassNumber, EnhanceNumber};
+ghost use Rattle.capi.specs.Numbers.{formRefusal};
+ghost use Rattle.capi.specs.Calls.{IntensityNumber, RecolourNumber, PassNumber, ListNumber, EnhanceNumber};
 ghost use Rattle.capi.specs.Calls.{readNumber, numbersAfter, ReadNumber, WriteNumber};
 use colours::Status;
 use enhance::Settings;
@@ -155,6 +157,22 @@ pub extern "C" fn mlhe_pass(
     let rule = rule_of(rule, first, second);
     let answer = passes::pass(plane, marks, queue, w, h, Pass { a, b, area, rule });
     answer_number(answer)
+}
+
+// The passes of a list over the plane.
+#[no_mangle]
+pub extern "C" fn mlhe_run_list(
+    list: &[u8],
+    plane: &mut [u8],
+    marks: &mut [u8],
+    queue: &mut [u32],
+    w: usize,
+    h: usize,
+) -> i64
+    ensures { λ r. ⌜ ListNumber w h (now (list .entry)) (now (plane .entry)) (now (marks .entry)) (now (queue .entry)) r
+        (now (plane .exit)) (now (marks .exit)) (now (queue .exit)) ⌝ }
+{
+    answer_number(passlists::run_list(list, plane, marks, queue, w, h))
 }
 
 // 1, 2, 3, 4, 14 and 17, which are tested before the settings' other numbers, or 0.

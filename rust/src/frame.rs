@@ -1,0 +1,131 @@
+//! Colour frames.
+
+use crate::{lent, Memory, Plane, Refusal, Settings};
+
+/// The most bytes that stand before the raster of a written frame.
+const GREATEST_HEADER: usize = 17;
+
+/// A frame: w columns and h rows of pixels, each the bytes red, green, blue. Its sides are 1 to 4,096, and it has at most
+/// 1,048,576 pixels.
+#[derive(Clone, Debug, PartialEq, Eq, Hash)]
+pub struct Frame {
+    w: usize,
+    h: usize,
+    bytes: Vec<u8>,
+}
+
+/// What an enhancement leaves.
+#[derive(Clone, Debug, PartialEq, Eq)]
+pub struct Enhanced {
+    /// The recoloured frame.
+    pub frame: Frame,
+    /// Its new intensity.
+    pub plane: Plane,
+    /// The number of retoned components, on all levels.
+    pub retoned: u32,
+}
+
+impl Frame {
+    /// A frame of these bytes. Refusals, in order: [`Refusal::Sides`], [`Refusal::Pixels`], [`Refusal::Lengths`].
+    pub fn new(w: usize, h: usize, bytes: Vec<u8>) -> Result<Frame, Refusal> {
+        // With no output at all the library gets as far as refusing just that, for a frame that is sound.
+        match lent::write(&bytes, w, h, &mut []) {
+            Err(Refusal::Output) => Ok(Frame { w, h, bytes }),
+            Err(refusal) => Err(refusal),
+            Ok(_) => unreachable!("a frame has bytes"),
+        }
+    }
+
+    /// The frame of a P6 file. Refusals, in order: [`Refusal::Header`], [`Refusal::Sides`], [`Refusal::Pixels`],
+    /// [`Refusal::Maxval`], [`Refusal::Raster`], [`Refusal::Trailing`].
+    ///
+    /// ```
+    /// use mlhe::{Frame, Refusal};
+    ///
+    /// let frame = Frame::from_p6(b"P6 2 1 255 abcdef")?;
+    /// assert_eq!((frame.width(), frame.height(), frame.bytes()), (2, 1, &b"abcdef"[..]));
+    /// assert_eq!(frame.to_p6(), b"P6\n2 1\n255\nabcdef");
+    /// assert_eq!(Frame::from_p6(b"P5 1 1 255 "), Err(Refusal::Header));
+    /// # Ok::<(), Refusal>(())
+    /// ```
+    pub fn from_p6(file: &[u8]) -> Result<Frame, Refusal> {
+        let header = lent::read(file)?;
+        Ok(Frame { w: header.w, h: header.h, bytes: file[header.offset..].to_vec() })
+    }
+
+    /// The frame as a P6 file.
+    pub fn to_p6(&self) -> Vec<u8> {
+        let mut file = vec![0; GREATEST_HEADER + self.bytes.len()];
+        let length = lent::write(&self.bytes, self.w, self.h, &mut file).expect("the frame is sound");
+        file.truncate(length);
+        file
+    }
+
+    pub fn width(&self) -> usize {
+        self.w
+    }
+
+    pub fn height(&self) -> usize {
+        self.h
+    }
+
+    /// The raster: 3 × w × h bytes.
+    pub fn bytes(&self) -> &[u8] {
+        &self.bytes
+    }
+
+    pub fn into_bytes(self) -> Vec<u8> {
+        self.bytes
+    }
+
+    fn pixels(&self) -> usize {
+        self.w * self.h
+    }
+
+    /// The intensities of the pixels: the rounded means of their channels.
+    pub fn intensity(&self) -> Plane {
+        let mut values = vec![0; self.pixels()];
+        lent::intensity(&self.bytes, self.w, self.h, &mut values).expect("the frame is sound");
+        Plane::new(self.w, self.h, values).expect("the plane has the frame's sides")
+    }
+
+    /// The frame, recoloured from new intensities. [`Refusal::Lengths`] where the plane has other sides.
+    ///
+    /// ```
+    /// use mlhe::{Frame, Plane, Refusal};
+    ///
+    /// let frame = Frame::new(1, 1, vec![200, 100, 0])?;
+    /// assert_eq!(frame.intensity().values(), [100]);
+    /// assert_eq!(frame.recoloured(&Plane::new(1, 1, vec![120])?)?.bytes(), [240, 120, 0]);
+    /// assert_eq!(frame.recoloured(&Plane::new(2, 1, vec![1, 2])?), Err(Refusal::Lengths));
+    /// # Ok::<(), Refusal>(())
+    /// ```
+    pub fn recoloured(&self, plane: &Plane) -> Result<Frame, Refusal> {
+        if (plane.width(), plane.height()) != (self.w, self.h) {
+            return Err(Refusal::Lengths);
+        }
+        let mut bytes = vec![0; self.bytes.len()];
+        lent::recolour(&self.bytes, self.w, self.h, plane.values(), &mut bytes)?;
+        Ok(Frame { w: self.w, h: self.h, bytes })
+    }
+
+    /// The frame, enhanced. Refusals, in order: [`Refusal::Level`], [`Refusal::Area`], [`Refusal::Limits`],
+    /// [`Refusal::Clip`].
+    ///
+    /// ```
+    /// use mlhe::{Frame, Memory, Refusal, Rule, Settings};
+    ///
+    /// let frame = Frame::new(2, 1, vec![10, 10, 10, 20, 20, 20])?;
+    /// let settings = Settings { last: 1, area: 1, rule: Rule::Plain { low: 0, high: 25_500 } };
+    /// let enhanced = frame.enhanced(&settings, &mut Memory::new())?;
+    /// assert_eq!((enhanced.plane.values(), enhanced.retoned), (&[192, 255][..], 2));
+    /// # Ok::<(), Refusal>(())
+    /// ```
+    pub fn enhanced(&self, settings: &Settings, memory: &mut Memory) -> Result<Enhanced, Refusal> {
+        let (mut values, mut bytes) = (vec![0; self.pixels()], vec![0; self.bytes.len()]);
+        let (marks, queue) = memory.lend(self.pixels());
+        let retoned = lent::enhance(&self.bytes, self.w, self.h, settings, &mut values, marks, queue, &mut bytes)?;
+        let plane = Plane::new(self.w, self.h, values).expect("the plane has the frame's sides");
+        Ok(Enhanced { frame: Frame { w: self.w, h: self.h, bytes }, plane, retoned })
+    }
+}

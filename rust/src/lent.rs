@@ -1,0 +1,169 @@
+//! The calls on memory that the caller lends, with nothing allocated: one safe function for each C function. What is
+//! too short or does not fit is refused, and a refused call changes nothing.
+//!
+//! A plane has w columns and h rows, each 1 to 4,096, and n = w × h bytes, at most 1,048,576; a frame has 3 × n bytes,
+//! red, green, blue. Marks and queue are working memory of at least n elements with any content; the first n elements
+//! are unspecified after an accepted call.
+//!
+//! ```
+//! use mlhe::{lent, Refusal, Settings};
+//!
+//! let frame = [10, 10, 10, 20, 20, 20];
+//! let (mut plane, mut marks, mut queue, mut output) = ([0; 2], [0; 2], [0; 2], [7; 8]);
+//! let settings = Settings { last: 0, ..Settings::HOUSE };
+//! // 10 and 20 would become 128 and 255, more than 300 hundredths of the range: they are kept.
+//! let retoned = lent::enhance(&frame, 2, 1, &settings, &mut plane, &mut marks, &mut queue, &mut output)?;
+//! assert_eq!((retoned, plane), (0, [10, 20]));
+//! assert_eq!(output, [10, 10, 10, 20, 20, 20, 7, 7]);
+//!
+//! let short = &mut queue[..1];
+//! let refused = lent::enhance(&frame, 2, 1, &settings, &mut plane, &mut marks, short, &mut output);
+//! assert_eq!(refused, Err(Refusal::Memory));
+//! # Ok::<(), Refusal>(())
+//! ```
+
+use crate::{ffi, Pass, Refusal, Settings};
+
+/// What reading answers: the sides, and the place of the raster's first byte.
+#[derive(Clone, Copy, Debug, PartialEq, Eq)]
+pub struct Header {
+    pub w: usize,
+    pub h: usize,
+    pub offset: usize,
+}
+
+/// Reads the header of a P6 frame and measures the rest. Refusals, in order: 10, 1, 2, 11, 12, 13.
+pub fn read(bytes: &[u8]) -> Result<Header, Refusal> {
+    let mut numbers = [0; 3];
+    let answer = unsafe { ffi::mlhe_read(bytes.as_ptr(), bytes.len(), numbers.as_mut_ptr(), numbers.len()) };
+    Refusal::of_answer(answer)?;
+    let [w, h, offset] = numbers;
+    Ok(Header { w, h, offset })
+}
+
+/// Writes a P6 frame and answers the number of bytes written. Refusals, in order: 1, 2, 3, 14.
+pub fn write(raster: &[u8], w: usize, h: usize, output: &mut [u8]) -> Result<usize, Refusal> {
+    let answer =
+        unsafe { ffi::mlhe_write(raster.as_ptr(), raster.len(), w, h, output.as_mut_ptr(), output.len()) };
+    Refusal::of_answer(answer).map(|length| length as usize)
+}
+
+/// Fills a plane with the intensities of a frame. Refusals, in order: 1, 2, 3.
+pub fn intensity(frame: &[u8], w: usize, h: usize, plane: &mut [u8]) -> Result<(), Refusal> {
+    let answer = unsafe { ffi::mlhe_intensity(frame.as_ptr(), frame.len(), w, h, plane.as_mut_ptr(), plane.len()) };
+    Refusal::of_answer(answer).map(|_| ())
+}
+
+/// Runs one pass over a plane and answers the number of retoned components. Refusals, in order: 1 to 8.
+pub fn pass(
+    plane: &mut [u8],
+    marks: &mut [u8],
+    queue: &mut [u32],
+    w: usize,
+    h: usize,
+    pass: &Pass,
+) -> Result<u32, Refusal> {
+    let (rule, first, second) = pass.rule.numbers();
+    let answer = unsafe {
+        ffi::mlhe_pass(
+            plane.as_mut_ptr(),
+            plane.len(),
+            marks.as_mut_ptr(),
+            marks.len(),
+            queue.as_mut_ptr(),
+            queue.len(),
+            w,
+            h,
+            pass.a,
+            pass.b,
+            pass.area,
+            rule,
+            first,
+            second,
+        )
+    };
+    Refusal::of_answer(answer).map(|count| count as u32)
+}
+
+/// Runs the passes of a list in its file format and answers the sum of their counts. All records are checked before the
+/// first pass runs. Refusals, in order: 1 to 4, 16 (fewer than 7 bytes), 15, 16, then for each record 17, 5, 6, 7, 8.
+pub fn run_list(
+    list: &[u8],
+    plane: &mut [u8],
+    marks: &mut [u8],
+    queue: &mut [u32],
+    w: usize,
+    h: usize,
+) -> Result<u32, Refusal> {
+    let answer = unsafe {
+        ffi::mlhe_run_list(
+            list.as_ptr(),
+            list.len(),
+            plane.as_mut_ptr(),
+            plane.len(),
+            marks.as_mut_ptr(),
+            marks.len(),
+            queue.as_mut_ptr(),
+            queue.len(),
+            w,
+            h,
+        )
+    };
+    Refusal::of_answer(answer).map(|count| count as u32)
+}
+
+/// Recolours a frame from the new intensities in a plane, into the first bytes of the output. Refusals, in order: 1, 2,
+/// 3, 14.
+pub fn recolour(frame: &[u8], w: usize, h: usize, plane: &[u8], output: &mut [u8]) -> Result<(), Refusal> {
+    let answer = unsafe {
+        ffi::mlhe_recolour(
+            frame.as_ptr(),
+            frame.len(),
+            w,
+            h,
+            plane.as_ptr(),
+            plane.len(),
+            output.as_mut_ptr(),
+            output.len(),
+        )
+    };
+    Refusal::of_answer(answer).map(|_| ())
+}
+
+/// Enhances a frame: the new intensity is left in the plane and the recoloured frame in the output. Answers the number
+/// of retoned components, on all levels. Refusals, in order: 1, 2, 3, 4, 14, 9, 6, 7, 8.
+#[allow(clippy::too_many_arguments)]
+pub fn enhance(
+    frame: &[u8],
+    w: usize,
+    h: usize,
+    settings: &Settings,
+    plane: &mut [u8],
+    marks: &mut [u8],
+    queue: &mut [u32],
+    output: &mut [u8],
+) -> Result<u32, Refusal> {
+    let (rule, first, second) = settings.rule.numbers();
+    let answer = unsafe {
+        ffi::mlhe_enhance(
+            frame.as_ptr(),
+            frame.len(),
+            w,
+            h,
+            settings.last,
+            settings.area,
+            rule,
+            first,
+            second,
+            plane.as_mut_ptr(),
+            plane.len(),
+            marks.as_mut_ptr(),
+            marks.len(),
+            queue.as_mut_ptr(),
+            queue.len(),
+            output.as_mut_ptr(),
+            output.len(),
+        )
+    };
+    Refusal::of_answer(answer).map(|count| count as u32)
+}

@@ -1,0 +1,66 @@
+//! Planes of intensities.
+
+use crate::{lent, Memory, Pass, PassList, Refusal};
+
+/// A plane: w columns and h rows of values, row by row, left to right. Its sides are 1 to 4,096, and it has at most
+/// 1,048,576 pixels.
+#[derive(Clone, Debug, PartialEq, Eq, Hash)]
+pub struct Plane {
+    w: usize,
+    h: usize,
+    values: Vec<u8>,
+}
+
+impl Plane {
+    /// A plane of these values. Refusals, in order: [`Refusal::Sides`], [`Refusal::Pixels`], [`Refusal::Lengths`].
+    pub fn new(w: usize, h: usize, mut values: Vec<u8>) -> Result<Plane, Refusal> {
+        // With no working memory at all the library gets as far as refusing just that, for a plane that is sound.
+        let never = Pass { a: 0, b: 0, area: 1, rule: crate::Rule::Limited { k: 0 } };
+        match lent::pass(&mut values, &mut [], &mut [], w, h, &never) {
+            Err(Refusal::Memory) => Ok(Plane { w, h, values }),
+            Err(refusal) => Err(refusal),
+            Ok(_) => unreachable!("a plane has pixels"),
+        }
+    }
+
+    pub fn width(&self) -> usize {
+        self.w
+    }
+
+    pub fn height(&self) -> usize {
+        self.h
+    }
+
+    pub fn values(&self) -> &[u8] {
+        &self.values
+    }
+
+    pub fn into_values(self) -> Vec<u8> {
+        self.values
+    }
+
+    /// Runs one pass and answers the number of retoned components. Refusals, in order: [`Refusal::Interval`],
+    /// [`Refusal::Area`], [`Refusal::Limits`], [`Refusal::Clip`].
+    ///
+    /// ```
+    /// use mlhe::{Memory, Pass, Plane, Refusal, Rule};
+    ///
+    /// let mut plane = Plane::new(4, 1, vec![10, 10, 20, 30])?;
+    /// let pass = Pass { a: 0, b: 255, area: 1, rule: Rule::Plain { low: 0, high: 25_500 } };
+    /// let mut memory = Memory::new();
+    /// assert_eq!(plane.pass(&pass, &mut memory)?, 1);
+    /// assert_eq!(plane.values(), [128, 128, 191, 255]);
+    /// assert_eq!(plane.pass(&Pass { area: 0, ..pass }, &mut memory), Err(Refusal::Area));
+    /// # Ok::<(), Refusal>(())
+    /// ```
+    pub fn pass(&mut self, pass: &Pass, memory: &mut Memory) -> Result<u32, Refusal> {
+        let (marks, queue) = memory.lend(self.values.len());
+        lent::pass(&mut self.values, marks, queue, self.w, self.h, pass)
+    }
+
+    /// Runs the passes of a list and answers the sum of their counts.
+    pub fn run(&mut self, list: &PassList, memory: &mut Memory) -> u32 {
+        let (marks, queue) = memory.lend(self.values.len());
+        lent::run_list(list.bytes(), &mut self.values, marks, queue, self.w, self.h).expect("plane and list are sound")
+    }
+}
