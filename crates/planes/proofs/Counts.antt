@@ -27,9 +27,13 @@ count-le f (x ∷ xs) = go (f x) (count-le f xs)
     go true h = omega arith
     go false h = omega arith
 
-pub keep-same : (f f′ : ℕ → Bool) (i m : ℕ) → ((x : ℕ) → i ≤ x → x < i + m → f x ≡ f′ x) → keep f (from i m) ≡ keep f′ (from i m)
+-- two tests that agree on the pixels of a stretch keep, and count, the same
+pub keep-same : (f f′ : ℕ → Bool) (i m : ℕ) → ((x : ℕ) → i ≤ x → x < i + m → f x ≡ f′ x)
+    → keep f (from i m) ≡ keep f′ (from i m)
 keep-same f f′ i zero h = refl
-keep-same f f′ i (suc m) h = ap₂ (λ (t : Bool) (l : List ℕ). cond t (i ∷ l) l) (h i (le-refl i) (omega arith)) (keep-same f f′ (suc i) m (λ x l k. h x (omega arith) (omega arith)))
+keep-same f f′ i (suc m) h =
+    ap₂ (λ (t : Bool) (l : List ℕ). cond t (i ∷ l) l) (h i (le-refl i) (omega arith))
+    (keep-same f f′ (suc i) m (λ x l k. h x (omega arith) (omega arith)))
 
 pub count-same : (f f′ : ℕ → Bool) (n : ℕ) → ((x : ℕ) → x < n → f x ≡ f′ x) → count f (from 0 n) ≡ count f′ (from 0 n)
 count-same f f′ n h = ap length (keep-same f f′ 0 n (λ x _ k. h x (omega arith)))
@@ -68,7 +72,9 @@ count-keep f S (x ∷ xs) = rw (count-cons (λ x. S x && f x) x xs) (go (S x) (c
 pub count-add : (P f : ℕ → Bool) (y s m : ℕ) → s ≤ y → y < s + m → P y ≡ false
     → count (λ z. (P z || eqb z y) && f z) (from s m) ≡ cond (f y) 1 0 + count (λ z. P z && f z) (from s m)
 count-add P f y s zero l h e = absurd (omega arith)
-count-add P f y s (suc m) l h e = rw (count-cons F s (from (suc s) m), count-cons G s (from (suc s) m)) (go (eq-or-lt-of-le l) (λ k. count-add P f y (suc s) m k (omega arith) e))
+count-add P f y s (suc m) l h e =
+    rw (count-cons F s (from (suc s) m), count-cons G s (from (suc s) m))
+    (go (eq-or-lt-of-le l) (λ k. count-add P f y (suc s) m k (omega arith) e))
   where
     F : ℕ → Bool
     F z = (P z || eqb z y) && f z
@@ -85,7 +91,8 @@ count-add P f y s (suc m) l h e = rw (count-cons F s (from (suc s) m), count-con
     go (inl q) ih =
         let a : F s ≡ f y = ap₂ (λ (t u : Bool). (t || u) && f s) (ap P q ∙ e) (eq-eqb s y q) ∙ ap f q in
         let b : G s ≡ false = ap (_&& f s) (ap P q ∙ e) in
-        let c : count F (from (suc s) m) ≡ count G (from (suc s) m) = ap length (keep-same F G (suc s) m (λ z k _. off z (λ r. absurd (omega arith)))) in
+        let past : (z : ℕ) → suc s ≤ z → z < suc s + m → F z ≡ G z = λ z k _. off z (λ r. absurd (omega arith)) in
+        let c : count F (from (suc s) m) ≡ count G (from (suc s) m) = ap length (keep-same F G (suc s) m past) in
         rw (a, b) (omega arith)
     go (inr k) ih = rw (off s (λ r. absurd (omega arith))) (omega (arith, ih k))
 
@@ -96,10 +103,14 @@ from-snoc i zero = ap (_∷ []) (omega arith)
 from-snoc i (suc k) = ap (i ∷_) (from-snoc (suc i) k ∙ ap (λ (z : ℕ). from (suc i) k ++ (z ∷ [])) (omega arith))
 
 pub count-upto : (f : ℕ → Bool) (k : ℕ) → count f (from 0 (suc k)) ≡ cond (f k) 1 0 + count f (from 0 k)
-count-upto f k = ap (count f) (from-snoc 0 k) ∙ count-snoc f (from 0 k) (0 + k) ∙ ap (λ (z : ℕ). cond (f z) 1 0 + count f (from 0 k)) (omega arith)
+count-upto f k =
+    ap (count f) (from-snoc 0 k)
+    ∙ count-snoc f (from 0 k) (0 + k)
+    ∙ ap (λ (z : ℕ). cond (f z) 1 0 + count f (from 0 k)) (omega arith)
 
 -- a stretch where the test fails counts nothing
-pub count-over : (f : ℕ → Bool) (a b : ℕ) → a ≤ b → ((k : ℕ) → a ≤ k → k < b → f k ≡ false) → count f (from 0 b) ≡ count f (from 0 a)
+pub count-over : (f : ℕ → Bool) (a b : ℕ) → a ≤ b → ((k : ℕ) → a ≤ k → k < b → f k ≡ false)
+    → count f (from 0 b) ≡ count f (from 0 a)
 count-over f a zero l h = let e : zero ≡ a = omega arith in ap (λ (z : ℕ). count f (from 0 z)) e
 count-over f a (suc b) l h = elim (eq-or-lt-of-le l) [
   | inl e ↦ ap (λ (z : ℕ). count f (from 0 z)) (sym e)
@@ -107,9 +118,13 @@ count-over f a (suc b) l h = elim (eq-or-lt-of-le l) [
       ∙ omega (arith, count-over f a b (omega arith) (λ j p q. h j p (omega arith)))
 ]
 
+-- ## Tests of every member of a stretch
+
 pub every-true : (f : ℕ → Bool) (i k : ℕ) → ((j : ℕ) → i ≤ j → j < i + k → f j ≡ true) → every f (from i k) ≡ true
 every-true f i zero h = refl
-every-true f i (suc k) h = rw (h i (omega arith) (omega arith)) (every-true f (suc i) k (λ j p q. h j (omega arith) (omega arith)))
+every-true f i (suc k) h =
+    rw (h i (omega arith) (omega arith))
+    (every-true f (suc i) k (λ j p q. h j (omega arith) (omega arith)))
 
 pub every-false : (f : ℕ → Bool) (i k j : ℕ) → i ≤ j → j < i + k → f j ≡ false → every f (from i k) ≡ false
 every-false f i zero j l h e = absurd (omega arith)
@@ -118,29 +133,24 @@ every-false f i (suc k) j l h e = elim (eq-or-lt-of-le l) [
   | inr q ↦ rw (every-false f (suc i) k j q (omega arith) e) (and-false (f i))
 ]
 
--- a test that passes wherever another does counts no less
+-- ## A test that passes wherever another does counts no less
+
+pub unit-mono : (s t : Bool) → (s ≡ true → t ≡ true) → cond s 1 0 ≤ cond t 1 0
+unit-mono true true h = le-refl 1
+unit-mono true false h = absurd (false≢true (h refl))
+unit-mono false t h = zero-le
+
 pub count-mono : (f g : ℕ → Bool) → ((x : ℕ) → f x ≡ true → g x ≡ true) → (xs : List ℕ) → count f xs ≤ count g xs
 count-mono f g h [] = le-refl 0
-count-mono f g h (x ∷ xs) = rw (count-cons f x xs, count-cons g x xs) (go (f x) (g x) (h x) (count-mono f g h xs))
-  where
-    go : (s t : Bool) → (s ≡ true → t ≡ true) → count f xs ≤ count g xs → cond s 1 0 + count f xs ≤ cond t 1 0 + count g xs
-    go true true e k = omega arith
-    go true false e k = absurd (false≢true (e refl))
-    go false true e k = omega arith
-    go false false e k = omega arith
+count-mono f g h (x ∷ xs) =
+    rw (count-cons f x xs, count-cons g x xs)
+    (omega (arith, unit-mono (f x) (g x) (h x), count-mono f g h xs))
 
 -- the same over the pixels of a stretch
 pub count-mono-from : (f g : ℕ → Bool) (i m : ℕ) → ((x : ℕ) → i ≤ x → x < i + m → f x ≡ true → g x ≡ true)
     → count f (from i m) ≤ count g (from i m)
 count-mono-from f g i zero h = le-refl 0
 count-mono-from f g i (suc m) h =
+    let rest = count-mono-from f g (suc i) m (λ x l k. h x (omega arith) (omega arith)) in
     rw (count-cons f i (from (suc i) m), count-cons g i (from (suc i) m))
-    (go (f i) (g i) (h i (le-refl i) (omega arith))
-    (count-mono-from f g (suc i) m (λ x l k. h x (omega arith) (omega arith))))
-  where
-    go : (s t : Bool) → (s ≡ true → t ≡ true) → count f (from (suc i) m) ≤ count g (from (suc i) m)
-        → cond s 1 0 + count f (from (suc i) m) ≤ cond t 1 0 + count g (from (suc i) m)
-    go true true e k = omega arith
-    go true false e k = absurd (false≢true (e refl))
-    go false true e k = omega arith
-    go false false e k = omega arith
+    (omega (arith, unit-mono (f i) (g i) (h i (le-refl i) (omega arith)), rest))

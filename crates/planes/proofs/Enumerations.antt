@@ -1,9 +1,9 @@
--- An enumeration counts like its set. Assumes nothing.
+-- An enumeration counts like its set: a test passes at as many entries as pixels of the set. Assumes nothing.
 use Prim.Native.Nat.{ℕ, zero, suc, _+_, _≤_, _<_}
 use mathlib.Core.Path.{_≡_, refl, sym, ap, subst, _∙_}
 use mathlib.Core.Logic.{inl, inr}
-use mathlib.Core.Bool.{Bool, true, false, cond, _&&_, _||_, false≢true}
-use mathlib.Core.List.{List, [], _∷_, _++_, map}
+use mathlib.Core.Bool.{Bool, true, false, cond, _&&_, false≢true}
+use mathlib.Core.List.{List, map}
 use native.Mathlib.Nat.{eq-or-lt-of-le}
 use native.Mathlib.Omega.{arith}
 use lib.ListN.{length, take}
@@ -13,7 +13,8 @@ use borrow.Author.Tests.{eqb-true, eq-eqb}
 use Rattle.planes.specs.Lists.{from, keep, count, at}
 use Rattle.planes.specs.Enumerations.{among, Place, Enumerates}
 use Rattle.planes.proofs.Tests.{or-cases, or-left, or-right, same-test, and-true}
-use Rattle.planes.proofs.Counts.{count-same, count-none, count-all, count-snoc, count-map, count-keep, count-add, count-upto}
+use Rattle.planes.proofs.Counts.{count-same, count-none, count-all, count-snoc, count-map, count-keep}
+use Rattle.planes.proofs.Counts.{count-add, count-upto}
 
 -- ## Members of a queue
 
@@ -30,7 +31,9 @@ module _ (queue : List ℕ) where
   unfolding among
   among-place zero p e = absurd (false≢true e)
   among-place (suc m) p e = elim (or-cases (among queue m p) (eqb p (at queue m)) e) [
-    | inl d ↦ let r = among-place m p d in record { index = r .index; below = omega (arith, r .below); holds = r .holds }
+    | inl d ↦
+        let r = among-place m p d in
+        record { index = r .index; below = omega (arith, r .below); holds = r .holds }
     | inr d ↦ record { index = m; below = omega arith; holds = sym (eqb-true p (at queue m) d) }
   ]
 
@@ -39,9 +42,11 @@ module _ (queue : List ℕ) where
 
   -- ## Counts
 
-  -- entries that are below n, and none before itself
-  module _ (n m : ℕ) (below : (k : ℕ) → k < m → at queue k < n) (fresh : (k : ℕ) → k < m → among queue k (at queue k) ≡ false) where
-    pub count-among : m ≤ length queue → (f : ℕ → Bool) → count f (take m queue) ≡ count (λ z. among queue m z && f z) (from 0 n)
+  -- the first m entries are below n, and none of them is among those before it
+  module _ (n m : ℕ) (below : (k : ℕ) → k < m → at queue k < n)
+      (fresh : (k : ℕ) → k < m → among queue k (at queue k) ≡ false) where
+    pub count-among : m ≤ length queue → (f : ℕ → Bool)
+        → count f (take m queue) ≡ count (λ z. among queue m z && f z) (from 0 n)
     unfolding among
     count-among h f = go m (omega arith)
       where
@@ -49,44 +54,64 @@ module _ (queue : List ℕ) where
         go zero l = sym (count-none (from 0 n))
         go (suc k) l =
             let y : ℕ = at queue k in
-            let a : count (λ z. among queue (suc k) z && f z) (from 0 n) ≡ cond (f y) 1 0 + count (λ z. among queue k z && f z) (from 0 n)
-            = count-add (among queue k) f y 0 n (omega arith) (omega (arith, below k l)) (fresh k l) in
-            ap (count f) (take-suc queue k 0 (omega arith)) ∙ count-snoc f (take k queue) y ∙ ap (cond (f y) 1 0 +_) (go k (omega arith)) ∙ sym a
+            let added : count (λ z. among queue (suc k) z && f z) (from 0 n)
+            ≡ cond (f y) 1 0 + count (λ z. among queue k z && f z) (from 0 n) =
+            count-add (among queue k) f y 0 n (omega arith) (omega (arith, below k l)) (fresh k l) in
+            ap (count f) (take-suc queue k 0 (omega arith))
+            ∙ count-snoc f (take k queue) y
+            ∙ ap (cond (f y) 1 0 +_) (go k (omega arith))
+            ∙ sym added
 
   -- the entries, one by one
-  pub count-indexes : (f : ℕ → Bool) (m : ℕ) → m ≤ length queue → count f (take m queue) ≡ count (λ i. f (at queue i)) (from 0 m)
+  pub count-indexes : (f : ℕ → Bool) (m : ℕ) → m ≤ length queue
+      → count f (take m queue) ≡ count (λ i. f (at queue i)) (from 0 m)
   count-indexes f zero h = refl
   count-indexes f (suc m) h =
-      ap (count f) (take-suc queue m 0 h) ∙ count-snoc f (take m queue) (at queue m) ∙ ap (cond (f (at queue m)) 1 0 +_) (count-indexes f m (omega arith))
+      ap (count f) (take-suc queue m 0 h)
+      ∙ count-snoc f (take m queue) (at queue m)
+      ∙ ap (cond (f (at queue m)) 1 0 +_) (count-indexes f m (omega arith))
       ∙ sym (count-upto (λ i. f (at queue i)) m)
 
--- ## What a caller of a search needs
+-- ## An enumeration of a set
 
 module _ {queue : List ℕ} {m n : ℕ} {S : ℕ → Bool} (E : Enumerates queue m n S) where
   among-set : (p : ℕ) → p < n → among queue m p ≡ S p
   among-set p h = same-test (among queue m p) (S p)
-      (λ e. let r = among-place queue m p e in subst (λ (x : ℕ). S x ≡ true) (r .holds) (E .inside (r .index) (r .below)))
+      (λ e.
+      let r = among-place queue m p e in
+      subst (λ (x : ℕ). S x ≡ true) (r .holds) (E .inside (r .index) (r .below)))
       (λ e. place-among queue (E .every p h e))
 
   fresh : (k : ℕ) → k < m → among queue k (at queue k) ≡ false
   fresh k h = go (among queue k (at queue k)) refl
     where
       go : (t : Bool) → among queue k (at queue k) ≡ t → t ≡ false
-      go true e = let r = among-place queue k (at queue k) e in absurd (E .distinct (r .index) k (r .below) h (r .holds))
+      go true e =
+          let r = among-place queue k (at queue k) e in
+          absurd (E .distinct (r .index) k (r .below) h (r .holds))
       go false e = refl
 
   -- a test passes at as many entries as pixels of the set
   pub entries-count : (f : ℕ → Bool) → count f (take m queue) ≡ count (λ p. S p && f p) (from 0 n)
-  entries-count f = count-among queue n m (E .below) fresh (E .fits) f ∙ count-same _ _ n (λ x h. ap (_&& f x) (among-set x h))
+  entries-count f =
+      count-among queue n m (E .below) fresh (E .fits) f
+      ∙ count-same _ _ n (λ x h. ap (_&& f x) (among-set x h))
 
   pub indexes-count : (f : ℕ → Bool) → count (λ i. f (at queue i)) (from 0 m) ≡ count (λ p. S p && f p) (from 0 n)
   indexes-count f = sym (count-indexes queue f m (E .fits)) ∙ entries-count f
 
   -- the values of a plane at the entries are the values of the set's pixels, each as often
-  pub values-count : (plane : List ℕ) (f : ℕ → Bool) → count f (map (at plane) (take m queue)) ≡ count f (map (at plane) (keep S (from 0 n)))
+  pub values-count : (plane : List ℕ) (f : ℕ → Bool)
+      → count f (map (at plane) (take m queue)) ≡ count f (map (at plane) (keep S (from 0 n)))
   values-count plane f =
-      count-map f (at plane) (take m queue) ∙ entries-count (λ p. f (at plane p)) ∙ sym (count-keep (λ p. f (at plane p)) S (from 0 n))
+      count-map f (at plane) (take m queue)
+      ∙ entries-count (λ p. f (at plane p))
+      ∙ sym (count-keep (λ p. f (at plane p)) S (from 0 n))
       ∙ sym (count-map f (at plane) (keep S (from 0 n)))
 
   pub entries-size : m ≡ count S (from 0 n)
-  entries-size = sym (length-take-le m queue (E .fits)) ∙ sym (count-all (take m queue)) ∙ entries-count (λ p. true) ∙ count-same _ _ n (λ x h. and-true (S x))
+  entries-size =
+      sym (length-take-le m queue (E .fits))
+      ∙ sym (count-all (take m queue))
+      ∙ entries-count (λ p. true)
+      ∙ count-same _ _ n (λ x h. and-true (S x))

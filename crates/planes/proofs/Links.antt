@@ -1,10 +1,10 @@
--- `linked near n` passes exactly where a chain of neighbours leads from one pixel to the other, over any relation; it is
--- an equivalence where the relation is symmetric. By induction over the pixels that a chain may go through.
+-- `linked near n` passes exactly where a chain of neighbours leads from one pixel to the other, over any relation; it
+-- is an equivalence where the relation is symmetric. By induction over the pixels that a chain may go through.
 -- Assumes nothing.
 use Prim.Native.Nat.{ℕ, zero, suc, _≤_, _<_}
 use mathlib.Core.Path.{_≡_, refl, ap₂, subst, _∙_}
 use mathlib.Core.Logic.{_⊎_, inl, inr, _↔_}
-use mathlib.Core.Bool.{Bool, true, _&&_, _||_}
+use mathlib.Core.Bool.{true, _&&_, _||_}
 use native.Mathlib.Nat.{le-refl, not-suc-le-zero, eq-or-lt-of-le, le-of-suc-le-suc}
 use native.Mathlib.Omega.{arith}
 use lib.Dec.{eqb}
@@ -40,7 +40,10 @@ module _ (near : Near) where
   unfolding linked
   ways k i j e = elim (or-cases (linked near k i j) _ e) [
     | inl d ↦ inl d
-    | inr d ↦ inr (and-left (linked near k i k) (linked near k k j) d, and-right (linked near k i k) (linked near k k j) d)
+    | inr d ↦
+        let into = and-left (linked near k i k) (linked near k k j) d in
+        let onward = and-right (linked near k i k) (linked near k k j) d in
+        inr (into, onward)
   ]
 
   direct : (k i j : ℕ) → linked near k i j ≡ true → linked near (suc k) i j ≡ true
@@ -63,7 +66,8 @@ module _ (near : Near) where
   from-k k j (inl d) = d
   from-k k j (inr d) = d .1
 
-  join-suc : (k : ℕ) → Joins k → (i l j : ℕ) → (l ≡ k) ⊎ (l < k) → Ways k i l → Ways k l j → linked near (suc k) i j ≡ true
+  join-suc : (k : ℕ) → Joins k → (i l j : ℕ) → (l ≡ k) ⊎ (l < k) → Ways k i l → Ways k l j
+      → linked near (suc k) i j ≡ true
   join-suc k ih i l j (inl q) x y = through k i j (to-k k i (rw q at x)) (from-k k j (rw q at y))
   join-suc k ih i l j (inr q) (inl x) (inl y) = direct k i j (ih i l j q x y)
   join-suc k ih i l j (inr q) (inl x) (inr y) = through k i j (ih i l k q x (y .0)) (y .1)
@@ -72,7 +76,8 @@ module _ (near : Near) where
 
   link-join : (k : ℕ) → Joins k
   link-join zero i l j h e f = absurd (not-suc-le-zero h)
-  link-join (suc k) i l j h e f = join-suc k (link-join k) i l j (eq-or-lt-of-le (le-of-suc-le-suc h)) (ways k i l e) (ways k l j f)
+  link-join (suc k) i l j h e f =
+      join-suc k (link-join k) i l j (eq-or-lt-of-le (le-of-suc-le-suc h)) (ways k i l e) (ways k l j f)
 
   module _ (n : ℕ) where
     chain-join : {i j k : ℕ} → Chain near n i j → Chain near n j k → Chain near n i k
@@ -83,9 +88,13 @@ module _ (near : Near) where
     chain-end h here = h
     chain-end h (step c e k) = k
 
+    -- `linked` gives a chain, and a chain gives `linked`
     sound : (k i j : ℕ) → k ≤ n → i < n → j < n → linked near k i j ≡ true → Chain near n i j
     unfolding linked
-    sound zero i j h hi hj e = elim (or-cases (eqb i j) (near i j) e) [ inl q ↦ subst (Chain near n i) (eqb-true i j q) here | inr q ↦ step here q hj ]
+    sound zero i j h hi hj e = elim (or-cases (eqb i j) (near i j) e) [
+      | inl q ↦ subst (Chain near n i) (eqb-true i j q) here
+      | inr q ↦ step here q hj
+    ]
     sound (suc k) i j h hi hj e = elim (ways k i j e) [
       | inl q ↦ sound k i j (omega arith) hi hj q
       | inr q ↦ chain-join (sound k i k (omega arith) hi h (q .0)) (sound k k j (omega arith) h hj (q .1))
@@ -99,11 +108,14 @@ module _ (near : Near) where
     pub linked-iff : (i j : ℕ) → i < n → j < n → (linked near n i j ≡ true) ↔ Chain near n i j
     linked-iff i j hi hj = (sound n i j (le-refl n) hi hj, complete hi)
 
-    pub link-trans : (i l j : ℕ) → l < n → linked near n i l ≡ true → linked near n l j ≡ true → linked near n i j ≡ true
+    pub link-trans : (i l j : ℕ) → l < n → linked near n i l ≡ true → linked near n l j ≡ true
+        → linked near n i j ≡ true
     link-trans = link-join n
 
   module _ (symm : (i j : ℕ) → near i j ≡ near j i) where
     pub link-sym : (k i j : ℕ) → linked near k i j ≡ linked near k j i
     unfolding linked
     link-sym zero i j = ap₂ _||_ (eqb-sym i j) (symm i j)
-    link-sym (suc k) i j = ap₂ _||_ (link-sym k i j) (and-comm (linked near k i k) (linked near k k j) ∙ ap₂ _&&_ (link-sym k k j) (link-sym k i k))
+    link-sym (suc k) i j =
+        ap₂ _||_ (link-sym k i j)
+        (and-comm (linked near k i k) (linked near k k j) ∙ ap₂ _&&_ (link-sym k k j) (link-sym k i k))

@@ -4,14 +4,16 @@ use mathlib.Core.Path.{_≡_, refl, sym, ap, ap₂, subst, _∙_}
 use mathlib.Core.Logic.{inl, inr}
 use mathlib.Core.Bool.{Bool, true, false, cond, _&&_}
 use mathlib.Core.List.{List, [], _∷_, map}
-use native.Mathlib.Nat.{le-refl, not-suc-le-zero, eq-or-lt-of-le, le-of-suc-le-suc, add-zero, suc-add, add-suc, zero-add}
+use native.Mathlib.Nat.{le-refl, not-suc-le-zero, eq-or-lt-of-le, le-of-suc-le-suc}
+use native.Mathlib.Nat.{add-zero, suc-add, add-suc, zero-add}
 use native.Mathlib.Omega.{arith}
 use lib.ListN.{length, getD, length-map}
 use Rattle.planes.specs.Lists.{from, keep, every, count, at, Beyond}
 use Rattle.planes.specs.Extrema.{implies}
 use Rattle.planes.proofs.Tests.{and-left, and-right, and-both}
-use Rattle.planes.proofs.Counts.{length-from, count-cons, count-le}
+use Rattle.planes.proofs.Counts.{length-from, count-cons, count-le, every-true}
 
+-- what stands at index k of the values of a function on a stretch, and on all pixels
 from-at : (f : ℕ → ℕ) (i n k : ℕ) → k < n → getD (map f (from i n)) k 0 ≡ f (i + k)
 from-at f i zero k h = absurd (not-suc-le-zero h)
 from-at f i (suc n) zero h = ap f (sym (add-zero i))
@@ -23,6 +25,7 @@ all-at f n k h = from-at f 0 n k h ∙ ap f (zero-add k)
 pub length-all : (f : ℕ → ℕ) (n : ℕ) → length (map f (from 0 n)) ≡ n
 length-all f n = length-map (from 0 n) f ∙ length-from 0 n
 
+-- every pixel of a plane of n pixels passes a test, and back
 every-from : (f : ℕ → Bool) (i n : ℕ) → every f (from i n) ≡ true → (x : ℕ) → i ≤ x → x < i + n → f x ≡ true
 every-from f i zero e x l h = absurd (omega arith)
 every-from f i (suc n) e x l h = elim (eq-or-lt-of-le l) [
@@ -30,26 +33,32 @@ every-from f i (suc n) e x l h = elim (eq-or-lt-of-le l) [
   | inr q ↦ every-from f (suc i) n (and-right (f i) _ e) x q (omega arith)
 ]
 
-from-every : (f : ℕ → Bool) (i n : ℕ) → ((x : ℕ) → i ≤ x → x < i + n → f x ≡ true) → every f (from i n) ≡ true
-from-every f i zero h = refl
-from-every f i (suc n) h = and-both (h i (le-refl i) (omega arith)) (from-every f (suc i) n (λ x l k. h x (omega arith) (omega arith)))
-
 pub every-out : (f : ℕ → Bool) (n : ℕ) → every f (from 0 n) ≡ true → (x : ℕ) → x < n → f x ≡ true
 every-out f n e x h = every-from f 0 n e x zero-le (omega arith)
 
 pub every-in : (f : ℕ → Bool) (n : ℕ) → ((x : ℕ) → x < n → f x ≡ true) → every f (from 0 n) ≡ true
-every-in f n h = from-every f 0 n (λ x _ k. h x (omega arith))
+every-in f n h = every-true f 0 n (λ x _ k. h x (omega arith))
 
-pub every-same : (f f′ : ℕ → Bool) (i m : ℕ) → ((x : ℕ) → i ≤ x → x < i + m → f x ≡ f′ x) → every f (from i m) ≡ every f′ (from i m)
+-- two tests that agree on the pixels of a stretch
+pub every-same : (f f′ : ℕ → Bool) (i m : ℕ) → ((x : ℕ) → i ≤ x → x < i + m → f x ≡ f′ x)
+    → every f (from i m) ≡ every f′ (from i m)
 every-same f f′ i zero h = refl
-every-same f f′ i (suc m) h = ap₂ _&&_ (h i (le-refl i) (omega arith)) (every-same f f′ (suc i) m (λ x l k. h x (omega arith) (omega arith)))
+every-same f f′ i (suc m) h =
+    ap₂ _&&_ (h i (le-refl i) (omega arith))
+    (every-same f f′ (suc i) m (λ x l k. h x (omega arith) (omega arith)))
 
-pub map-same : (f : ℕ → Bool) (g g′ : ℕ → ℕ) (i m : ℕ) → ((x : ℕ) → i ≤ x → x < i + m → f x ≡ true → g x ≡ g′ x) → map g (keep f (from i m)) ≡ map g′ (keep f (from i m))
+-- two functions that agree on the kept pixels of a stretch
+pub map-same : (f : ℕ → Bool) (g g′ : ℕ → ℕ) (i m : ℕ)
+    → ((x : ℕ) → i ≤ x → x < i + m → f x ≡ true → g x ≡ g′ x)
+    → map g (keep f (from i m)) ≡ map g′ (keep f (from i m))
 map-same f g g′ i zero h = refl
 map-same f g g′ i (suc m) h = go (f i) refl (map-same f g g′ (suc i) m (λ x l k. h x (omega arith) (omega arith)))
   where
-    go : (t : Bool) → f i ≡ t → map g (keep f (from (suc i) m)) ≡ map g′ (keep f (from (suc i) m))
-        → map g (cond t (i ∷ keep f (from (suc i) m)) (keep f (from (suc i) m))) ≡ map g′ (cond t (i ∷ keep f (from (suc i) m)) (keep f (from (suc i) m)))
+    rest : List ℕ
+    rest = keep f (from (suc i) m)
+
+    go : (t : Bool) → f i ≡ t → map g rest ≡ map g′ rest
+        → map g (cond t (i ∷ rest) rest) ≡ map g′ (cond t (i ∷ rest) rest)
     go true e r = ap₂ _∷_ (h i (le-refl i) (omega arith) e) r
     go false e r = r
 

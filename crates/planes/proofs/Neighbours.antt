@@ -10,7 +10,8 @@ use lib.Arith.{digits-div, digits-mod}
 use lib.Dec.{eqb}
 use borrow.Author.Tests.{eqb-true, eq-eqb}
 use Rattle.planes.specs.Neighbours.{Near, apart, beside, four, Chain, here, step, linked}
-use Rattle.planes.proofs.Tests.{or-cases, or-left, or-right, and-left, and-right, and-both, or-comm, eqb-sym, same-test}
+use Rattle.planes.proofs.Tests.{or-cases, or-left, or-right, or-comm, and-left, and-right, and-both}
+use Rattle.planes.proofs.Tests.{eqb-sym, same-test}
 use Rattle.planes.proofs.Links.{linked-iff}
 
 -- ## A filled set
@@ -36,29 +37,36 @@ unfolding four
 four-at w y x v u hx hu = rw (digits-div y hx, digits-mod y hx, digits-div v hu, digits-mod v hu)
 
 apart-cases : (x u : ℕ) → apart x u ≡ true → (x + 1 ≡ u) ⊎ (u + 1 ≡ x)
-apart-cases x u e = elim (or-cases (eqb (x + 1) u) (eqb (u + 1) x) e) [ inl d ↦ inl (eqb-true _ _ d) | inr d ↦ inr (eqb-true _ _ d) ]
+apart-cases x u e = elim (or-cases (eqb (x + 1) u) (eqb (u + 1) x) e) [
+  | inl d ↦ inl (eqb-true _ _ d)
+  | inr d ↦ inr (eqb-true _ _ d)
+]
 
 apart-next : (x : ℕ) → apart x (x + 1) ≡ true
 apart-next x = or-left (eqb (x + 1) (x + 1)) _ (eq-eqb (x + 1) (x + 1) refl)
 
-beside-cases : (y x v u : ℕ) → beside y x v u ≡ true → ((y ≡ v) × ((x + 1 ≡ u) ⊎ (u + 1 ≡ x))) ⊎ (((y + 1 ≡ v) ⊎ (v + 1 ≡ y)) × (x ≡ u))
+beside-cases : (y x v u : ℕ) → beside y x v u ≡ true
+    → ((y ≡ v) × ((x + 1 ≡ u) ⊎ (u + 1 ≡ x))) ⊎ (((y + 1 ≡ v) ⊎ (v + 1 ≡ y)) × (x ≡ u))
 beside-cases y x v u e = elim (or-cases (eqb y v && apart x u) (apart y v && eqb x u) e) [
   | inl d ↦ inl (eqb-true y v (and-left (eqb y v) (apart x u) d), apart-cases x u (and-right (eqb y v) (apart x u) d))
   | inr d ↦ inr (apart-cases y v (and-left (apart y v) (eqb x u) d), eqb-true x u (and-right (apart y v) (eqb x u) d))
 ]
+
+-- j is right of, left of, below or above the pixel i, which is in column x
+abbrev pub Sides : ℕ → ℕ → ℕ → ℕ → Type 0
+Sides w x i j = (((j ≡ i + 1) × (x + 1 < w)) ⊎ ((j + 1 ≡ i) × (0 < x))) ⊎ ((j ≡ i + w) ⊎ (j + w ≡ i))
 
 module _ (w y x : ℕ) (hx : x < w) where
   -- the pixel in row y and column x
   abbrev i : ℕ
   i = y * w + x
 
-  abbrev Cases : ℕ → Type 0
-  Cases j = (((j ≡ i + 1) × (x + 1 < w)) ⊎ ((j + 1 ≡ i) × (0 < x))) ⊎ ((j ≡ i + w) ⊎ (j + w ≡ i))
-
-  pub near-cases : (j : ℕ) → four w i j ≡ true → Cases j
-  near-cases j e = go (j / w) (j % w) (mod-lt j (omega arith)) (div-add-mod' j w) (subst (λ (k : ℕ). four w i k ≡ true) (sym (div-add-mod' j w)) e)
+  pub near-cases : (j : ℕ) → four w i j ≡ true → Sides w x i j
+  near-cases j e =
+      let split = div-add-mod' j w in
+      go (j / w) (j % w) (mod-lt j (omega arith)) split (subst (λ (k : ℕ). four w i k ≡ true) (sym split) e)
     where
-      go : (v u : ℕ) → u < w → v * w + u ≡ j → four w i (v * w + u) ≡ true → Cases j
+      go : (v u : ℕ) → u < w → v * w + u ≡ j → four w i (v * w + u) ≡ true → Sides w x i j
       go v u hu q d = elim (beside-cases y x v u (sym (four-at w y x v u hx hu) ∙ d)) [
         | inl (r, inl c) ↦ inl (inl (omega (arith, ap (_* w) r), omega arith))
         | inl (r, inr c) ↦ inl (inr (omega (arith, ap (_* w) r), omega arith))
@@ -67,12 +75,16 @@ module _ (w y x : ℕ) (hx : x < w) where
       ]
 
   pub near-right : x + 1 < w → four w i (i + 1) ≡ true
-  near-right h = let q : i + 1 ≡ y * w + (x + 1) = omega arith in
-      rw (q, four-at w y x y (x + 1) hx h) (or-left (eqb y y && apart x (x + 1)) _ (and-both (eq-eqb y y refl) (apart-next x)))
+  near-right h =
+      let q : i + 1 ≡ y * w + (x + 1) = omega arith in
+      rw (q, four-at w y x y (x + 1) hx h)
+      (or-left (eqb y y && apart x (x + 1)) _ (and-both (eq-eqb y y refl) (apart-next x)))
 
   pub near-down : four w i (i + w) ≡ true
-  near-down = let q : i + w ≡ (y + 1) * w + x = omega arith in
-      rw (q, four-at w y x (y + 1) x hx hx) (or-right (eqb y (y + 1) && apart x x) _ (and-both (apart-next y) (eq-eqb x x refl)))
+  near-down =
+      let q : i + w ≡ (y + 1) * w + x = omega arith in
+      rw (q, four-at w y x (y + 1) x hx hx)
+      (or-right (eqb y (y + 1) && apart x x) _ (and-both (apart-next y) (eq-eqb x x refl)))
 
 -- the same neighbours, seen from the other side
 apart-sym : (x u : ℕ) → apart x u ≡ apart u x
@@ -80,7 +92,10 @@ apart-sym x u = or-comm (eqb (x + 1) u) (eqb (u + 1) x)
 
 pub four-sym : (w i j : ℕ) → four w i j ≡ four w j i
 unfolding four
-four-sym w i j = ap₂ _||_ (ap₂ _&&_ (eqb-sym (i / w) (j / w)) (apart-sym (i % w) (j % w))) (ap₂ _&&_ (apart-sym (i / w) (j / w)) (eqb-sym (i % w) (j % w)))
+four-sym w i j =
+    ap₂ _||_
+    (ap₂ _&&_ (eqb-sym (i / w) (j / w)) (apart-sym (i % w) (j % w)))
+    (ap₂ _&&_ (apart-sym (i / w) (j / w)) (eqb-sym (i % w) (j % w)))
 
 -- ## Neighbours of a pixel p of n, in a plane of w columns
 
@@ -95,14 +110,17 @@ module _ (w p : ℕ) (wide : 1 ≤ w) where
   right-of h = subst (λ (i : ℕ). four w i (i + 1) ≡ true) split (near-right w (p / w) (p % w) (mod-lt p wide) h)
 
   pub left-of : (q : ℕ) → 0 < p % w → q + 1 ≡ p → four w p q ≡ true
-  left-of q h e = four-sym w p q ∙ subst (λ (i : ℕ). four w q i ≡ true) e (subst (λ (i : ℕ). four w i (i + 1) ≡ true) at-q (near-right w (p / w) (p % w - 1) (omega (arith, mod-lt p wide)) (omega (arith, mod-lt p wide))))
-    where
-      at-q : p / w * w + (p % w - 1) ≡ q
-      at-q = omega (arith, div-add-mod' p w)
+  left-of q h e =
+      let at-q : p / w * w + (p % w - 1) ≡ q = omega (arith, split) in
+      let near : four w q (q + 1) ≡ true =
+      subst (λ (i : ℕ). four w i (i + 1) ≡ true) at-q
+      (near-right w (p / w) (p % w - 1) (omega (arith, mod-lt p wide)) (omega (arith, mod-lt p wide))) in
+      four-sym w p q ∙ subst (λ (i : ℕ). four w q i ≡ true) e near
 
   -- every neighbour is one of the four
-  pub sides : (q : ℕ) → four w p q ≡ true → (((q ≡ p + 1) × (p % w + 1 < w)) ⊎ ((q + 1 ≡ p) × (0 < p % w))) ⊎ ((q ≡ p + w) ⊎ (q + w ≡ p))
-  sides q e = subst (λ (i : ℕ). (((q ≡ i + 1) × (p % w + 1 < w)) ⊎ ((q + 1 ≡ i) × (0 < p % w))) ⊎ ((q ≡ i + w) ⊎ (q + w ≡ i))) split
+  pub sides : (q : ℕ) → four w p q ≡ true → Sides w (p % w) p q
+  sides q e =
+      subst (λ (i : ℕ). Sides w (p % w) i q) split
       (near-cases w (p / w) (p % w) (mod-lt p wide) q (subst (λ (i : ℕ). four w i q ≡ true) (sym split) e))
 
 pub up-of : (w p q : ℕ) → 1 ≤ w → q + w ≡ p → four w p q ≡ true

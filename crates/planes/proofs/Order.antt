@@ -19,7 +19,9 @@ keeps-trans near n p q r k l = record { ordered = λ i j hi hj e h. l .ordered i
 
 module _ (near : Near) (symm : (i j : ℕ) → near i j ≡ near j i) (n : ℕ) (p q : List ℕ) (k : Keeps near n p q) where
   pub equal-stay : (i j : ℕ) → i < n → j < n → near i j ≡ true → at p i ≡ at p j → at q i ≡ at q j
-  equal-stay i j hi hj e h = le-antisymm (k .ordered i j hi hj e (le-of-eq h)) (k .ordered j i hj hi (symm j i ∙ e) (le-of-eq (sym h)))
+  equal-stay i j hi hj e h =
+      le-antisymm (k .ordered i j hi hj e (le-of-eq h))
+      (k .ordered j i hj hi (symm j i ∙ e) (le-of-eq (sym h)))
 
   pub never-reversed : (i j : ℕ) → i < n → j < n → near i j ≡ true → at p i < at p j → at q i ≤ at q j
   never-reversed i j hi hj e h = k .ordered i j hi hj e (le-of-lt h)
@@ -29,5 +31,8 @@ module _ (near : Near) (symm : (i j : ℕ) → near i j ≡ near j i) (n : ℕ) 
 module _ (near : Near) (symm : (i j : ℕ) → near i j ≡ near j i) (n : ℕ) where
   pub component-same : (i j : ℕ) → i < n → j < n → linked near n i j ≡ true → component n near i ≡ component n near j
   unfolding component
-  component-same i j hi hj e = ap (λ (f : ℕ → Bool). keep f (from 0 n)) (fun-ext λ x. same-test (linked near n i x) (linked near n j x)
-      (λ d. link-trans near n j i x hi (sym (link-sym near symm n i j) ∙ e) d) (λ d. link-trans near n i j x hj e d))
+  component-same i j hi hj e =
+      let back = sym (link-sym near symm n i j) ∙ e in
+      ap (λ (f : ℕ → Bool). keep f (from 0 n)) (fun-ext λ x. same-test (linked near n i x) (linked near n j x)
+      (λ d. link-trans near n j i x hi back d)
+      (λ d. link-trans near n i j x hj e d))

@@ -1,13 +1,15 @@
 -- Rounding is monotone, and stays within what it divides. Assumes nothing.
 use Prim.Native.Nat.{ℕ, zero, suc, _+_, _*_, _/_, _≤_, _<_, zero-le}
-use mathlib.Core.Path.{_≡_, sym, _∙_}
-use native.Mathlib.Nat.{le-refl, le-trans, le-div-iff-mul-le, div-mul-le-self, div-zero, div-lt-iff-lt-mul, mul-le-mul-left, le-of-eq}
+use mathlib.Core.Path.{sym, _∙_}
+use native.Mathlib.Nat.{le-refl, le-trans, le-of-eq, mul-le-mul-left}
+use native.Mathlib.Nat.{div-zero, div-mul-le-self, le-div-iff-mul-le, div-lt-iff-lt-mul}
 use native.Mathlib.Omega.{arith}
 use Rattle.planes.specs.Rounding.{rounded}
 
 pub div-mono : (m : ℕ) {x y : ℕ} → x ≤ y → x / m ≤ y / m
 div-mono zero {x} {y} h = le-of-eq (div-zero x ∙ sym (div-zero y))
-div-mono (suc m) {x} {y} h = le-div-iff-mul-le {k = suc m} {x = x / suc m} {y = y} (omega arith) .1 (le-trans (div-mul-le-self x (suc m)) h)
+div-mono (suc m) {x} {y} h =
+    le-div-iff-mul-le {k = suc m} {x = x / suc m} {y = y} (omega arith) .1 (le-trans (div-mul-le-self x (suc m)) h)
 
 pub rounded-mono : (m : ℕ) {x y : ℕ} → x ≤ y → rounded x m ≤ rounded y m
 rounded-mono m h = div-mono (2 * m) (omega arith)

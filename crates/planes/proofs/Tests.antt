@@ -48,7 +48,10 @@ same-test false true f g = g refl
 same-test false false f g = refl
 
 pub eqb-sym : (i j : ℕ) → eqb i j ≡ eqb j i
-eqb-sym i j = same-test (eqb i j) (eqb j i) (λ e. eq-eqb j i (sym (eqb-true i j e))) (λ e. eq-eqb i j (sym (eqb-true j i e)))
+eqb-sym i j =
+    same-test (eqb i j) (eqb j i)
+    (λ e. eq-eqb j i (sym (eqb-true i j e)))
+    (λ e. eq-eqb i j (sym (eqb-true j i e)))
 
 pub eq-or-not : (i j : ℕ) → (i ≡ j) ⊎ (i ≡ j → ⊥)
 eq-or-not i j = go (eqb i j) refl

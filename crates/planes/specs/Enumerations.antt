@@ -12,7 +12,7 @@ unfoldable pub among : List ℕ → ℕ → ℕ → Bool
 among queue zero p = false
 among queue (suc m) p = among queue m p || eqb p (at queue m)
 
--- where it stands
+-- an index below m at which p stands
 pub record Place (queue : List ℕ) (m p : ℕ) : Type 0 where
   pub index : ℕ
   pub below : index < m

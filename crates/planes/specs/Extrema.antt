@@ -1,5 +1,5 @@
--- Regional maxima and minima: largest connected sets of one value whose outside neighbours are all lower, or all higher.
--- A constant plane is both. Definitions only.
+-- Regional maxima and minima: largest connected sets of one value whose outside neighbours are all lower, or all
+-- higher. A constant plane is both. Definitions only.
 --
 --   flat            neighbours of one value; the pixels linked by it to one are its flat zone
 --   extreme         a pixel's flat zone is a regional maximum (over ltb) or minimum (over gtb)

@@ -3,7 +3,7 @@
 --   Near        a neighbour relation: a test of two pixels
 --   four w      neighbours in a plane of w columns: one coordinate differs by one, the other agrees
 --   Chain       a chain of neighbours leads from one pixel to another
---   linked      the same as a test that computes (`linked-iff` of proofs/Links: it passes exactly where there is a chain)
+--   linked      the same as a test that computes: it passes exactly where there is a chain (`linked-iff`)
 --   component   the pixels linked to one, in reading order
 --   first       a pixel is the first of its component in reading order
 use Prim.Native.Nat.{ℕ, zero, suc, _+_, _/_, _%_, _<_}
