@@ -1,5 +1,5 @@
--- What a pass does depends on its own section alone; so passes on disjoint intervals change places, with the same planes
--- and counts. For any symmetric neighbour relation and any sound rule. Assumes nothing.
+-- What a pass does depends on its own section alone; so passes on disjoint intervals change places, with the same
+-- planes and counts. For any symmetric neighbour relation and any sound rule. Assumes nothing.
 use Prim.Native.Nat.{ℕ, zero, suc, _≤_, _<_}
 use mathlib.Core.Path.{_≡_, refl, sym, ap, ap₂, subst, _∙_}
 use mathlib.Core.Logic.{_⊎_, inl, inr}
@@ -27,7 +27,9 @@ module _ (n : ℕ) (near near′ : Near) (same : (u v : ℕ) → u < n → v < n
   pub linked-same : (k i j : ℕ) → k ≤ n → i < n → j < n → linked near k i j ≡ linked near′ k i j
   unfolding linked
   linked-same zero i j h hi hj = ap (eqb i j ||_) (same i j hi hj)
-  linked-same (suc k) i j h hi hj = ap₂ _||_ (linked-same k i j (omega arith) hi hj) (ap₂ _&&_ (linked-same k i k (omega arith) hi h) (linked-same k k j (omega arith) h hj))
+  linked-same (suc k) i j h hi hj =
+      ap₂ _||_ (linked-same k i j (omega arith) hi hj)
+      (ap₂ _&&_ (linked-same k i k (omega arith) hi h) (linked-same k k j (omega arith) h hj))
 
   pub component-alike : (i : ℕ) → i < n → component n near i ≡ component n near′ i
   unfolding component
@@ -47,10 +49,13 @@ pub record Alike (s : Pass) (p r : List ℕ) : Type 0 where
 
 module _ (near : Near) (s : Pass) where
   -- a pixel in the component of one in the section is in the section
-  pub stays : (p : List ℕ) (n : ℕ) {i j : ℕ} → within s (at p i) ≡ true → Chain (inside near s p) n i j → within s (at p j) ≡ true
+  pub stays : (p : List ℕ) (n : ℕ) {i j : ℕ} → within s (at p i) ≡ true → Chain (inside near s p) n i j
+      → within s (at p j) ≡ true
   unfolding inside
   stays p n w here = w
-  stays p n w (step {j = j} {k = k} c e h) = and-right (within s (at p j)) (within s (at p k)) (and-left (within s (at p j) && within s (at p k)) (near j k) e)
+  stays p n w (step {j = j} {k = k} c e h) =
+      let both = and-left (within s (at p j) && within s (at p k)) (near j k) e in
+      and-right (within s (at p j)) (within s (at p k)) both
 
   module _ (p r : List ℕ) (A : Alike s p r) where
     pub inside-alike : (u v : ℕ) → u < length p → v < length p → inside near s r u v ≡ inside near s p u v
@@ -62,7 +67,8 @@ module _ (near : Near) (s : Pass) where
     values-alike i hi w =
         rw (A .size) (ap (map (at r)) (component-alike (length p) (inside near s r) (inside near s p) inside-alike i hi)
         ∙ map-same (linked (inside near s p) (length p) i) (at r) (at p) 0 (length p) (λ x _ h d.
-        A .same x (omega arith) (stays p (length p) w (linked-iff (inside near s p) (length p) i x hi (omega arith) .0 d))))
+        let c = linked-iff (inside near s p) (length p) i x hi (omega arith) .0 d in
+        A .same x (omega arith) (stays p (length p) w c)))
 
     pub tone-alike : (i : ℕ) → i < length p → within s (at p i) ≡ true → newTone near s r i ≡ newTone near s p i
     unfolding newTone
@@ -91,7 +97,13 @@ Disjoint s t = (s .b < t .a) ⊎ (t .b < s .a)
 
 -- what is in the one section is not in the other
 not-both : (s t : Pass) → Disjoint s t → (v : ℕ) → within s v ≡ true → within t v ≡ false
-not-both s t d v w = elim (decide (within t v)) [ inr e ↦ e | inl e ↦ absurd (elim d [ inl h ↦ omega (arith, in-of s v w, in-of t v e, h) | inr h ↦ omega (arith, in-of s v w, in-of t v e, h) ]) ]
+not-both s t d v w = elim (decide (within t v)) [
+  | inl e ↦ absurd (elim d [
+    | inl h ↦ omega (arith, in-of s v w, in-of t v e, h)
+    | inr h ↦ omega (arith, in-of s v w, in-of t v e, h)
+  ])
+  | inr e ↦ e
+]
 
 pub turn : (s t : Pass) → Disjoint s t → Disjoint t s
 turn s t (inl h) = inr h
@@ -99,10 +111,14 @@ turn s t (inr h) = inl h
 
 module _ (near : Near) (symm : (i j : ℕ) → near i j ≡ near j i) where
   -- a pixel stays in its section
-  pub section-stays : (s : Pass) → s .a ≤ s .b → (p : List ℕ) (i : ℕ) → within s (at p i) ≡ true → within s (newTone near s p i) ≡ true
-  section-stays s ab p i w = rw (in-tone near s p i w)
-      (let S = retone-sound s (values near s p i) ab in
-      in-to s (retone s (values near s p i) (at p i)) (S .above (at p i) (in-of s (at p i) w .0) (in-of s (at p i) w .1)) (S .below (at p i) (in-of s (at p i) w .0) (in-of s (at p i) w .1)))
+  pub section-stays : (s : Pass) → s .a ≤ s .b → (p : List ℕ) (i : ℕ) → within s (at p i) ≡ true
+      → within s (newTone near s p i) ≡ true
+  section-stays s ab p i w =
+      let S = retone-sound s (values near s p i) ab in
+      let bounds = in-of s (at p i) w in
+      let above = S .above (at p i) (bounds .0) (bounds .1) in
+      let below = S .below (at p i) (bounds .0) (bounds .1) in
+      rw (in-tone near s p i w) (in-to s (retone s (values near s p i) (at p i)) above below)
 
   -- a pass on another interval leaves the section of s alike
   pub other-alike : (s t : Pass) → Disjoint s t → t .a ≤ t .b → (p : List ℕ) → Alike s p (passed near t p)
@@ -120,12 +136,16 @@ module _ (near : Near) (symm : (i j : ℕ) → near i j ≡ near j i) where
       go i false e = ap (within s) (out-tone near t p i e)
 
   -- a pixel of the section of u, or of neither, after both passes
-  in-first : (u v : Pass) → Disjoint u v → u .a ≤ u .b → v .a ≤ v .b → (p : List ℕ) (i : ℕ) → i < length p → within u (at p i) ≡ true
-      → newTone near u (passed near v p) i ≡ newTone near v (passed near u p) i
-  in-first u v d ub vb p i h w = tone-alike near u p (passed near v p) (other-alike u v d vb p) i h w
-      ∙ sym (out-tone near v (passed near u p) i (rw (passed-at near symm u p i h) (not-both u v d _ (section-stays u ub p i w))) ∙ passed-at near symm u p i h)
+  in-first : (u v : Pass) → Disjoint u v → u .a ≤ u .b → v .a ≤ v .b → (p : List ℕ) (i : ℕ) → i < length p
+      → within u (at p i) ≡ true → newTone near u (passed near v p) i ≡ newTone near v (passed near u p) i
+  in-first u v d ub vb p i h w =
+      let new = passed-at near symm u p i h in
+      let outside : within v (at (passed near u p) i) ≡ false = rw new (not-both u v d _ (section-stays u ub p i w)) in
+      tone-alike near u p (passed near v p) (other-alike u v d vb p) i h w
+      ∙ sym (out-tone near v (passed near u p) i outside ∙ new)
 
-  in-none : (u v : Pass) (p : List ℕ) (i : ℕ) → i < length p → within u (at p i) ≡ false → within v (at p i) ≡ false → newTone near u (passed near v p) i ≡ at p i
+  in-none : (u v : Pass) (p : List ℕ) (i : ℕ) → i < length p → within u (at p i) ≡ false
+      → within v (at p i) ≡ false → newTone near u (passed near v p) i ≡ at p i
   in-none u v p i h e f =
       let q : at (passed near v p) i ≡ at p i = passed-at near symm v p i h ∙ out-tone near v p i f in
       out-tone near u (passed near v p) i (ap (within u) q ∙ e) ∙ q
@@ -140,13 +160,17 @@ module _ (near : Near) (symm : (i j : ℕ) → near i j ≡ near j i) where
         len : (u v : Pass) → length (passed near u (passed near v p)) ≡ length p
         len u v = length-passed near symm u (passed near v p) ∙ length-passed near symm v p
 
-        at-two : (u v : Pass) (i : ℕ) → i < length p → at (passed near u (passed near v p)) i ≡ newTone near u (passed near v p) i
-        at-two u v i h = passed-at near symm u (passed near v p) i (subst (i <_) (sym (length-passed near symm v p)) h)
+        at-two : (u v : Pass) (i : ℕ) → i < length p
+            → at (passed near u (passed near v p)) i ≡ newTone near u (passed near v p) i
+        at-two u v i h =
+            passed-at near symm u (passed near v p) i (subst (i <_) (sym (length-passed near symm v p)) h)
 
-        at-same : (i : ℕ) → i < length p → at (passed near s (passed near t p)) i ≡ at (passed near t (passed near s p)) i
+        at-same : (i : ℕ) → i < length p
+            → at (passed near s (passed near t p)) i ≡ at (passed near t (passed near s p)) i
         at-same i h = at-two s t i h ∙ mid (within s (at p i)) (within t (at p i)) refl refl ∙ sym (at-two t s i h)
           where
-            mid : (x y : Bool) → within s (at p i) ≡ x → within t (at p i) ≡ y → newTone near s (passed near t p) i ≡ newTone near t (passed near s p) i
+            mid : (x y : Bool) → within s (at p i) ≡ x → within t (at p i) ≡ y
+                → newTone near s (passed near t p) i ≡ newTone near t (passed near s p) i
             mid true y e f = in-first s t d sb tb p i h e
             mid false true e f = sym (in-first t s (turn s t d) tb sb p i h f)
             mid false false e f = in-none s t p i h e f ∙ sym (in-none t s p i h f e)

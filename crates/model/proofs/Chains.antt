@@ -1,14 +1,13 @@
 -- A whole chain of calls keeps neighbours in order and the plane's length, whatever its calls are and whichever of them
 -- are refused. Assumes nothing.
-use Prim.Native.Nat.{ℕ, zero, suc, _*_, _≤_, _<_}
-use mathlib.Core.Path.{_≡_, refl, sym, ap, subst, _∙_}
-use mathlib.Core.Bool.{Bool, true, false, not, _||_}
-use mathlib.Core.List.{List, [], _∷_, _++_}
-use native.Mathlib.Omega.{arith}
+use Prim.Native.Nat.{ℕ, zero, suc, _*_, _≤_}
+use mathlib.Core.Path.{_≡_, refl, subst, _∙_}
+use mathlib.Core.Bool.{Bool, not, _||_}
+use mathlib.Core.List.{List, [], _∷_}
 use lib.ListN.{length}
 use lib.Dec.{ltb, eqb}
 use borrow.Author.Tests.{ltb-false, eqb-true, not-false}
-use Rattle.planes.specs.Refusals.{when, _▷_, sizeRefusal, greatestPixels}
+use Rattle.planes.specs.Refusals.{when, sizeRefusal, greatestPixels}
 use Rattle.planes.specs.Neighbours.{four}
 use Rattle.planes.specs.Order.{Keeps}
 use Rattle.planes.proofs.Tests.{or-none}
@@ -17,7 +16,8 @@ use Rattle.planes.proofs.Neighbours.{four-sym}
 use Rattle.planes.proofs.Order.{keeps-refl, keeps-trans}
 use Rattle.model.specs.declared.Pass.{Pass}
 use Rattle.model.specs.Passes.{passed}
-use Rattle.model.specs.Calls.{planeRefusal, roomRefusal, areaRefusal, ruleRefusal, numbersRefusal, lentRefusal, Lent, Call, passRefusal, State, planeAfter, call, chain}
+use Rattle.model.specs.Calls.{planeRefusal, roomRefusal, numbersRefusal, lentRefusal, passRefusal}
+use Rattle.model.specs.Calls.{Lent, Call, State, planeAfter, call, chain}
 use Rattle.model.proofs.Order.{length-passed, passed-keeps}
 
 -- ## What an accepted call has
@@ -26,12 +26,13 @@ pub lent : (w h plane marks queue : ℕ) → lentRefusal w h plane marks queue �
 unfolding lentRefusal planeRefusal roomRefusal
 lent w h plane marks queue e =
     let tests = ▷-none (sizeRefusal w h greatestPixels) _ e in
-    let lengths = ▷-none (when (not (eqb plane (w * h))) 3) (when (ltb marks (w * h) || ltb queue (w * h)) 4) (tests .1) in
-    let other = when-none (not (eqb plane (w * h))) 2 (lengths .0) in
-    let room = or-none _ _ (when-none (ltb marks (w * h) || ltb queue (w * h)) 3 (lengths .1)) in
+    let other : Bool = not (eqb plane (w * h)) in
+    let short : Bool = ltb marks (w * h) || ltb queue (w * h) in
+    let lengths = ▷-none (when other 3) (when short 4) (tests .1) in
+    let room = or-none _ _ (when-none short 3 (lengths .1)) in
     record {
       size = sized w h greatestPixels (tests .0);
-      whole = eqb-true plane (w * h) (not-false (eqb plane (w * h)) other);
+      whole = eqb-true plane (w * h) (not-false (eqb plane (w * h)) (when-none other 2 (lengths .0)));
       covered = ltb-false marks (w * h) (room .0);
       spare = ltb-false queue (w * h) (room .1);
     }

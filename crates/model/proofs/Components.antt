@@ -36,7 +36,8 @@ module _ (near : Near) (s : Pass) (p : List ℕ) (i : ℕ) (f : ℕ → Bool) wh
   pub value-every : every f (values near s p i) ≡ true → (x : ℕ) → x < length p → C x ≡ true → f (at p x) ≡ true
   unfolding values component
   value-every e x l d =
-      implies-out (C x) (f (at p x)) (every-out _ (length p) (sym (every-kept f C (at p) (from 0 (length p))) ∙ e) x l) d
+      let all = sym (every-kept f C (at p) (from 0 (length p))) ∙ e in
+      implies-out (C x) (f (at p x)) (every-out _ (length p) all x l) d
 
 -- ## What becomes of a pixel
 
@@ -54,7 +55,8 @@ module _ (near : Near) (s : Pass) (p : List ℕ) where
   pub still-tone : (i : ℕ) → changes s (values near s p i) ≡ false → newTone near s p i ≡ at p i
   unfolding newTone retone
   still-tone i e =
-      ap (λ (t : Bool). cond (within s (at p i)) (cond t (tone (s .rule) (s .a) (s .b) (values near s p i) (at p i)) (at p i)) (at p i)) e
+      let new : ℕ = tone (s .rule) (s .a) (s .b) (values near s p i) (at p i) in
+      ap (λ (t : Bool). cond (within s (at p i)) (cond t new (at p i)) (at p i)) e
       ∙ same (within s (at p i)) (at p i)
     where
       same : (t : Bool) (x : ℕ) → cond t x x ≡ x

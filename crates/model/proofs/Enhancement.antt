@@ -20,11 +20,13 @@ use Rattle.model.proofs.Recursion.{recursion-listed}
 
 total-append : (xs ys : List Answer) → total (xs ++ ys) ≡ total xs + total ys
 total-append [] ys = sym (zero-add (total ys))
-total-append (x ∷ xs) ys = ap (answerCount x +_) (total-append xs ys) ∙ sym (add-assoc (answerCount x) (total xs) (total ys))
+total-append (x ∷ xs) ys =
+    ap (answerCount x +_) (total-append xs ys)
+    ∙ sym (add-assoc (answerCount x) (total xs) (total ys))
 
 -- ## Chains of accepted calls
 
--- `of` makes a call of a pass
+-- `of` gives each pass a call of it, with the marks and the queue that it is lent
 module _ (w h : ℕ) (of : Pass → Call) (same : (s : Pass) → of s .pass ≡ s) where
   abbrev Taken : Pass → Type 0
   Taken s = passRefusal w h (w * h) (of s) ≡ 0
@@ -32,6 +34,7 @@ module _ (w h : ℕ) (of : Pass → Call) (same : (s : Pass) → of s .pass ≡ 
   abbrev runs : State → List Pass → State
   runs s ss = chain w h s (map of ss)
 
+  -- the state after a pass that is not refused
   abbrev after : State → Pass → State
   after s t = record {
     plane = passed (four w) t (s .plane);
@@ -71,8 +74,10 @@ module _ (w h : ℕ) where
   chain-runs = chain-calls w h (callOf (w * h)) (λ s. refl)
 
   -- an enhancement whose passes are all accepted: the recursion's plane and sum
-  pub enhanced-recursion : (last area : ℕ) (rule : Rule) (p : List ℕ) → last ≤ 7 → length p ≡ w * h → All Accepted (passes last area rule)
-      → (enhanced w h p last area rule .plane ≡ run (four w) (recursive last area rule) p) × (total (enhanced w h p last area rule .answers) ≡ runCount (four w) (recursive last area rule) p)
+  pub enhanced-recursion : (last area : ℕ) (rule : Rule) (p : List ℕ) → last ≤ 7 → length p ≡ w * h
+      → All Accepted (passes last area rule)
+      → (enhanced w h p last area rule .plane ≡ run (four w) (recursive last area rule) p)
+      × (total (enhanced w h p last area rule .answers) ≡ runCount (four w) (recursive last area rule) p)
   unfolding enhanced
   enhanced-recursion last area rule p l size a =
       let r = chain-runs (passes last area rule) a (start p) size in

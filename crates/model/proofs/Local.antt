@@ -17,45 +17,61 @@ use Rattle.planes.proofs.Neighbours.{filled}
 use Rattle.model.specs.declared.Pass.{Pass}
 use Rattle.model.specs.Passes.{within, inside, values, newTone}
 
-module _ (near : Near) (s : Pass) (p r : List ℕ) (size : length r ≡ length p) (i : ℕ) (hi : i < length p) (wi : within s (at p i) ≡ true) where
+module _ (near : Near) (s : Pass) (p r : List ℕ) (size : length r ≡ length p) (i : ℕ) (hi : i < length p) where
+  -- neighbours in the section, before and after
+  abbrev In : Near
+  In = inside near s p
+
+  abbrev In′ : Near
+  In′ = inside near s r
+
   -- the component of i in p
   abbrev C : ℕ → Bool
-  C = linked (inside near s p) (length p) i
+  C = linked In (length p) i
 
   module _ (agree : (x : ℕ) → x < length p → C x ≡ true → at r x ≡ at p x)
-      (edge : (x y : ℕ) → x < length p → y < length p → C x ≡ true → near x y ≡ true → C y ≡ false → within s (at r y) ≡ false) where
-    same-component : (x : ℕ) → x < length p → C x ≡ linked (inside near s r) (length p) i x
+      (edge : (x y : ℕ) → x < length p → y < length p → C x ≡ true → near x y ≡ true → C y ≡ false
+      → within s (at r y) ≡ false) where
+    same-component : (x : ℕ) → x < length p → C x ≡ linked In′ (length p) i x
     unfolding inside
-    same-component = filled (inside near s r) (length p) i C hi (link-refl (inside near s p) (length p) i) closed (λ u hu d. reach (linked-iff (inside near s p) (length p) i u hi hu .0 d))
+    same-component =
+        filled In′ (length p) i C hi (link-refl In (length p) i) closed
+        (λ u hu d. reach (linked-iff In (length p) i u hi hu .0 d))
       where
-        closed : (u v : ℕ) → u < length p → v < length p → C u ≡ true → inside near s r u v ≡ true → C v ≡ true
+        closed : (u v : ℕ) → u < length p → v < length p → C u ≡ true → In′ u v ≡ true → C v ≡ true
         closed u v hu hv c e = elim (decide (C v)) [
           | inl d ↦ d
-          | inr d ↦ absurd (true≢false
-              (sym (and-right (within s (at r u)) (within s (at r v)) (and-left (within s (at r u) && within s (at r v)) (near u v) e))
-              ∙ edge u v hu hv c (and-right (within s (at r u) && within s (at r v)) (near u v) e) d))
+          | inr d ↦
+              let both = and-left (within s (at r u) && within s (at r v)) (near u v) e in
+              let beside = and-right (within s (at r u) && within s (at r v)) (near u v) e in
+              let in-v = and-right (within s (at r u)) (within s (at r v)) both in
+              absurd (true≢false (sym in-v ∙ edge u v hu hv c beside d))
         ]
 
         -- a pixel of a chain is in the component
-        in-C : {u : ℕ} → u < length p → Chain (inside near s p) (length p) i u → C u ≡ true
-        in-C {u} hu c = linked-iff (inside near s p) (length p) i u hi hu .1 c
+        in-C : {u : ℕ} → u < length p → Chain In (length p) i u → C u ≡ true
+        in-C {u} hu c = linked-iff In (length p) i u hi hu .1 c
 
-        end : {u : ℕ} → Chain (inside near s p) (length p) i u → u < length p
+        end : {u : ℕ} → Chain In (length p) i u → u < length p
         end here = hi
         end (step c e h) = h
 
-        reach : {u : ℕ} → Chain (inside near s p) (length p) i u → Chain (inside near s r) (length p) i u
+        reach : {u : ℕ} → Chain In (length p) i u → Chain In′ (length p) i u
         reach here = here
-        reach (step {j = j} {k = k} c e h) = step (reach c)
-            (subst (λ (v : ℕ). (within s v && within s (at r k) && near j k) ≡ true) (sym (agree j (end c) (in-C (end c) c)))
-            (subst (λ (v : ℕ). (within s (at p j) && within s v && near j k) ≡ true) (sym (agree k h (in-C h (step c e h)))) e)) h
+        reach (step {j = j} {k = k} c e h) =
+            let old-j = sym (agree j (end c) (in-C (end c) c)) in
+            let old-k = sym (agree k h (in-C h (step c e h))) in
+            let e₁ = subst (λ (v : ℕ). (within s (at p j) && within s v && near j k) ≡ true) old-k e in
+            let e₂ = subst (λ (v : ℕ). (within s v && within s (at r k) && near j k) ≡ true) old-j e₁ in
+            step (reach c) e₂ h
 
     pub component-alike : newTone near s r i ≡ newTone near s p i
     unfolding newTone values component
-    component-alike = rw (agree i hi (link-refl (inside near s p) (length p) i), size, ap (λ (l : List ℕ). map (at r) l) comps, tones)
+    component-alike =
+        rw (agree i hi (link-refl In (length p) i), size, ap (λ (l : List ℕ). map (at r) l) comps, tones)
       where
-        comps : keep (linked (inside near s r) (length p) i) (from 0 (length p)) ≡ keep (linked (inside near s p) (length p) i) (from 0 (length p))
+        comps : keep (linked In′ (length p) i) (from 0 (length p)) ≡ keep C (from 0 (length p))
         comps = keep-same _ _ 0 (length p) (λ x _ h. sym (same-component x (omega arith)))
 
-        tones : map (at r) (keep (linked (inside near s p) (length p) i) (from 0 (length p))) ≡ map (at p) (keep (linked (inside near s p) (length p) i) (from 0 (length p)))
-        tones = map-same (linked (inside near s p) (length p) i) (at r) (at p) 0 (length p) (λ x _ h c. agree x (omega arith) c)
+        tones : map (at r) (keep C (from 0 (length p))) ≡ map (at p) (keep C (from 0 (length p)))
+        tones = map-same C (at r) (at p) 0 (length p) (λ x _ h c. agree x (omega arith) c)

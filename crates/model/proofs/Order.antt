@@ -1,16 +1,16 @@
 -- A pass keeps neighbours in order: one that was no higher stays no higher. For any symmetric neighbour relation and
 -- any rule that is sound (never falls, stays in [a, b]). Assumes nothing.
 use Prim.Native.Nat.{ℕ, _≤_, _<_}
-use mathlib.Core.Path.{_≡_, refl, sym, ap, ap₂, _∙_}
+use mathlib.Core.Path.{_≡_, refl}
 use mathlib.Core.Logic.{_⊎_, inl, inr}
 use mathlib.Core.Bool.{Bool, true, false, cond, _&&_}
-use mathlib.Core.List.{List, map}
+use mathlib.Core.List.{List}
 use native.Mathlib.Nat.{le-trans, le-of-lt}
 use native.Mathlib.Omega.{arith}
 use lib.ListN.{length}
 use lib.Dec.{leb}
 use borrow.Author.Tests.{leb-true, leb-false, le-leb}
-use Rattle.planes.specs.Lists.{from, at}
+use Rattle.planes.specs.Lists.{at}
 use Rattle.planes.specs.Neighbours.{Near}
 use Rattle.planes.specs.Order.{Keeps}
 use Rattle.planes.proofs.Tests.{and-left, and-right, and-both}
@@ -33,7 +33,10 @@ retone-sound s vs ab = go (changes s vs)
     go false = record { rises = λ v u _ h _. h; above = λ v h _. h; below = λ v _ h. h }
 
 pub in-of : (s : Pass) (v : ℕ) → within s v ≡ true → (s .a ≤ v) × (v ≤ s .b)
-in-of s v e = (leb-true (s .a) v (and-left (leb (s .a) v) (leb v (s .b)) e), leb-true v (s .b) (and-right (leb (s .a) v) (leb v (s .b)) e))
+in-of s v e =
+    let above = and-left (leb (s .a) v) (leb v (s .b)) e in
+    let below = and-right (leb (s .a) v) (leb v (s .b)) e in
+    (leb-true (s .a) v above, leb-true v (s .b) below)
 
 pub in-to : (s : Pass) (v : ℕ) → s .a ≤ v → v ≤ s .b → within s v ≡ true
 in-to s v l h = and-both (le-leb (s .a) v l) (le-leb v (s .b) h)
@@ -46,7 +49,8 @@ out-of s v e = go (leb (s .a) v) refl e
     go false d f = inl (leb-false (s .a) v d)
 
 module _ (near : Near) (symm : (i j : ℕ) → near i j ≡ near j i) (s : Pass) (ab : s .a ≤ s .b) (p : List ℕ) where
-  pub order : (i j : ℕ) → i < length p → j < length p → near i j ≡ true → at p i ≤ at p j → newTone near s p i ≤ newTone near s p j
+  pub order : (i j : ℕ) → i < length p → j < length p → near i j ≡ true → at p i ≤ at p j
+      → newTone near s p i ≤ newTone near s p j
   order i j hi hj e h = go (within s (at p i)) (within s (at p j)) refl refl
     where
       S : (vs : List ℕ) → Sound (s .a) (s .b) (retone s vs)
@@ -59,7 +63,9 @@ module _ (near : Near) (symm : (i j : ℕ) → near i j ≡ near j i) (s : Pass)
       vj = at p j
 
       go : (t u : Bool) → within s vi ≡ t → within s vj ≡ u → newTone near s p i ≤ newTone near s p j
-      go true true wi wj = rw (in-tone near s p i wi, in-tone near s p j wj, same-values near symm s p i j hi hj wi wj e)
+      go true true wi wj =
+          let one = same-values near symm s p i j hi hj wi wj e in
+          rw (in-tone near s p i wi, in-tone near s p j wj, one)
           (S (values near s p j) .rises vi vj (in-of s vi wi .0) h (in-of s vj wj .1))
       go true false wi wj = rw (in-tone near s p i wi, out-tone near s p j wj)
           (elim (out-of s vj wj) [
@@ -85,4 +91,6 @@ module _ (near : Near) (symm : (i j : ℕ) → near i j ≡ near j i) where
   passed-at s p i h = all-at (newTone near s p) (length p) i h
 
   pub passed-keeps : (s : Pass) (p : List ℕ) → s .a ≤ s .b → Keeps near (length p) p (passed near s p)
-  passed-keeps s p ab = record { ordered = λ i j hi hj e h. rw (passed-at s p i hi, passed-at s p j hj) (order near symm s ab p i j hi hj e h) }
+  passed-keeps s p ab = record {
+    ordered = λ i j hi hj e h. rw (passed-at s p i hi, passed-at s p j hj) (order near symm s ab p i j hi hj e h);
+  }

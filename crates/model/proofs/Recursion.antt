@@ -1,10 +1,10 @@
--- The recursion by sections, each before its lower and its upper half, ends as the passes level by level do, in the same
--- plane with the same sum of counts: passes on disjoint intervals change places. For any symmetric neighbour relation.
--- Assumes nothing.
-use Prim.Native.Nat.{ℕ, zero, suc, _+_, _-_, _*_, _^_, _≤_, _<_}
+-- The recursion by sections, each before its lower and its upper half, ends as the passes level by level do, in the
+-- same plane with the same sum of counts: passes on disjoint intervals change places. For any symmetric neighbour
+-- relation. Assumes nothing.
+use Prim.Native.Nat.{ℕ, zero, suc, _+_, _-_, _^_, _≤_, _<_}
 use mathlib.Core.Path.{_≡_, refl, sym, ap, ap₂, subst, _∙_}
 use mathlib.Core.Logic.{inl}
-use mathlib.Core.List.{List, [], _∷_, _++_, map, append-assoc}
+use mathlib.Core.List.{List, [], _∷_, _++_, append-assoc}
 use native.Mathlib.Nat.{add-assoc, suc-add, zero-add}
 use native.Mathlib.Omega.{arith}
 use lib.Pow.{pow-pos}
@@ -39,7 +39,10 @@ module _ (near : Near) (symm : (i j : ℕ) → near i j ≡ near j i) where
 
   same-cons : (s : Pass) {xs ys : List Pass} → Same near xs ys → Same near (s ∷ xs) (s ∷ ys)
   unfolding run runCount
-  same-cons s a = record { planes = λ p. a .planes (passed near s p); sums = λ p. ap (passCount near s p +_) (a .sums (passed near s p)) }
+  same-cons s a = record {
+    planes = λ p. a .planes (passed near s p);
+    sums = λ p. ap (passCount near s p +_) (a .sums (passed near s p));
+  }
 
   same-after : (zs : List Pass) {xs ys : List Pass} → Same near xs ys → Same near (zs ++ xs) (zs ++ ys)
   same-after [] a = a
@@ -50,28 +53,39 @@ module _ (near : Near) (symm : (i j : ℕ) → near i j ≡ near j i) where
   run-append [] ys p = refl
   run-append (x ∷ xs) ys p = run-append xs ys (passed near x p)
 
-  pub count-append : (xs ys : List Pass) (p : List ℕ) → runCount near (xs ++ ys) p ≡ runCount near xs p + runCount near ys (run near xs p)
+  pub count-append : (xs ys : List Pass) (p : List ℕ)
+      → runCount near (xs ++ ys) p ≡ runCount near xs p + runCount near ys (run near xs p)
   unfolding run runCount
   count-append [] ys p = sym (zero-add _)
-  count-append (x ∷ xs) ys p = ap (passCount near x p +_) (count-append xs ys (passed near x p)) ∙ sym (add-assoc (passCount near x p) _ _)
+  count-append (x ∷ xs) ys p =
+      ap (passCount near x p +_) (count-append xs ys (passed near x p))
+      ∙ sym (add-assoc (passCount near x p) _ _)
 
   same-before : {xs ys : List Pass} (zs : List Pass) → Same near xs ys → Same near (xs ++ zs) (ys ++ zs)
   same-before {xs} {ys} zs a = record {
     planes = λ p. run-append xs zs p ∙ ap (run near zs) (a .planes p) ∙ sym (run-append ys zs p);
-    sums = λ p. count-append xs zs p ∙ ap₂ (λ (k : ℕ) (q : List ℕ). k + runCount near zs q) (a .sums p) (a .planes p) ∙ sym (count-append ys zs p);
+    sums = λ p. count-append xs zs p
+        ∙ ap₂ (λ (k : ℕ) (q : List ℕ). k + runCount near zs q) (a .sums p) (a .planes p)
+        ∙ sym (count-append ys zs p);
   }
 
   -- a pass with a ≤ b, and one away from it
   abbrev Away : Pass → Pass → Type 0
   Away s t = (s .a ≤ s .b) × (t .a ≤ t .b) × Disjoint s t
 
+  -- two passes apart change places; so does a pass with a list, and a list with a list
   swap : (s t : Pass) (zs : List Pass) → Away s t → Same near (s ∷ t ∷ zs) (t ∷ s ∷ zs)
   unfolding run runCount
   swap s t zs w = record {
-    planes = λ p. ap (run near zs) (sym (commute near symm s t (w .2) (w .0) (w .1) p));
-    sums = λ p. ap₂ (λ (k : ℕ) (q : List ℕ). passCount near s p + (k + runCount near zs q)) (counts-stay near symm t s (turn s t (w .2)) (w .1) (w .0) p) (sym (commute near symm s t (w .2) (w .0) (w .1) p))
+    planes = λ p. ap (run near zs) (one p);
+    sums = λ p.
+        ap₂ (λ (k : ℕ) (q : List ℕ). passCount near s p + (k + runCount near zs q))
+        (counts-stay near symm t s (turn s t (w .2)) (w .1) (w .0) p) (one p)
         ∙ omega (arith, counts-stay near symm s t (w .2) (w .0) (w .1) p);
   }
+    where
+      one : (p : List ℕ) → passed near t (passed near s p) ≡ passed near s (passed near t p)
+      one p = sym (commute near symm s t (w .2) (w .0) (w .1) p)
 
   past : (s : Pass) (ys zs : List Pass) → All (Away s) ys → Same near (s ∷ ys ++ zs) (ys ++ s ∷ zs)
   past s [] zs none = same-refl (s ∷ zs)
@@ -96,6 +110,7 @@ module _ (k area : ℕ) (rule : Rule) where
   wide zero a (suc l) = []
   wide (suc d) a (suc l) = wide d a l ++ wide d (a + 2 ^ (d + k)) l
 
+  -- a section that lies in [lo, hi)
   abbrev In : ℕ → ℕ → Pass → Type 0
   In lo hi s = (lo ≤ s .a) × (s .a ≤ s .b) × (s .b < hi)
 
@@ -106,9 +121,12 @@ module _ (k area : ℕ) (rule : Rule) where
   unfolding wide section
   wide-in d a zero = let h = pow-pos (d + k) in more {s = section area rule a (2 ^ (d + k))} (omega arith) none
   wide-in zero a (suc l) = none
-  wide-in (suc d) a (suc l) = let e = double d in all-append
-      (all-map (λ s (h : In a (a + 2 ^ (d + k)) s). omega arith) (wide-in d a l))
-      (all-map (λ s (h : In (a + 2 ^ (d + k)) (a + 2 ^ (d + k) + 2 ^ (d + k)) s). omega arith) (wide-in d (a + 2 ^ (d + k)) l))
+  wide-in (suc d) a (suc l) =
+      let e = double d in
+      let half : ℕ = 2 ^ (d + k) in
+      all-append
+      (all-map (λ s (h : In a (a + half) s). omega arith) (wide-in d a l))
+      (all-map (λ s (h : In (a + half) (a + half + half) s). omega arith) (wide-in d (a + half) l))
 
 all-joined : {P : Pass → Type 0} (x : ℕ → List Pass) → ((l : ℕ) → All P (x l)) → (i m : ℕ) → All P (joined x i m)
 unfolding joined
@@ -124,24 +142,34 @@ module _ (near : Near) (symm : (i j : ℕ) → near i j ≡ near j i) where
   same-of : {xs ys : List Pass} → xs ≡ ys → Same near xs ys
   same-of {xs} e = subst (Same near xs) e (same-refl near symm xs)
 
-  interleave : (x y : ℕ → List Pass) → ((l r : ℕ) → All (λ s. All (Away near symm s) (y r)) (x l)) → (i m : ℕ) → Same near (joined (λ l. x l ++ y l) i m) (joined x i m ++ joined y i m)
+  -- two families of lists that are apart, list by list in turn or one family after the other
+  interleave : (x y : ℕ → List Pass) → ((l r : ℕ) → All (λ s. All (Away near symm s) (y r)) (x l)) → (i m : ℕ)
+      → Same near (joined (λ l. x l ++ y l) i m) (joined x i m ++ joined y i m)
   unfolding joined
   interleave x y h i zero = same-refl near symm []
   interleave x y h i (suc m) =
       let jx = joined x (suc i) m in
       let jy = joined y (suc i) m in
+      let past = same-sym near symm (block near symm jx (y i) jy (all-joined x (λ l. h l i) (suc i) m)) in
       same-trans near symm (same-after near symm (x i ++ y i) (interleave x y h (suc i) m))
       (same-trans near symm (same-of (append-assoc (x i) (y i) (jx ++ jy)))
-      (same-trans near symm (same-after near symm (x i) (same-sym near symm (block near symm jx (y i) jy (all-joined x (λ l. h l i) (suc i) m))))
+      (same-trans near symm (same-after near symm (x i) past)
       (same-of (sym (append-assoc (x i) jx (y i ++ jy))))))
 
   module _ (k area : ℕ) (rule : Rule) where
-    apart-halves : (d a l r : ℕ) → All (λ s. All (Away near symm s) (wide k area rule d (a + 2 ^ (d + k)) r)) (wide k area rule d a l)
-    apart-halves d a l r = all-map (λ s (g : In k area rule a (a + 2 ^ (d + k)) s). all-map (λ t (h : In k area rule (a + 2 ^ (d + k)) (a + 2 ^ (d + k) + 2 ^ (d + k)) t).
-        (g .1, h .1, inl (omega arith))) (wide-in k area rule d (a + 2 ^ (d + k)) r)) (wide-in k area rule d a l)
+    -- the lists of the two halves are apart
+    apart-halves : (d a l r : ℕ)
+        → All (λ s. All (Away near symm s) (wide k area rule d (a + 2 ^ (d + k)) r)) (wide k area rule d a l)
+    apart-halves d a l r =
+        let half : ℕ = 2 ^ (d + k) in
+        all-map (λ s (g : In k area rule a (a + half) s).
+        all-map (λ t (h : In k area rule (a + half) (a + half + half) t). (g .1, h .1, inl (omega arith)))
+        (wide-in k area rule d (a + half) r))
+        (wide-in k area rule d a l)
 
-    -- the two halves, one after the other, and level by level
-    halves : (d a m : ℕ) → Same near (joined (λ l. wide k area rule d a l ++ wide k area rule d (a + 2 ^ (d + k)) l) 0 m)
+    -- the two halves, level by level or one after the other
+    halves : (d a m : ℕ)
+        → Same near (joined (λ l. wide k area rule d a l ++ wide k area rule d (a + 2 ^ (d + k)) l) 0 m)
         (joined (wide k area rule d a) 0 m ++ joined (wide k area rule d (a + 2 ^ (d + k))) 0 m)
     halves d a m = interleave (wide k area rule d a) (wide k area rule d (a + 2 ^ (d + k))) (apart-halves d a) 0 m
 
@@ -158,8 +186,10 @@ module _ (near : Near) (symm : (i j : ℕ) → near i j ≡ near j i) where
 
 -- ## An enhancement's recursion and its list of passes
 
+-- the levels below the two halves are the levels 1 to m + 1, section by section
 listed : (m area : ℕ) (rule : Rule) → m < 7
-    → joined (λ l. wide (7 - m) area rule m 0 l ++ wide (7 - m) area rule m (0 + 2 ^ (m + (7 - m))) l) 0 (suc m) ≡ levels (from 1 (suc m)) area rule
+    → joined (λ l. wide (7 - m) area rule m 0 l ++ wide (7 - m) area rule m (0 + 2 ^ (m + (7 - m))) l) 0 (suc m)
+    ≡ levels (from 1 (suc m)) area rule
 unfolding joined wide levels level section
 listed zero area rule h = refl
 listed (suc zero) area rule h = refl
@@ -171,13 +201,16 @@ listed (suc (suc (suc (suc (suc (suc zero)))))) area rule h = refl
 listed (suc (suc (suc (suc (suc (suc (suc m))))))) area rule h = absurd (omega arith)
 
 module _ (near : Near) (symm : (i j : ℕ) → near i j ≡ near j i) where
-  pub recursion-listed : (last area : ℕ) (rule : Rule) → last ≤ 7 → Same near (recursive last area rule) (passes last area rule)
+  pub recursion-listed : (last area : ℕ) (rule : Rule) → last ≤ 7
+      → Same near (recursive last area rule) (passes last area rule)
   unfolding recursive passes level levels section
   recursion-listed zero area rule h = same-refl near symm _
   recursion-listed (suc m) area rule h =
       let a = 0 + 2 ^ (m + (7 - m)) in
+      let lower = deep-wide near symm (7 - m) area rule m 0 in
+      let upper = deep-wide near symm (7 - m) area rule m a in
       same-cons near symm (section 1 rule 0 256)
-      (same-trans near symm (same-before near symm (deep (7 - m) area rule m a) (deep-wide near symm (7 - m) area rule m 0))
-      (same-trans near symm (same-after near symm (joined (wide (7 - m) area rule m 0) 0 (suc m)) (deep-wide near symm (7 - m) area rule m a))
+      (same-trans near symm (same-before near symm (deep (7 - m) area rule m a) lower)
+      (same-trans near symm (same-after near symm (joined (wide (7 - m) area rule m 0) 0 (suc m)) upper)
       (same-trans near symm (same-sym near symm (halves near symm (7 - m) area rule m 0 (suc m)))
       (same-of near symm (listed m area rule h)))))

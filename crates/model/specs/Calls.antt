@@ -7,7 +7,7 @@
 --   call, chain  the state after a call, and after a chain of calls
 use Prim.Native.Nat.{ℕ, zero, suc, _+_, _*_, _≤_}
 use mathlib.Core.Path.{_≡_}
-use mathlib.Core.Bool.{Bool, not, _||_}
+use mathlib.Core.Bool.{not, _||_}
 use mathlib.Core.List.{List, [], _∷_, _++_}
 use lib.ListN.{length}
 use lib.Dec.{ltb, eqb}
@@ -48,6 +48,7 @@ unfoldable pub lentRefusal : ℕ → ℕ → ℕ → ℕ → ℕ → ℕ
 lentRefusal w h plane marks queue =
     sizeRefusal w h greatestPixels ▷ planeRefusal w h plane ▷ roomRefusal w h marks queue
 
+-- what the model is fed of a call: the lengths of marks and queue, and the pass
 pub record Call : Type 0 where
   pub marks : ℕ
   pub queue : ℕ
@@ -57,7 +58,8 @@ pub record Call : Type 0 where
 unfoldable pub passRefusal : ℕ → ℕ → ℕ → Call → ℕ
 passRefusal w h plane c = lentRefusal w h plane (c .marks) (c .queue) ▷ numbersRefusal (c .pass)
 
--- what a call that is not refused by 1 to 4 has: a plane of w columns and h rows, lent whole, with room in marks and queue
+-- what a call that is not refused by 1 to 4 has: a plane of w columns and h rows, lent whole, and as many entries or
+-- more in marks and queue
 pub record Lent (w h plane marks queue : ℕ) : Type 0 where
   pub size : Sized w h greatestPixels
   pub whole : plane ≡ w * h
@@ -76,12 +78,14 @@ abbrev pub answerCount : Answer → ℕ
 answerCount (Refused k) = 0
 answerCount (Done count) = count
 
+-- the sum of the counts
 abbrev pub total : List Answer → ℕ
 total [] = 0
 total (x ∷ xs) = answerCount x + total xs
 
 -- ## The model
 
+-- the plane as it stands, and the answers so far, first to last
 pub record State : Type 0 where
   pub plane : List ℕ
   pub answers : List Answer
@@ -94,6 +98,7 @@ abbrev pub planeAfter : ℕ → List ℕ → List ℕ → List ℕ
 planeAfter zero old new = new
 planeAfter (suc k) old new = old
 
+-- a refused call answers its number and leaves the plane; any other answers its count and leaves the plane of its pass
 unfoldable pub call : ℕ → ℕ → State → Call → State
 call w h s c =
     let refusal = passRefusal w h (length (s .plane)) c in
@@ -102,6 +107,7 @@ call w h s c =
       answers = s .answers ++ (answered refusal (passCount (four w) (c .pass) (s .plane)) ∷ []);
     }
 
+-- one call after the other
 unfoldable pub chain : ℕ → ℕ → State → List Call → State
 chain w h s [] = s
 chain w h s (c ∷ cs) = chain w h (call w h s c) cs

@@ -1,7 +1,7 @@
 -- The passes that an enhancement stands for, level by level with the lower section first, and the chain of them; and
 -- the recursion by sections, each before its lower and its upper half. Definitions only.
 --
---   passes     the list that 01 names: level 0 with area 1, then the levels 1 to L with the least area
+--   passes     the list of passes: level 0 with area 1, then the levels 1 to `last` with the least area
 --   enhanced   the model's chain of these passes
 --   recursive  the passes in the order of the recursion, depth first
 use Prim.Native.Nat.{ℕ, zero, suc, _+_, _-_, _*_, _^_}
@@ -17,14 +17,16 @@ section area rule a width = record { a = a; b = a + width - 1; area = area; rule
 
 -- ## Level by level
 
--- the sections of level l, whose width is 2 ^ (8 - l)
+-- the 2 ^ l sections of level l, whose width is 2 ^ (8 - l), lower first
 unfoldable pub level : ℕ → ℕ → Rule → List Pass
 level l area rule = map (λ j. section area rule (j * 2 ^ (8 - l)) (2 ^ (8 - l))) (from 0 (2 ^ l))
 
+-- the levels of a list, one after the other
 unfoldable pub levels : List ℕ → ℕ → Rule → List Pass
 levels [] area rule = []
 levels (l ∷ ls) area rule = level l area rule ++ levels ls area rule
 
+-- level 0 with area 1, for the whole plane is treated whatever its size; then the levels 1 to `last`
 unfoldable pub passes : ℕ → ℕ → Rule → List Pass
 passes last area rule = level 0 1 rule ++ levels (from 1 last) area rule
 
@@ -32,6 +34,7 @@ passes last area rule = level 0 1 rule ++ levels (from 1 last) area rule
 unfoldable pub callOf : ℕ → Pass → Call
 callOf n s = record { marks = n; queue = n; pass = s }
 
+-- the state after the passes, from the plane p of w columns and h rows
 unfoldable pub enhanced : ℕ → ℕ → List ℕ → ℕ → ℕ → Rule → State
 enhanced w h p last area rule = chain w h (start p) (map (callOf (w * h)) (passes last area rule))
 

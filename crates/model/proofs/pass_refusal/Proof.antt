@@ -1,5 +1,5 @@
 -- `model::pass_refusal` meets its contract: each answer follows from the tests that led to it. Assumes nothing.
-use mathlib.Core.Path.{_≡_, refl, sym, ap, _∙_}
+use mathlib.Core.Path.{sym, _∙_}
 use borrow.Author.Needs.{needs}
 use borrow.Author.Tests.{lt-ltb, le-ltb}
 use Rattle.planes.proofs.Refusals.{▷-left, ▷-right}
