@@ -1,23 +1,21 @@
 -- What an accepted call does, the outcome of a call by the number of its refusal, and that each call is a step of the
 -- model; so any sequence of calls gives the model's answers and state. Assumes nothing.
 use Prim.Native.Nat.{ℕ, zero, suc, _*_, _≤_, _<_}
-use mathlib.Core.Path.{_≡_, refl, sym, ap, ap₂, subst, _∙_}
+use mathlib.Core.Path.{_≡_, refl, sym, ap, ap₂, _∙_}
 use mathlib.Core.Bool.{Bool, true, false, cond, _&&_}
 use mathlib.Core.List.{List, [], _∷_, _++_, append-assoc, append-nil}
 use native.Mathlib.Omega.{arith}
 use lib.ListN.{length}
-use lib.Dec.{eqb}
-use borrow.Author.Tests.{eqb-true}
-use Rattle.planes.specs.Lists.{at, Beyond}
+use Rattle.planes.specs.Lists.{at}
 use Rattle.planes.specs.Neighbours.{Near, four}
-use Rattle.planes.proofs.Tests.{decide, and-left, and-right}
+use Rattle.planes.proofs.Tests.{and-left, and-right}
 use Rattle.planes.proofs.Lists.{beyond-refl, beyond-trans}
 use Rattle.model.specs.declared.Pass.{Pass}
 use Rattle.model.specs.declared.Answer.{Answer}
 use Rattle.model.specs.declared.Answer.the-variants.{Refused, Done}
 use Rattle.model.specs.Passes.{within, inside, passed, passCount}
-use Rattle.model.specs.Calls.{Lent, passRefusal, answered, planeAfter, Call, State, start, call, chain}
-use Rattle.passes.specs.Sections.{inert, Marked, Coded, Section, Treated}
+use Rattle.model.specs.Calls.{Lent, answered, planeAfter, Call, State, start, call, chain}
+use Rattle.passes.specs.Sections.{Marked, Coded, Section, Treated}
 use Rattle.passes.specs.Calls.{callOn, refusalOf, Over, PassOutcome, Sequence, none, more}
 use Rattle.passes.specs.declared.Next.{Next}
 
@@ -45,6 +43,7 @@ marked-coded {near} {n} {s} {plane} {marks} {marks'} M = record {
         go true d = d
         go false d = absurd (omega (arith, sym e ∙ M .drawn p h ∙ ap (λ (t : Bool). cond t 1 0) d))
 
+-- what the treatment requires of it, with next marks that differ from 1
 pub marked-section : {w h : ℕ} {s : Pass} {t : Next} {plane marks marks' queue : List ℕ}
     → Lent w h (length plane) (length marks) (length queue) → s .a ≤ s .b → Marked s plane marks marks' (w * h)
     → (t .low ≡ 1 → ⊥) × (t .high ≡ 1 → ⊥) → Section plane marks' queue w h 1 s t
@@ -62,6 +61,7 @@ marked-section {w} {h} L ab M f = record {
   coded = marked-coded M;
 }
 
+-- a marked section that was treated had the pass
 pub over : {w h code r : ℕ} {s : Pass} {t : Next} {plane marks₀ marks queue plane' marks' queue' : List ℕ}
     → Marked s plane marks₀ marks (w * h) → Treated (four w) (w * h) code s t plane marks queue plane' marks' queue' r
     → Over w h s plane marks₀ queue plane' marks' queue' r
@@ -74,6 +74,7 @@ over M T = record {
 
 -- ## Outcomes
 
+-- by a number other than 0 the call is refused, and nothing changes
 pub refused-by : {w h : ℕ} {s : Pass} {plane marks queue : List ℕ} (x : ℕ) → x ≡ refusalOf w h s plane marks queue
     → (x ≡ 0 → ⊥) → PassOutcome w h s plane marks queue (Refused x) plane marks queue
 refused-by zero e f = absurd (f refl)
@@ -85,6 +86,7 @@ refused-by {w} {h} {s} {plane} {marks} {queue} (suc x) e f = record {
   queue-rest = beyond-refl (w * h) queue;
 }
 
+-- by 0 the call is the pass
 pub done-by : {w h r : ℕ} {s : Pass} {plane marks queue plane' marks' queue' : List ℕ}
     → refusalOf w h s plane marks queue ≡ 0 → Over w h s plane marks queue plane' marks' queue' r
     → PassOutcome w h s plane marks queue (Done r) plane' marks' queue'
@@ -104,7 +106,8 @@ pub call-is : {w h : ℕ} {s : Pass} {plane marks queue plane' marks' queue' : L
     ≡ record { plane = plane'; answers = old ++ (r ∷ []) }
 unfolding call
 call-is O old =
-    ap₂ (λ (p : List ℕ) (a : Answer). record { plane = p; answers = old ++ (a ∷ []) }) (sym (O .plane-is)) (sym (O .answer))
+    ap₂ (λ (p : List ℕ) (a : Answer). record { plane = p; answers = old ++ (a ∷ []) })
+    (sym (O .plane-is)) (sym (O .answer))
 
 -- any sequence of calls gives the model's answers and state
 sequence-from : {w h : ℕ} {plane last : List ℕ} {cs : List Call} {rs : List Answer} → Sequence w h plane cs rs last

@@ -1,20 +1,19 @@
 -- An inert component stays as it is: neither the pass changes it, nor a later pass with the same rule and no smaller
 -- least area on a part of its section. The components of the part lie in those of the section, so they are no larger,
 -- and have no other values. For any symmetric neighbour relation. Assumes nothing.
-use Prim.Native.Nat.{ℕ, zero, suc, _+_, _-_, _*_, _≤_, _<_, zero-le}
+use Prim.Native.Nat.{ℕ, _≤_, _<_, zero-le}
 use mathlib.Core.Path.{_≡_, refl, sym, ap, ap₂, subst, _∙_}
-use mathlib.Core.Logic.{_⊎_, inl, inr}
-use mathlib.Core.Bool.{Bool, true, false, cond, not, _&&_, _||_, false≢true, true≢false}
-use mathlib.Core.List.{List, [], _∷_, map}
+use mathlib.Core.Logic.{inl, inr}
+use mathlib.Core.Bool.{Bool, true, false, not, _&&_, _||_, false≢true}
+use mathlib.Core.List.{List, [], _∷_}
 use native.Mathlib.Omega.{arith}
-use lib.ListN.{length, length-map}
+use lib.ListN.{length}
 use lib.Dec.{leb, ltb, eqb}
-use borrow.Author.Tests.{eqb-true, eq-eqb, ltb-true, lt-ltb, lt-leb, leb-true, le-leb}
-use Rattle.planes.specs.Lists.{from, keep, every, count, at}
-use Rattle.planes.specs.Neighbours.{Near, Chain, here, step, linked, component}
-use Rattle.planes.specs.Extrema.{implies}
-use Rattle.planes.proofs.Tests.{or-cases, or-left, or-right, and-left, and-right, and-both, and-false, implies-out, implies-in, same-test}
-use Rattle.planes.proofs.Lists.{every-in, every-out, every-kept, every-count, count-every}
+use borrow.Author.Tests.{eqb-true, eq-eqb, ltb-true, lt-ltb, lt-leb}
+use Rattle.planes.specs.Lists.{from, every, count, at}
+use Rattle.planes.specs.Neighbours.{Near, linked}
+use Rattle.planes.proofs.Tests.{or-cases, or-left, or-right, and-left, and-right, and-both, and-false, same-test}
+use Rattle.planes.proofs.Lists.{every-count, count-every}
 use Rattle.planes.proofs.Counts.{count-mono-from}
 use Rattle.planes.proofs.Links.{chain-map, linked-iff}
 use Rattle.tones.specs.declared.Rule.{Rule}
@@ -22,7 +21,7 @@ use Rattle.tones.specs.declared.Rule.the-variants.{Plain, Limited}
 use Rattle.tones.specs.Tones.{greatest, least, spread, kept}
 use Rattle.tones.specs.Histograms.{Alike}
 use Rattle.model.specs.declared.Pass.{Pass}
-use Rattle.model.specs.Passes.{within, inside, values, changes, retone, newTone, passed}
+use Rattle.model.specs.Passes.{within, inside, values, changes, passed}
 use Rattle.model.proofs.Components.{values-length, every-value, value-every, out-tone, linked-values, still-tone}
 use Rattle.model.proofs.Order.{in-of, in-to, length-passed, passed-at}
 use Rattle.passes.specs.Sections.{oneValue, lone, inert}
@@ -134,7 +133,8 @@ module _ (near : Near) (symm : (i j : ℕ) → near i j ≡ near j i) (s t : Pas
       and-both (and-both (was-within u hu wu) (was-within v hv wv)) e′
 
   -- a component of the part lies in one of the section
-  pub linked-part : (i x : ℕ) → i < n → x < n → linked (inside near t q) n i x ≡ true → linked (inside near s p) n i x ≡ true
+  pub linked-part : (i x : ℕ) → i < n → x < n → linked (inside near t q) n i x ≡ true
+      → linked (inside near s p) n i x ≡ true
   linked-part i x hi hx e =
       let c = linked-iff (inside near t q) n i x hi hx .0 e in
       linked-iff (inside near s p) n i x hi hx .1 (chain-map n (inside near t q) (inside near s p) inside-part hi c .1)
@@ -145,7 +145,9 @@ module _ (near : Near) (symm : (i j : ℕ) → near i j ≡ near j i) (s t : Pas
   no-larger : (i : ℕ) → i < n → length (values near t q i) ≤ length (values near s p i)
   no-larger i hi =
       let larger = values-length near s p i in
-      let smaller = values-length near t q i ∙ ap (λ (k : ℕ). count (linked (inside near t q) k i) (from 0 k)) same-size in
+      let smaller =
+      values-length near t q i
+      ∙ ap (λ (k : ℕ). count (linked (inside near t q) k i) (from 0 k)) same-size in
       let fewer = count-mono-from (linked (inside near t q) n i) (linked (inside near s p) n i) 0 n
       (λ x _ h d. linked-part i x hi (omega arith) d) in
       omega arith
@@ -157,7 +159,7 @@ module _ (near : Near) (symm : (i j : ℕ) → near i j ≡ near j i) (s t : Pas
       let v : ℕ = at (values near s p i) 0 in
       one-value v (values near t q i) (every-value near t q i (eqb v) (λ x hx d.
       let hx′ : x < n = omega (arith, same-size) in
-      let d′ : linked (inside near t q) n i x ≡ true = subst (λ (k : ℕ). linked (inside near t q) k i x ≡ true) same-size d in
+      let d′ = subst (λ (k : ℕ). linked (inside near t q) k i x ≡ true) same-size d in
       let l = linked-part i x hi hx′ d′ in
       let still : changes s (values near s p x) ≡ false =
       ap (changes s) (sym (linked-values near symm s p i x hi hx′ l)) ∙ inert-still s (values near s p i) e in
@@ -167,11 +169,18 @@ module _ (near : Near) (symm : (i j : ℕ) → near i j ≡ near j i) (s t : Pas
   -- an inert component of the section: the components of the part in it are inert
   pub inert-part : (i : ℕ) → i < n → inert s (values near s p i) ≡ true → inert t (values near t q i) ≡ true
   unfolding inert
-  inert-part i hi e = elim (or-cases (ltb (length (values near s p i)) (s .area)) (lone (s .rule) (values near s p i)) e) [
+  inert-part i hi e = elim (or-cases (ltb (length vs) (s .area)) (lone (s .rule) vs) e) [
     | inl d ↦
-        let few = ltb-true (length (values near s p i)) (s .area) d in
-        let small : length (values near t q i) < t .area = omega (arith, no-larger i hi, P .area) in
-        or-left _ _ (lt-ltb (length (values near t q i)) (t .area) small)
-    | inr d ↦ or-right (ltb (length (values near t q i)) (t .area)) _ (subst (λ (rule : Rule). lone rule (values near t q i) ≡ true) (sym (P .rule))
-        (lone-part (s .rule) (values near s p i) (values near t q i) (one-part i hi e) d))
+        let few = ltb-true (length vs) (s .area) d in
+        let small : length ws < t .area = omega (arith, no-larger i hi, P .area) in
+        or-left _ _ (lt-ltb (length ws) (t .area) small)
+    | inr d ↦
+        let one = lone-part (s .rule) vs ws (one-part i hi e) d in
+        or-right (ltb (length ws) (t .area)) _ (subst (λ (rule : Rule). lone rule ws ≡ true) (sym (P .rule)) one)
   ]
+    where
+      vs : List ℕ
+      vs = values near s p i
+
+      ws : List ℕ
+      ws = values near t q i

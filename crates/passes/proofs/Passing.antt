@@ -1,17 +1,17 @@
--- The invariant of the treatment of a section, component by component from the first pixel to the last. What a component
--- has when its turn comes are its first values, and the next pixel that has the code is the first of its component.
--- For any symmetric neighbour relation. Assumes nothing.
-use Prim.Native.Nat.{ℕ, zero, suc, _+_, _*_, _≤_, _<_}
+-- The invariant of the treatment of a section, component by component from the first pixel to the last. A component
+-- has its first values when its turn comes, and the next pixel that has the code is the first of its component. For any
+-- symmetric neighbour relation. Assumes nothing.
+use Prim.Native.Nat.{ℕ, suc, _+_, _*_, _≤_, _<_}
 use mathlib.Core.Path.{_≡_, refl, sym, ap, ap₂, subst, _∙_}
-use mathlib.Core.Logic.{_⊎_, inl, inr}
-use mathlib.Core.Bool.{Bool, true, false, cond, not, _&&_, _||_, false≢true, true≢false}
+use mathlib.Core.Logic.{inl, inr}
+use mathlib.Core.Bool.{Bool, true, false, cond, _&&_, _||_, true≢false}
 use mathlib.Core.List.{List, map}
 use native.Mathlib.Numerals.{add-one}
 use native.Mathlib.Omega.{arith}
 use lib.ListN.{length}
 use lib.Seq.{ext-getD}
 use lib.Dec.{eqb, leb}
-use borrow.Author.Tests.{eqb-true, eq-eqb, ne-eqb}
+use borrow.Author.Tests.{eq-eqb, ne-eqb}
 use Rattle.planes.specs.Lists.{at, from, keep, count, Beyond}
 use Rattle.planes.specs.Neighbours.{Near, four}
 use Rattle.planes.specs.Enumerations.{Enumerates}
@@ -30,11 +30,12 @@ use Rattle.model.specs.declared.Pass.{Pass}
 use Rattle.model.specs.Passes.{within, values, changes, retone, newTone, passed, counted, passCount}
 use Rattle.model.proofs.Components.{in-tone, out-tone, still-tone}
 use Rattle.model.proofs.Order.{in-of, length-passed, passed-at}
-use Rattle.passes.specs.Sections.{number, inert, Listed, Toned, Done, Coded, Section, Treated}
+use Rattle.passes.specs.Sections.{number, inert, Listed, Done, Coded, Section, Treated}
 use Rattle.passes.specs.declared.Next.{Next}
 use Rattle.passes.proofs.Inert.{inert-still}
 use Rattle.passes.proofs.Regions.{region-values, same-region, counted-leads}
-use Rattle.passes.proofs.Sweep.{Sweeping, sweep-begin, none-leads, ahead, had, mine-is, mine-left, mine-coded, it-leads, take-it, sweep-end, beyond}
+use Rattle.passes.proofs.Sweep.{Sweeping, sweep-begin, none-leads, ahead, sweep-end, beyond}
+use Rattle.passes.proofs.Sweep.{had, mine-is, mine-left, mine-coded, it-leads, take-it}
 
 -- what the treatment requires, over any symmetric neighbour relation
 pub record Treatable (near : Near) (n code : ℕ) (s : Pass) (t : Next) (plane marks : List ℕ) : Type 0 where
@@ -46,12 +47,19 @@ pub record Treatable (near : Near) (n code : ℕ) (s : Pass) (t : Next) (plane m
   pub whole : length plane ≡ n
   pub coded : Coded near n code s plane marks
 
--- the mark that a pixel gets
+-- the mark that a pixel of the section gets
 abbrev later : Near → Pass → Next → List ℕ → ℕ → ℕ
 later near s t plane p = cond (inert s (values near s plane p)) 0 (number t (newTone near s plane p))
 
--- the components with a pixel before `low` are gone from the marks, retoned and counted
-pub record Passing (near : Near) (n code : ℕ) (s : Pass) (t : Next) (plane₀ marks₀ queue₀ plane marks queue : List ℕ) (low m : ℕ) : Type 0 where
+-- the components with a pixel before `low` are gone from the marks, retoned and counted:
+--
+--   gone                   the pixels of these components
+--   swept                  what became of the marks
+--   plane-are              what became of the plane
+--   size                   m components were counted
+--   size-is .. queue-rest  lengths, and the queue from n on, are as they were
+pub record Passing (near : Near) (n code : ℕ) (s : Pass) (t : Next)
+    (plane₀ marks₀ queue₀ plane marks queue : List ℕ) (low m : ℕ) : Type 0 where
   pub gone : ℕ → Bool
   pub swept : Sweeping near n code marks₀ marks gone (later near s t plane₀) low
   pub plane-are : (p : ℕ) → p < n → at plane p ≡ cond (gone p) (newTone near s plane₀ p) (at plane₀ p)
@@ -60,7 +68,8 @@ pub record Passing (near : Near) (n code : ℕ) (s : Pass) (t : Next) (plane₀ 
   pub marks-size : length marks ≡ length marks₀
   pub queue-rest : Beyond n queue₀ queue
 
-pub pass-begin : (near : Near) (n code : ℕ) (s : Pass) (t : Next) (plane marks queue : List ℕ) → Passing near n code s t plane marks queue plane marks queue 0 0
+pub pass-begin : (near : Near) (n code : ℕ) (s : Pass) (t : Next) (plane marks queue : List ℕ)
+    → Passing near n code s t plane marks queue plane marks queue 0 0
 pass-begin near n code s t plane marks queue = record {
   gone = λ p. false;
   swept = sweep-begin near n code marks (later near s t plane);
@@ -72,7 +81,9 @@ pass-begin near n code s t plane marks queue = record {
 }
 
 module _ {near : Near} {n code : ℕ} {s : Pass} {t : Next} {plane₀ marks₀ queue₀ plane marks queue : List ℕ} {low m : ℕ}
-    (D : Treatable near n code s t plane₀ marks₀) (W : Passing near n code s t plane₀ marks₀ queue₀ plane marks queue low m) where
+    (D : Treatable near n code s t plane₀ marks₀)
+    (W : Passing near n code s t plane₀ marks₀ queue₀ plane marks queue low m) where
+  -- no next mark is the code
   real : (p : ℕ) → later near s t plane₀ p ≡ code → ⊥
   real p = go (inert s (values near s plane₀ p))
     where
@@ -85,7 +96,8 @@ module _ {near : Near} {n code : ℕ} {s : Pass} {t : Next} {plane₀ marks₀ q
   size-le = omega (arith, W .size, count-le (counted near s plane₀) (from 0 low), length-from 0 low)
 
   -- the search goes on
-  pub go-on : (to : ℕ) → low ≤ to → to ≤ n → None marks code low to → Passing near n code s t plane₀ marks₀ queue₀ plane marks queue to m
+  pub go-on : (to : ℕ) → low ≤ to → to ≤ n → None marks code low to
+      → Passing near n code s t plane₀ marks₀ queue₀ plane marks queue to m
   go-on to h k f = record {
     gone = W .gone;
     swept = ahead (D .symm) real (W .swept) to h k f;
@@ -99,7 +111,8 @@ module _ {near : Near} {n code : ℕ} {s : Pass} {t : Next} {plane₀ marks₀ q
   }
 
   -- the component of the next pixel that has the code
-  module _ (h : low < n) (e : at marks low ≡ code) {marks' queue' : List ℕ} {k : ℕ} (F : Flooded near n code low marks queue marks' queue' k) where
+  module _ (h : low < n) (e : at marks low ≡ code) {marks' queue' : List ℕ} {k : ℕ}
+      (F : Flooded near n code low marks queue marks' queue' k) where
     abbrev Mine : ℕ → Bool
     Mine = region near n marks₀ code low
 
@@ -115,7 +128,9 @@ module _ {near : Near} {n code : ℕ} {s : Pass} {t : Next} {plane₀ marks₀ q
 
     -- its pixels have their first values
     old-value : (x : ℕ) → S x ≡ true → at plane x ≡ at plane₀ x
-    old-value x d = W .plane-are x (below x d) ∙ ap (λ (t : Bool). cond t (newTone near s plane₀ x) (at plane₀ x)) (mine-left (D .symm) real (W .swept) h e x (mine x d))
+    old-value x d =
+        let left : W .gone x ≡ false = mine-left (D .symm) real (W .swept) h e x (mine x d) in
+        W .plane-are x (below x d) ∙ ap (λ (t : Bool). cond t (newTone near s plane₀ x) (at plane₀ x)) left
 
     -- which are in the section
     old-within : (x : ℕ) → S x ≡ true → within s (at plane₀ x) ≡ true
@@ -157,7 +172,10 @@ module _ {near : Near} {n code : ℕ} {s : Pass} {t : Next} {plane₀ marks₀ q
 
     -- the queue has the values that the model gives the component
     pub alike : Alike vs (histograms.values plane queue' k)
-    alike = record { same = λ v. same-count (eqb v); size = sym (count-all vs) ∙ same-count (λ x. true) ∙ count-all (histograms.values plane queue' k) }
+    alike = record {
+      same = λ v. same-count (eqb v);
+      size = sym (count-all vs) ∙ same-count (λ x. true) ∙ count-all (histograms.values plane queue' k);
+    }
 
     -- what giving next marks requires
     pub listed : n ≤ length marks → Listed marks' plane queue' k
@@ -283,8 +301,9 @@ module _ {near : Near} {n code : ℕ} {s : Pass} {t : Next} {plane₀ marks₀ q
       queue-rest = W .queue-rest;
     }
 
-pub treatable : {plane marks queue : List ℕ} {w h code : ℕ} {s : Pass} {t : Next} → Section plane marks queue w h code s t
-    → Treatable (four w) (w * h) code s t plane marks
+-- what the treatment requires, for four-neighbours
+pub treatable : {plane marks queue : List ℕ} {w h code : ℕ} {s : Pass} {t : Next}
+    → Section plane marks queue w h code s t → Treatable (four w) (w * h) code s t plane marks
 treatable {w = w} {code = code} {t = t} P = record {
   symm = four-sym w;
   real = P .real;

@@ -2,16 +2,15 @@
 -- are the regions of that code. For any symmetric neighbour relation. Assumes nothing.
 use Prim.Native.Nat.{ℕ, _<_}
 use mathlib.Core.Path.{_≡_, refl, sym, ap, ap₂, subst, _∙_}
-use mathlib.Core.Logic.{_⊎_, inl, inr}
-use mathlib.Core.Bool.{Bool, true, false, not, _&&_, true≢false}
+use mathlib.Core.Logic.{inl, inr}
+use mathlib.Core.Bool.{Bool, true, false, not, _&&_}
 use mathlib.Core.List.{List, map}
 use native.Mathlib.Omega.{arith}
 use lib.ListN.{length}
-use lib.Dec.{eqb}
-use borrow.Author.Tests.{eqb-true, eq-eqb, ne-eqb}
-use Rattle.planes.specs.Lists.{at, from, keep, every}
+use borrow.Author.Tests.{eq-eqb, ne-eqb}
+use Rattle.planes.specs.Lists.{at, from, keep}
 use Rattle.planes.specs.Neighbours.{Near, Chain, here, step, linked, component, first}
-use Rattle.planes.proofs.Tests.{and-left, and-right, and-both, and-false, same-test, eq-or-not}
+use Rattle.planes.proofs.Tests.{and-right, and-both, and-false, same-test, eq-or-not}
 use Rattle.planes.proofs.Counts.{keep-same}
 use Rattle.planes.proofs.Lists.{every-same}
 use Rattle.planes.proofs.Links.{chain-map, linked-iff, link-sym}
@@ -20,9 +19,10 @@ use Rattle.components.proofs.Regions.{alike-of, alike-from, alike-to, alike-nea
 use Rattle.model.specs.declared.Pass.{Pass}
 use Rattle.model.specs.Passes.{within, inside, values, changes, counted}
 use Rattle.model.proofs.Components.{inside-sym, linked-values}
-use Rattle.passes.specs.Sections.{Coded, inert}
+use Rattle.passes.specs.Sections.{Coded}
 use Rattle.passes.proofs.Inert.{inert-still}
 
+-- the last of three tests comes before the second
 last-first : (s t u : Bool) → (s && t && u) ≡ ((s && u) && t)
 last-first true true true = refl
 last-first true true false = refl
@@ -101,8 +101,10 @@ module _ (near : Near) (symm : (i j : ℕ) → near i j ≡ near j i) (n code : 
         ∙ ap₂ (λ (t u : Bool). (t && u) && changes s (values near s plane p))
         (K .coded p h e ∙ sym (eq-eqb (at marks p) code e))
         (ap (λ (k : ℕ). first k In p) whole ∙ sym (first-same p h e))
-    | inr e ↦ none (within s (at plane p)) refl e
-        ∙ sym (ap (λ (t : Bool). (t && first n Link p) && changes s (values near s plane p)) (ne-eqb (at marks p) code e))
+    | inr e ↦
+        let uncoded = ne-eqb (at marks p) code e in
+        none (within s (at plane p)) refl e
+        ∙ sym (ap (λ (t : Bool). (t && first n Link p) && changes s (values near s plane p)) uncoded)
   ]
     where
       none : (t : Bool) → within s (at plane p) ≡ t → (at marks p ≡ code → ⊥) → counted near s plane p ≡ false

@@ -1,17 +1,17 @@
 -- Single steps of the treatment: a pixel is marked, a pixel gets its next mark, the values of a component are one or
 -- not, a component is retoned. Assumes nothing.
 use Prim.Native.Nat.{ℕ, zero, suc, _+_, _≤_, _<_}
-use mathlib.Core.Path.{_≡_, refl, sym, ap, ap₂, subst, _∙_}
-use mathlib.Core.Logic.{_⊎_, inl, inr}
+use mathlib.Core.Path.{_≡_, refl, sym, ap, _∙_}
+use mathlib.Core.Logic.{inl, inr}
 use mathlib.Core.Bool.{Bool, true, false, cond, not, _&&_, _||_}
 use mathlib.Core.List.{List, [], _∷_, map}
 use native.Mathlib.Nat.{eq-or-lt-of-le, min-eq-left, not-suc-le-zero, le-of-suc-le-suc}
 use native.Mathlib.Omega.{arith}
 use lib.ListN.{length, set, take, length-set, length-map, length-take}
 use lib.Seq.{getD-take}
-use lib.Dec.{leb, ltb, eqb}
+use lib.Dec.{leb, ltb}
 use borrow.Author.Tests.{le-leb, eq-eqb, ne-eqb, lt-ltb, le-ltb, ltb-false}
-use Rattle.planes.specs.Lists.{at, every, Beyond}
+use Rattle.planes.specs.Lists.{at, every}
 use Rattle.planes.proofs.Tests.{or-left, or-none, and-both, and-false}
 use Rattle.planes.proofs.Lists.{beyond-refl}
 use Rattle.planes.proofs.Stores.{at-set}
@@ -19,7 +19,7 @@ use Rattle.tones.specs.Tones.{kept, tone}
 use Rattle.tones.specs.Histograms.{values, Alike, Retoned}
 use Rattle.model.specs.declared.Pass.{Pass}
 use Rattle.model.specs.Passes.{within, changes, retone}
-use Rattle.passes.specs.Sections.{number, oneValue, lone, inert, Pixels, Marked, Renumbered, Toned, Done}
+use Rattle.passes.specs.Sections.{number, oneValue, lone, inert, Marked, Renumbered, Toned, Done}
 use Rattle.passes.specs.declared.Next.{Next}
 use Rattle.passes.proofs.Inert.{inert-still, inert-alike}
 
@@ -84,7 +84,8 @@ not-every f [] i h e = absurd (not-suc-le-zero h)
 not-every f (x ∷ xs) zero h e = ap (_&& every f xs) e
 not-every f (x ∷ xs) (suc i) h e = ap (f x &&_) (not-every f xs i (le-of-suc-le-suc h) e) ∙ and-false (f x)
 
-module _ (plane queue : List ℕ) (m v : ℕ) (some : 1 ≤ m) (room : m ≤ length queue) (first : v ≡ at plane (at queue 0)) where
+module _ (plane queue : List ℕ) (m v : ℕ) (some : 1 ≤ m) (room : m ≤ length queue)
+    (first : v ≡ at plane (at queue 0)) where
   head : at (values plane queue m) 0 ≡ v
   head = values-at plane queue m room 0 some ∙ sym first
 
@@ -130,7 +131,8 @@ module _ (s : Pass) (vs : List ℕ) {m : ℕ} (size : length vs ≡ m) where
 
 module _ (s : Pass) (t : Next) {vs ws : List ℕ} (A : Alike vs ws) where
   -- an inert component is left as it is
-  pub left-alone : {plane marks queue : List ℕ} {m : ℕ} → inert s ws ≡ true → Done s t vs plane marks queue plane marks m 0
+  pub left-alone : {plane marks queue : List ℕ} {m : ℕ} → inert s ws ≡ true
+      → Done s t vs plane marks queue plane marks m 0
   unfolding retone
   left-alone e =
       let inert-too : inert s vs ≡ true = inert-alike s vs ws A ∙ e in
@@ -143,7 +145,8 @@ module _ (s : Pass) (t : Next) {vs ws : List ℕ} (A : Alike vs ws) where
       }
 
   -- another gets its tones and its next marks
-  pub done : {plane marks queue plane' marks' : List ℕ} {m r : ℕ} → inert s ws ≡ false → Toned s vs plane queue plane' m r
+  pub done : {plane marks queue plane' marks' : List ℕ} {m r : ℕ} → inert s ws ≡ false
+      → Toned s vs plane queue plane' m r
       → Renumbered t plane' queue marks marks' m → Done s t vs plane marks queue plane' marks' m r
   done e T R =
       let not-inert : inert s vs ≡ false = inert-alike s vs ws A ∙ e in
@@ -164,8 +167,9 @@ module _ (s : Pass) (plane queue : List ℕ) (m : ℕ) (room : m ≤ length queu
   unfolding inert
   inert-large h = ap (_|| lone (s .rule) (values plane queue m)) (size-test ∙ le-ltb m (s .area) h)
 
-  pub not-inert : inert s (values plane queue m) ≡ false → s .area ≤ m
+  -- a component that is not inert has the least area
+  pub least-area : inert s (values plane queue m) ≡ false → s .area ≤ m
   unfolding inert
-  not-inert e =
+  least-area e =
       let tests = or-none (ltb (length (values plane queue m)) (s .area)) (lone (s .rule) (values plane queue m)) e in
       ltb-false m (s .area) (sym size-test ∙ tests .0)

@@ -1,6 +1,6 @@
--- A sweep over the pixels that have a code, in reading order: whole components are gone, those with a pixel before `low`,
--- and have other marks. The set of the pixels that are gone is an index of the invariant. For any symmetric neighbour
--- relation. Assumes nothing.
+-- A sweep over the pixels that have a code, in reading order: the components with a pixel before `low` are gone, each
+-- whole, and have other marks. The set of the pixels that are gone is an index of the invariant. For any symmetric
+-- neighbour relation. Assumes nothing.
 use Prim.Native.Nat.{ℕ, _+_, _≤_, _<_}
 use mathlib.Core.Path.{_≡_, refl, sym, ap, ap₂, _∙_}
 use mathlib.Core.Logic.{inl, inr}
@@ -14,10 +14,10 @@ use Rattle.planes.specs.Lists.{at, from, every}
 use Rattle.planes.specs.Neighbours.{Near, linked, first}
 use Rattle.planes.proofs.Tests.{or-cases, or-left, or-right, and-both, and-false, same-test, eq-or-not, less-or-not}
 use Rattle.planes.proofs.Counts.{every-true, every-false}
-use Rattle.planes.proofs.Links.{link-sym}
 use Rattle.components.specs.Regions.{alike, region, leads}
 use Rattle.components.specs.Search.{None}
-use Rattle.components.proofs.Regions.{region-below, region-linked, region-self, region-chain, region-coded, region-sym, region-whole, along, was, is, region-stays}
+use Rattle.components.proofs.Regions.{region-below, region-linked, region-self, region-chain, region-coded}
+use Rattle.components.proofs.Regions.{region-sym, region-whole, region-stays, along, was, is}
 
 -- a pixel before `low` that has p in its component
 pub record Earlier (near : Near) (n code : ℕ) (marks : List ℕ) (low p : ℕ) : Type 0 where
@@ -26,7 +26,24 @@ pub record Earlier (near : Near) (n code : ℕ) (marks : List ℕ) (low p : ℕ)
   pub below : pixel < n
   pub leads-to : region near n marks code pixel p ≡ true
 
-pub record Sweeping (near : Near) (n code : ℕ) (marks₀ marks : List ℕ) (gone : ℕ → Bool) (other : ℕ → ℕ) (low : ℕ) : Type 0 where
+pub later-low : {near : Near} {n code : ℕ} {marks : List ℕ} {low low′ p : ℕ} → low ≤ low′
+    → Earlier near n code marks low p → Earlier near n code marks low′ p
+later-low h r = record {
+  pixel = r .pixel;
+  before = omega (arith, r .before);
+  below = r .below;
+  leads-to = r .leads-to;
+}
+
+-- the invariant of a sweep that stands at `low`:
+--
+--   marks-are  the pixels that are gone have other marks, and the rest their first ones
+--   whole      neighbours that had the code are gone together
+--   inside     only pixels that had the code are gone
+--   passed     all that had it before `low` are
+--   earlier    each that is gone has a pixel before `low` in its component
+pub record Sweeping (near : Near) (n code : ℕ) (marks₀ marks : List ℕ) (gone : ℕ → Bool) (other : ℕ → ℕ) (low : ℕ)
+    : Type 0 where
   pub order : low ≤ n
   pub marks-are : (p : ℕ) → at marks p ≡ cond (gone p) (other p) (at marks₀ p)
   pub whole : (u v : ℕ) → u < n → v < n → alike near marks₀ code u v ≡ true → gone u ≡ gone v
@@ -34,7 +51,8 @@ pub record Sweeping (near : Near) (n code : ℕ) (marks₀ marks : List ℕ) (go
   pub passed : (p : ℕ) → p < low → at marks₀ p ≡ code → gone p ≡ true
   pub earlier : (p : ℕ) → gone p ≡ true → Earlier near n code marks₀ low p
 
-pub sweep-begin : (near : Near) (n code : ℕ) (marks : List ℕ) (other : ℕ → ℕ) → Sweeping near n code marks marks (λ p. false) other 0
+pub sweep-begin : (near : Near) (n code : ℕ) (marks : List ℕ) (other : ℕ → ℕ)
+    → Sweeping near n code marks marks (λ p. false) other 0
 sweep-begin near n code marks other = record {
   order = omega arith;
   marks-are = λ p. refl;
@@ -44,7 +62,8 @@ sweep-begin near n code marks other = record {
   earlier = λ p e. absurd (false≢true e);
 }
 
-module _ {near : Near} {n code : ℕ} {marks₀ marks : List ℕ} {gone : ℕ → Bool} {other : ℕ → ℕ} {low : ℕ} (symm : (i j : ℕ) → near i j ≡ near j i) (real : (p : ℕ) → other p ≡ code → ⊥)
+module _ {near : Near} {n code : ℕ} {marks₀ marks : List ℕ} {gone : ℕ → Bool} {other : ℕ → ℕ} {low : ℕ}
+    (symm : (i j : ℕ) → near i j ≡ near j i) (real : (p : ℕ) → other p ≡ code → ⊥)
     (W : Sweeping near n code marks₀ marks gone other low) where
   -- a pixel that had the code and has it no more is gone
   is-gone : (p : ℕ) → at marks₀ p ≡ code → (at marks p ≡ code → ⊥) → gone p ≡ true
@@ -71,10 +90,13 @@ module _ {near : Near} {n code : ℕ} {marks₀ marks : List ℕ} {gone : ℕ �
   uncoded p f = ap (_&& first n (alike near marks₀ code) p) (ne-eqb (at marks₀ p) code f)
 
   -- the pixels that the search passes lead none
-  pub none-leads : (to : ℕ) → to ≤ n → None marks code low to → (p : ℕ) → low ≤ p → p < to → leads near n marks₀ code p ≡ false
+  pub none-leads : (to : ℕ) → to ≤ n → None marks code low to → (p : ℕ) → low ≤ p → p < to
+      → leads near n marks₀ code p ≡ false
   none-leads to k f p h l = elim (eq-or-not (at marks₀ p) code) [
-    | inl e ↦ let r = W .earlier p (is-gone p e (f p h l)) in
-        leads-not p (r .pixel) (omega (arith, r .before)) (omega arith) (region-sym near n code marks₀ symm p (r .pixel) (omega arith) (r .below) ∙ r .leads-to)
+    | inl e ↦
+        let r = W .earlier p (is-gone p e (f p h l)) in
+        let back = region-sym near n code marks₀ symm p (r .pixel) (omega arith) (r .below) ∙ r .leads-to in
+        leads-not p (r .pixel) (omega (arith, r .before)) (omega arith) back
     | inr e ↦ uncoded p e
   ]
 
@@ -86,7 +108,7 @@ module _ {near : Near} {n code : ℕ} {marks₀ marks : List ℕ} {gone : ℕ �
     whole = W .whole;
     inside = W .inside;
     passed = λ p l e. elim (less-or-not p low) [ inl q ↦ W .passed p q e | inr q ↦ is-gone p e (f p q l) ];
-    earlier = λ p e. let r = W .earlier p e in record { pixel = r .pixel; before = omega (arith, r .before); below = r .below; leads-to = r .leads-to };
+    earlier = λ p e. later-low h (W .earlier p e);
   }
 
   module _ (h : low < n) (e : at marks low ≡ code) where
@@ -101,7 +123,9 @@ module _ {near : Near} {n code : ℕ} {marks₀ marks : List ℕ} {gone : ℕ �
     mine-is x = region-stays near n code marks₀ marks gone other real (W .marks-are) (W .whole) low x h e
 
     pub mine-left : (x : ℕ) → Mine x ≡ true → gone x ≡ false
-    mine-left x d = sym (along near n code marks₀ gone (W .whole) h (region-chain near n code marks₀ low x h d) .1) ∙ had .0
+    mine-left x d =
+        let chain = region-chain near n code marks₀ low x h d in
+        sym (along near n code marks₀ gone (W .whole) h chain .1) ∙ had .0
 
     pub mine-coded : (x : ℕ) → Mine x ≡ true → at marks₀ x ≡ code
     mine-coded x d = region-coded near n code marks₀ low x h (had .1) d
@@ -111,7 +135,7 @@ module _ {near : Near} {n code : ℕ} {marks₀ marks : List ℕ} {gone : ℕ �
     not-mine j l = go (Mine j) refl
       where
         go : (t : Bool) → Mine j ≡ t → not t ≡ true
-        go true d = absurd (true≢false (sym (W .passed j l (region-coded near n code marks₀ low j h (had .1) d)) ∙ sym (along near n code marks₀ gone (W .whole) h (region-chain near n code marks₀ low j h d) .1) ∙ had .0))
+        go true d = absurd (true≢false (sym (W .passed j l (mine-coded j d)) ∙ mine-left j d))
         go false d = refl
 
     pub it-leads : leads near n marks₀ code low ≡ true
@@ -127,11 +151,14 @@ module _ {near : Near} {n code : ℕ} {marks₀ marks : List ℕ} {gone : ℕ �
     or-cond false true o x = refl
     or-cond false false o x = refl
 
-    -- its component is flooded, and gets its next numbers
-    pub take-it : {marks' : List ℕ} → ((p : ℕ) → at marks' p ≡ cond (Mine p) (other p) (at marks p)) → Sweeping near n code marks₀ marks' (λ p. gone p || Mine p) other (low + 1)
+    -- its component is flooded, and gets its other marks
+    pub take-it : {marks' : List ℕ} → ((p : ℕ) → at marks' p ≡ cond (Mine p) (other p) (at marks p))
+        → Sweeping near n code marks₀ marks' (λ p. gone p || Mine p) other (low + 1)
     take-it F = record {
       order = omega arith;
-      marks-are = λ p. F p ∙ ap (cond (Mine p) (other p)) (W .marks-are p) ∙ or-cond (gone p) (Mine p) (other p) (at marks₀ p);
+      marks-are = λ p. F p
+          ∙ ap (cond (Mine p) (other p)) (W .marks-are p)
+          ∙ or-cond (gone p) (Mine p) (other p) (at marks₀ p);
       whole = λ u v hu hv a. ap₂ _||_ (W .whole u v hu hv a) (region-whole near n code marks₀ symm low u v hu hv a);
       inside = λ p d. elim (or-cases (gone p) (Mine p) d) [
         | inl g ↦ W .inside p g
@@ -142,14 +169,17 @@ module _ {near : Near} {n code : ℕ} {marks₀ marks : List ℕ} {gone : ℕ �
         | inr q ↦ or-left (gone p) (Mine p) (W .passed p q a)
       ];
       earlier = λ p d. elim (or-cases (gone p) (Mine p) d) [
-        | inl g ↦ let r = W .earlier p g in record { pixel = r .pixel; before = omega (arith, r .before); below = r .below; leads-to = r .leads-to }
+        | inl g ↦ later-low (omega arith) (W .earlier p g)
         | inr g ↦ record { pixel = low; before = omega arith; below = h; leads-to = g }
       ];
     }
 
   -- at the end those that had the code are gone
   pub sweep-end : n ≤ low → (p : ℕ) → p < n → gone p ≡ eqb (at marks₀ p) code
-  sweep-end k p h = same-test (gone p) (eqb (at marks₀ p) code) (λ d. eq-eqb _ _ (W .inside p d .1)) (λ d. W .passed p (omega arith) (eqb-true _ _ d))
+  sweep-end k p h =
+      same-test (gone p) (eqb (at marks₀ p) code)
+      (λ d. eq-eqb _ _ (W .inside p d .1))
+      (λ d. W .passed p (omega arith) (eqb-true _ _ d))
 
   pub beyond : (p : ℕ) → n ≤ p → gone p ≡ false
   beyond p h = same-test (gone p) false (λ d. absurd (omega (arith, W .inside p d .0))) (λ d. absurd (false≢true d))

@@ -40,10 +40,11 @@ pub record PassOutcome (w h : ℕ) (s : Pass) (plane marks queue : List ℕ) (r 
   pub marks-rest : Beyond (w * h) marks marks'
   pub queue-rest : Beyond (w * h) queue queue'
 
--- calls that each meet the contract of `pass`, from a first plane to a last, as the model is fed them, with their answers;
--- marks and queue are lent anew for each call, with any length and content
+-- calls that each meet the contract of `pass`, from a first plane to a last, as the model is fed them, with their
+-- answers; marks and queue are lent anew for each call, with any length and content
 pub data Sequence (w h : ℕ) : List ℕ → List Call → List Answer → List ℕ → Type 0 where
   none : {plane : List ℕ} → Sequence w h plane [] [] plane
-  more : {s : Pass} {plane marks queue plane' marks' queue' last : List ℕ} {r : Answer} {cs : List Call} {rs : List Answer}
+  more : {s : Pass} {plane marks queue plane' marks' queue' last : List ℕ} {r : Answer} {cs : List Call}
+      {rs : List Answer}
       → PassOutcome w h s plane marks queue r plane' marks' queue' → Sequence w h plane' cs rs last
       → Sequence w h plane (callOn (length marks) (length queue) s ∷ cs) (r ∷ rs) last

@@ -4,16 +4,18 @@
 // treat           the same for a pass and memory that are known to be accepted
 // mark_section    marks a section's pixels
 // treat_section   retones the components of the pixels that have a code, and gives them their next marks
+// lent_refusal    refusals 1 to 4 for the plane's size and the lengths that are lent, or 0
 ghost use mathlib.Core.Path.{_≡_};
 ghost use mathlib.Core.Bool.{cond};
 ghost use mathlib.Core.List.{List};
-ghost use Prim.Native.Nat.{ℕ, _*_, _≤_, _<_};
+ghost use Prim.Native.Nat.{ℕ, _*_, _≤_};
 ghost use lib.ListN.{length};
 ghost use Rattle.planes.specs.Neighbours.{four};
 ghost use Rattle.tones.specs.Histograms.{values, Component, Alike};
 ghost use Rattle.model.specs.Passes.{within};
 ghost use Rattle.model.specs.Calls.{lentRefusal, passRefusal, Lent};
-ghost use Rattle.passes.specs.Sections.{number, oneValue, inert, Pixels, Listed, Marked, Renumbered, Toned, Done, Section, Treated};
+ghost use Rattle.passes.specs.Sections.{number, oneValue, inert, Pixels, Listed, Marked, Renumbered};
+ghost use Rattle.passes.specs.Sections.{Toned, Done, Section, Treated};
 ghost use Rattle.passes.specs.Calls.{callOn, Over, PassOutcome};
 use components::Found;
 use model::Answer;
@@ -66,7 +68,8 @@ fn next_mark(v: u8, next: Next) -> u8
 // Gives the queue's first m pixels their next marks.
 fn renumber(marks: &mut [u8], plane: &[u8], queue: &[u32], m: usize, next: Next)
     requires { ⌜ Listed (now marks) (now plane) (now queue) m ⌝ }
-    ensures { λ r. ⌜ Renumbered next (now (plane .entry)) (now (queue .entry)) (now (marks .entry)) (now (marks .exit)) m ⌝ }
+    ensures { λ r. ⌜ Renumbered next (now (plane .entry)) (now (queue .entry))
+        (now (marks .entry)) (now (marks .exit)) m ⌝ }
 {
     let mut i = 0;
     while i < m {
@@ -95,7 +98,8 @@ fn one_value(plane: &[u8], queue: &[u32], m: usize) -> bool
     true
 }
 
-// Whether neither the pass nor any later one on a part of its section changes the component of the queue's first m pixels.
+// Whether neither the pass nor any later one on a part of its section changes the component of the queue's first m
+// pixels.
 fn is_inert(plane: &[u8], queue: &[u32], m: usize, pass: Pass) -> bool
     requires { ⌜ Component (now plane) (now queue) m (pass .a) (pass .b) ⌝ }
     ensures { λ r. ⌜ r ≡ inert pass (values (now (plane .entry)) (now (queue .entry)) m) ⌝ }
@@ -114,7 +118,8 @@ fn is_inert(plane: &[u8], queue: &[u32], m: usize, pass: Pass) -> bool
 // Gives the component of the queue's first m pixels, which has the least area, the rule. 1 where it is retoned, else 0.
 fn retone_component(plane: &mut [u8], queue: &[u32], m: usize, pass: Pass) -> u32
     requires { ⌜ Component (now plane) (now queue) m (pass .a) (pass .b) × (pass .area ≤ m) ⌝ }
-    ensures { λ r. ⌜ ((vs : List ℕ) → Alike vs (values (now (plane .entry)) (now (queue .entry)) m) → Toned pass vs (now (plane .entry)) (now (queue .entry)) (now (plane .exit)) m r) ⌝ }
+    ensures { λ r. ⌜ ((vs : List ℕ) → Alike vs (values (now (plane .entry)) (now (queue .entry)) m)
+        → Toned pass vs (now (plane .entry)) (now (queue .entry)) (now (plane .exit)) m r) ⌝ }
 {
     let rule = pass.rule;
     let a = pass.a;
@@ -134,8 +139,11 @@ fn treat_component(
     pass: Pass,
     next: Next,
 ) -> u32
-    requires { ⌜ Component (now plane) (now queue) m (pass .a) (pass .b) × Listed (now marks) (now plane) (now queue) m ⌝ }
-    ensures { λ r. ⌜ ((vs : List ℕ) → Alike vs (values (now (plane .entry)) (now (queue .entry)) m) → Done pass next vs (now (plane .entry)) (now (marks .entry)) (now (queue .entry)) (now (plane .exit)) (now (marks .exit)) m r) ⌝ }
+    requires { ⌜ Component (now plane) (now queue) m (pass .a) (pass .b)
+        × Listed (now marks) (now plane) (now queue) m ⌝ }
+    ensures { λ r. ⌜ ((vs : List ℕ) → Alike vs (values (now (plane .entry)) (now (queue .entry)) m)
+        → Done pass next vs (now (plane .entry)) (now (marks .entry)) (now (queue .entry))
+        (now (plane .exit)) (now (marks .exit)) m r) ⌝ }
 {
     if is_inert(plane, queue, m, pass) {
         return 0;
@@ -157,7 +165,9 @@ pub fn treat_section(
     next: Next,
 ) -> u32
     requires { ⌜ Section (now plane) (now marks) (now queue) w h code pass next ⌝ }
-    ensures { λ r. ⌜ Treated (four w) (w * h) code pass next (now (plane .entry)) (now (marks .entry)) (now (queue .entry)) (now (plane .exit)) (now (marks .exit)) (now (queue .exit)) r ⌝ }
+    ensures { λ r. ⌜ Treated (four w) (w * h) code pass next
+        (now (plane .entry)) (now (marks .entry)) (now (queue .entry))
+        (now (plane .exit)) (now (marks .exit)) (now (queue .exit)) r ⌝ }
 {
     let n = w * h;
     let mut count = 0;
@@ -188,7 +198,9 @@ pub fn treat(
     pass: Pass,
 ) -> u32
     requires { ⌜ Lent w h (length (now plane)) (length (now marks)) (length (now queue)) × (pass .a ≤ pass .b) ⌝ }
-    ensures { λ r. ⌜ Over w h pass (now (plane .entry)) (now (marks .entry)) (now (queue .entry)) (now (plane .exit)) (now (marks .exit)) (now (queue .exit)) r ⌝ }
+    ensures { λ r. ⌜ Over w h pass
+        (now (plane .entry)) (now (marks .entry)) (now (queue .entry))
+        (now (plane .exit)) (now (marks .exit)) (now (queue .exit)) r ⌝ }
 {
     let n = w * h;
     mark_section(plane, marks, n, pass);
@@ -242,7 +254,9 @@ pub fn pass(
     h: usize,
     pass: Pass,
 ) -> Answer
-    ensures { λ r. ⌜ PassOutcome w h pass (now (plane .entry)) (now (marks .entry)) (now (queue .entry)) r (now (plane .exit)) (now (marks .exit)) (now (queue .exit)) ⌝ }
+    ensures { λ r. ⌜ PassOutcome w h pass
+        (now (plane .entry)) (now (marks .entry)) (now (queue .entry)) r
+        (now (plane .exit)) (now (marks .exit)) (now (queue .exit)) ⌝ }
 {
     let refusal = refusal_of(w, h, plane.len(), marks.len(), queue.len(), pass);
     if refusal != 0 {

@@ -1,5 +1,5 @@
 -- `passes::is_inert` meets its contract: the area first, then the rule. Assumes nothing.
-use mathlib.Core.Path.{_≡_, sym, ap, _∙_}
+use mathlib.Core.Path.{sym, ap, _∙_}
 use borrow.Author.Needs.{needs}
 use Rattle.tones.specs.declared.Rule.{Rule}
 use Rattle.tones.specs.Histograms.{values}
@@ -14,7 +14,9 @@ cast-area c = search needs
 returns : tie.Need-returns
 returns c =
     let s = c .before .before .before .before in
-    sym (inert-small (s .args .pass) (s .args .plane .now) (s .args .queue .now) (s .args .m) (s .pre .room) (c .if1 .taken))
+    let plane = s .args .plane .now in
+    let queue = s .args .queue .now in
+    sym (inert-small (s .args .pass) plane queue (s .args .m) (s .pre .room) (c .if1 .taken))
 
 enum-told : tie.Need-enum-told
 enum-told c = search needs

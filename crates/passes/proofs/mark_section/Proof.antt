@@ -1,10 +1,9 @@
--- `passes::mark_section` meets its contract. The invariant: the first p pixels are marked, and the other marks are as they
--- were. The measure is what is left of n. Assumes nothing.
+-- `passes::mark_section` meets its contract. The invariant: the first p pixels are marked, and the other marks are as
+-- they were. The measure is what is left of n. Assumes nothing.
 use mathlib.Core.Path.{_≡_}
 use Prim.Native.Nat.{_-_, _≤_}
 use native.Mathlib.Omega.{arith}
 use borrow.Author.Needs.{needs}
-use lib.ListN.{length}
 use Rattle.passes.specs.Sections.{Marked}
 use Rattle.passes.proofs.Steps.{marked-none, marked-more}
 use Rattle.passes.proofs.mark_section.Statement.{statement}

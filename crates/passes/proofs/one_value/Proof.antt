@@ -1,12 +1,9 @@
 -- `passes::one_value` meets its contract. The invariant: the queue's first i pixels have the value of its first. The
 -- measure is what is left of m. Assumes nothing.
-use mathlib.Core.Path.{_≡_, refl, sym, _∙_}
-use mathlib.Core.Logic.{inl, inr}
-use Prim.Native.Nat.{ℕ, _-_, _+_, _≤_, _<_}
+use mathlib.Core.Path.{_≡_, refl, sym}
+use Prim.Native.Nat.{ℕ, _-_, _≤_, _<_}
 use native.Mathlib.Omega.{arith}
 use borrow.Author.Count.{below-more}
-use borrow.Author.Needs.{needs}
-use lib.ListN.{length}
 use Rattle.planes.specs.Lists.{at}
 use Rattle.passes.proofs.Steps.{all-one, not-one}
 use Rattle.passes.proofs.one_value.Statement.{statement}

@@ -1,6 +1,6 @@
 -- `passes::pass` meets its contract: refused with the first number that applies and nothing changed, or treated.
 -- Assumes nothing.
-use mathlib.Core.Path.{_≡_, sym, _∙_}
+use mathlib.Core.Path.{sym, _∙_}
 use borrow.Author.Needs.{needs}
 use Rattle.model.proofs.Chains.{accepted, ordered}
 use Rattle.passes.proofs.Calls.{refused-by, done-by}
@@ -15,7 +15,8 @@ returns c = refused-by _ (c .before .refusal-of .ensures) (c .if1 .taken)
 
 treat-requires : tie.Need-treat-requires
 treat-requires c κs =
-    let fine = accepted _ _ _ _ (sym (c .before .before .before .before .refusal-of .ensures) ∙ c .before .before .before .if1 .left) in
+    let tested = c .before .before .before in
+    let fine = accepted _ _ _ _ (sym (tested .before .refusal-of .ensures) ∙ tested .if1 .left) in
     (fine .0, ordered _ (fine .1))
 
 same-length : tie.Need-same-length
@@ -28,7 +29,10 @@ same-length-3 : tie.Need-same-length-3
 same-length-3 c = search needs
 
 returns-2 : tie.Need-returns-2
-returns-2 c = done-by (sym (c .before .before .before .before .before .before .before .before .before .before .before .refusal-of .ensures) ∙ c .before .before .before .before .before .before .before .before .before .before .if1 .left) (c .before .before .before .before .before .before .treat .ensures)
+returns-2 c =
+    let treated = c .before .before .before .before .before .before in
+    let tested = treated .before .before .before .before in
+    done-by (sym (tested .before .refusal-of .ensures) ∙ tested .if1 .left) (treated .treat .ensures)
 
 pub pass-spec : {M : Type 1} → statement M
 pass-spec =

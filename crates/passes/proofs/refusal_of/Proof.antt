@@ -1,5 +1,5 @@
 -- `passes::refusal_of` meets its contract: what the callees answer, in order. Assumes nothing.
-use mathlib.Core.Path.{_≡_, sym, _∙_}
+use mathlib.Core.Path.{sym, _∙_}
 use borrow.Author.Needs.{needs}
 use Rattle.planes.proofs.Refusals.{▷-left, ▷-right}
 use Rattle.model.specs.Calls.{passRefusal}

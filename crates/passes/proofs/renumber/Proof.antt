@@ -1,10 +1,9 @@
--- `passes::renumber` meets its contract. The invariant: the queue's first i pixels have their next marks. The measure is
--- what is left of m. Assumes nothing.
+-- `passes::renumber` meets its contract. The invariant: the queue's first i pixels have their next marks. The measure
+-- is what is left of m. Assumes nothing.
 use mathlib.Core.Path.{_≡_}
 use Prim.Native.Nat.{_-_, _≤_}
 use native.Mathlib.Omega.{arith}
 use borrow.Author.Needs.{needs}
-use lib.ListN.{length}
 use Rattle.passes.specs.Sections.{Renumbered}
 use Rattle.passes.proofs.Steps.{renumbered-none, renumbered-more}
 use Rattle.passes.proofs.renumber.Statement.{statement}

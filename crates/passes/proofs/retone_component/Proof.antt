@@ -13,8 +13,9 @@ same-length c = search needs
 returns : tie.Need-returns
 returns c =
     let s = c .before .before .before .before .before .before .before in
-    λ vs A. toned (s .args .pass) vs (queue-size (s .args .plane .now) (s .args .queue .now) (s .pre .0 .room) A) (s .pre .1)
-    (c .before .before .before .retone .ensures vs A) (rw (c .if1 .taken))
+    λ vs A.
+    let size = queue-size (s .args .plane .now) (s .args .queue .now) (s .pre .0 .room) A in
+    toned (s .args .pass) vs size (s .pre .1) (c .before .before .before .retone .ensures vs A) (rw (c .if1 .taken))
 
 same-length-2 : tie.Need-same-length-2
 same-length-2 c = search needs
@@ -22,8 +23,9 @@ same-length-2 c = search needs
 returns-2 : tie.Need-returns-2
 returns-2 c =
     let s = c .before .before .before .before .before .before .before in
-    λ vs A. toned (s .args .pass) vs (queue-size (s .args .plane .now) (s .args .queue .now) (s .pre .0 .room) A) (s .pre .1)
-    (c .before .before .before .retone .ensures vs A) (rw (c .if1 .left))
+    λ vs A.
+    let size = queue-size (s .args .plane .now) (s .args .queue .now) (s .pre .0 .room) A in
+    toned (s .args .pass) vs size (s .pre .1) (c .before .before .before .retone .ensures vs A) (rw (c .if1 .left))
 
 pub retone-component-spec : {M : Type 1} → statement M
 retone-component-spec =

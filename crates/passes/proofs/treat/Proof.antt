@@ -29,7 +29,10 @@ same-length-3 : tie.Need-same-length-3
 same-length-3 c = search needs
 
 returns : tie.Need-returns
-returns c = over (c .before .before .before .before .before .before .before .before .before .before .before .before .mark-section .ensures) (c .before .before .before .before .before .before .treat-section .ensures)
+returns c =
+    let treated = c .before .before .before .before .before .before in
+    let marked = treated .before .before .before .before .before .before in
+    over (marked .mark-section .ensures) (treated .treat-section .ensures)
 
 pub treat-spec : {M : Type 1} → statement M
 treat-spec =

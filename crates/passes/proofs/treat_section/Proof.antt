@@ -1,7 +1,7 @@
 -- `passes::treat_section` meets its contract. The invariant: the components with a pixel before `from` are retoned and
 -- counted, and have their next marks (`Passing`). The measure is what is left of n. Assumes nothing.
-use mathlib.Core.Path.{_≡_, refl, subst}
-use Prim.Native.Nat.{ℕ, _-_, _*_, _≤_, _<_}
+use mathlib.Core.Path.{_≡_, subst}
+use Prim.Native.Nat.{ℕ, _-_, _*_, _≤_}
 use mathlib.Core.List.{List}
 use native.Mathlib.Omega.{arith}
 use borrow.Author.Needs.{needs}
@@ -10,12 +10,14 @@ use Rattle.planes.specs.Neighbours.{four}
 use Rattle.components.specs.Search.{Next, NextPixel}
 use Rattle.components.specs.declared.Found.{Found}
 use Rattle.components.specs.declared.Found.the-variants.{At}
-use Rattle.passes.proofs.Passing.{Passing, treatable, pass-begin, size-le, go-on, component, alike, listed, at-most-one, take-one, pass-end}
+use Rattle.passes.proofs.Passing.{Passing, treatable, pass-begin, size-le, go-on, pass-end}
+use Rattle.passes.proofs.Passing.{component, alike, listed, at-most-one, take-one}
 use Rattle.passes.proofs.treat_section.Statement.{statement}
 use Rattle.passes.proofs.treat_section.Tie as tie
 
 -- the pixel that the search found
-next-of : {marks : List ℕ} {code low n p : ℕ} {r : Found} → r ≡ At p → NextPixel marks code low n r → Next marks code low n p
+next-of : {marks : List ℕ} {code low n p : ℕ} {r : Found} → r ≡ At p → NextPixel marks code low n r
+    → Next marks code low n p
 next-of {marks} {code} {low} {n} e f = subst (NextPixel marks code low n) e f
 
 abbrev Inv-loop : tie.InvT-loop
@@ -42,10 +44,11 @@ enum-known-found c = search needs
 
 flood-requires : tie.Need-flood-requires Inv-loop μ-loop
 flood-requires c κs =
-    let l = c .before .before .before .before .before .before .before .before in
+    let found = c .before .before .before in
+    let searched = found .before .before in
+    let l = searched .before .before .before in
     let s = l .before .before .before .before in
-    let d = treatable (s .pre) in
-    let f = next-of (c .before .before .before .found .given .1) (c .before .before .before .before .before .next-pixel .ensures) in
+    let f = next-of (found .found .given .1) (searched .next-pixel .ensures) in
     record {
       size = s .pre .lent .size;
       covered = omega (arith, s .pre .lent .covered, l .loop .inv .marks-size);
@@ -57,52 +60,64 @@ flood-requires c κs =
 
 treat-component-requires : tie.Need-treat-component-requires Inv-loop μ-loop
 treat-component-requires c κs =
-    let l = c .before .before .before .before .before .before .before .before .before .before .before .before .before .before .before .before in
+    let flooded = c .before .before .before .before .before .before .before in
+    let found = flooded .before .before .before .before in
+    let searched = found .before .before in
+    let l = searched .before .before .before in
     let s = l .before .before .before .before in
     let d = treatable (s .pre) in
-    let f = next-of (c .before .before .before .before .before .before .before .before .before .before .before .found .given .1) (c .before .before .before .before .before .before .before .before .before .before .before .before .before .next-pixel .ensures) in
+    let f = next-of (found .found .given .1) (searched .next-pixel .ensures) in
     let g = go-on d (l .loop .inv) _ (f .past) (omega (arith, f .below)) (f .none) in
-    let F = c .before .before .before .before .before .before .before .flood .ensures in
+    let F = flooded .flood .ensures in
     let room : s .args .w * s .args .h ≤ length (l .loop .marks) =
     omega (arith, s .pre .lent .covered, l .loop .inv .marks-size) in
     (component d g (f .below) (f .has) F, listed d g (f .below) (f .has) F room)
 
 add-count : tie.Need-add-count Inv-loop μ-loop
 add-count c =
-    let l = c .before .before .before .before .before .before .before .before .before .before .before .before .before .before .before .before .before .before .before .before .before in
+    let treated = c .before .before .before .before in
+    let flooded = treated .before .before .before .before .before .before .before .before in
+    let found = flooded .before .before .before .before in
+    let searched = found .before .before in
+    let l = searched .before .before .before in
     let s = l .before .before .before .before in
     let d = treatable (s .pre) in
-    let f = next-of (c .before .before .before .before .before .before .before .before .before .before .before .before .before .before .before .before .found .given .1) (c .before .before .before .before .before .before .before .before .before .before .before .before .before .before .before .before .before .before .next-pixel .ensures) in
+    let f = next-of (found .found .given .1) (searched .next-pixel .ensures) in
     let g = go-on d (l .loop .inv) _ (f .past) (omega (arith, f .below)) (f .none) in
-    let F = c .before .before .before .before .before .before .before .before .before .before .before .before .flood .ensures in
-    let R = c .before .before .before .before .treat-component .ensures _ (alike d g (f .below) (f .has) F) in
+    let F = flooded .flood .ensures in
+    let R = treated .treat-component .ensures _ (alike d g (f .below) (f .has) F) in
     omega (arith, at-most-one d g (f .below) (f .has) F R, size-le d g, f .below, s .pre .lent .size .few)
 
 add-from : tie.Need-add-from Inv-loop μ-loop
 add-from c =
-    let l = c .before .before .before .before .before .before .before .before .before .before .before .before .before .before .before .before .before .before .before .before .before in
-    let s = l .before .before .before .before in
-    let d = treatable (s .pre) in
-    let f = next-of (c .before .before .before .before .before .before .before .before .before .before .before .before .before .before .before .before .found .given .1) (c .before .before .before .before .before .before .before .before .before .before .before .before .before .before .before .before .before .before .next-pixel .ensures) in
+    let flooded = c .before .before .before .before .before .before .before .before .before .before .before .before in
+    let found = flooded .before .before .before .before in
+    let searched = found .before .before in
+    let s = searched .before .before .before .before .before .before .before in
+    let f = next-of (found .found .given .1) (searched .next-pixel .ensures) in
     omega (arith, f .below, s .pre .lent .size .few)
 
 loop-less : tie.Need-loop-less Inv-loop μ-loop
 loop-less c =
-    let l = c .before .before .before .before .before .before .before .before .before .before .before .before .before .before .before .before .before .before .before .before .before in
-    let s = l .before .before .before .before in
-    let d = treatable (s .pre) in
-    let f = next-of (c .before .before .before .before .before .before .before .before .before .before .before .before .before .before .before .before .found .given .1) (c .before .before .before .before .before .before .before .before .before .before .before .before .before .before .before .before .before .before .next-pixel .ensures) in
+    let flooded = c .before .before .before .before .before .before .before .before .before .before .before .before in
+    let found = flooded .before .before .before .before in
+    let searched = found .before .before in
+    let f = next-of (found .found .given .1) (searched .next-pixel .ensures) in
     omega (arith, f .past, f .below)
 
 loop-again : tie.Need-loop-again Inv-loop μ-loop
 loop-again c =
-    let l = c .before .before .before .before .before .before .before .before .before .before .before .before .before .before .before .before .before .before .before .before .before in
+    let treated = c .before .before .before .before in
+    let flooded = treated .before .before .before .before .before .before .before .before in
+    let found = flooded .before .before .before .before in
+    let searched = found .before .before in
+    let l = searched .before .before .before in
     let s = l .before .before .before .before in
     let d = treatable (s .pre) in
-    let f = next-of (c .before .before .before .before .before .before .before .before .before .before .before .before .before .before .before .before .found .given .1) (c .before .before .before .before .before .before .before .before .before .before .before .before .before .before .before .before .before .before .next-pixel .ensures) in
+    let f = next-of (found .found .given .1) (searched .next-pixel .ensures) in
     let g = go-on d (l .loop .inv) _ (f .past) (omega (arith, f .below)) (f .none) in
-    let F = c .before .before .before .before .before .before .before .before .before .before .before .before .flood .ensures in
-    let R = c .before .before .before .before .treat-component .ensures _ (alike d g (f .below) (f .has) F) in
+    let F = flooded .flood .ensures in
+    let R = treated .treat-component .ensures _ (alike d g (f .below) (f .has) F) in
     take-one d g (f .below) (f .has) F R
 
 enum-told : tie.Need-enum-told Inv-loop μ-loop
