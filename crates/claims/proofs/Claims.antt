@@ -28,6 +28,7 @@ use Rattle.model.specs.declared.Answer.{Answer}
 use Rattle.model.specs.declared.Answer.the-variants.{Refused, Done}
 use Rattle.model.specs.Passes.{passed, passCount}
 use Rattle.model.specs.Calls.{Call, answered, planeAfter, total, State, start, chain}
+use Rattle.model.specs.Runs.{run, runCount}
 use Rattle.model.specs.Enhancement.{enhanced}
 use Rattle.model.proofs.Chains.{Fine, chain-fine}
 use Rattle.passes.specs.Calls.{PassOutcome, Sequence}
@@ -36,7 +37,14 @@ use Rattle.passes.proofs.Calls.{sequence-is}
 use Rattle.enhance.specs.declared.Settings.{Settings}
 use Rattle.enhance.specs.Calls.{chainOf, EnhanceOutcome}
 use Rattle.enhance.specs.Calls as enhance
-use Rattle.claims.specs.Claims.{RefusedAsListed, StatusAsListed, Demand1, Demand2, Shapes, Coloured, Demand3, Demand3Holds}
+use Rattle.netpbm.specs.declared.Written.{Written}
+use Rattle.netpbm.specs.declared.Written.the-variants as written
+use Rattle.netpbm.specs.Writing.{encoding, writeRefusal, Wrote}
+use Rattle.netpbm.specs.Writing as writing
+use Rattle.netpbm.proofs.Frames.{accepted-iff}
+use Rattle.netpbm.proofs.Writing.{wrote-nothing, wrote-size, wrote-frame, wrote-beyond}
+use Rattle.passlists.specs.Outcomes.{Outcome}
+use Rattle.claims.specs.Claims.{RefusedAsListed, StatusAsListed, WrittenAsListed, Demand1, Demand2, Shapes, Coloured, Demand3, Demand3Holds}
 
 -- ## Answers by number
 
@@ -101,12 +109,50 @@ module _ {w h : ℕ} {t : Settings} {frame plane marks queue output plane' marks
         O .refused (number .0) (number .1),
       )
 
+module _ {w h refusal : ℕ} {ss : List Pass} {plane marks queue plane' marks' queue' : List ℕ} {r : Answer}
+    (O : Outcome w h refusal ss plane marks queue r plane' marks' queue') where
+  list-listed : RefusedAsListed refusal r
+  list-listed = as-listed refusal (runCount (four w) ss plane) (O .answer)
+
+  list-unchanged : (k : ℕ) → r ≡ Refused k → (plane' ≡ plane) × ((marks' ≡ marks) × (queue' ≡ queue))
+  list-unchanged k e =
+      let number = refused-number refusal (runCount (four w) ss plane) k (sym (O .answer) ∙ e) in (
+        O .plane-is ∙ ap (λ (x : ℕ). planeAfter x plane (run (four w) ss plane)) (number .1),
+        O .refused (number .0) (number .1),
+      )
+
+written-number : (number size k : ℕ) → writing.answer number size ≡ written.Refused k → number ≡ k
+written-number zero size k e = let z : _≡_ {A = ℕ} 0 1 = cc in absurd (omega arith)
+written-number (suc number) size k e = cc
+
+not-unwritten : (size k : ℕ) → written.Length size ≡ written.Refused k → ⊥
+not-unwritten size k e = let z : _≡_ {A = ℕ} 0 1 = cc in omega arith
+
+written-listed : (number size : ℕ) {r : Written} → r ≡ writing.answer number size → WrittenAsListed number r
+written-listed number size e = record {
+  refused = λ k q. e ∙ ap (λ (x : ℕ). writing.answer x size) q;
+  listed = λ k q. written-number number size k (sym e ∙ q);
+  accepted = λ q k f. not-unwritten size k (sym (e ∙ ap (λ (x : ℕ). writing.answer x size) q) ∙ f);
+}
+
+module _ {raster output output' : List ℕ} {w h : ℕ} {r : Written} (O : Wrote raster w h output r output') where
+  write-listed : WrittenAsListed (writeRefusal w h (length raster) (length output)) r
+  write-listed =
+      written-listed (writeRefusal w h (length raster) (length output)) (length (encoding raster w h)) (O .answers)
+
+  write-unchanged : (k : ℕ) → r ≡ written.Refused k → output' ≡ output
+  write-unchanged k e = wrote-nothing (subst (λ (a : Written). Wrote raster w h output a output') e O)
+
 pub demand-1 : Demand1
 demand-1 = record {
   of-intensity = λ O. (status-listed (O .answer), O .refused);
   of-pass = λ O. (pass-listed O, pass-unchanged O);
   of-recolour = λ O. (status-listed (O .answer), O .refused);
   of-enhance = λ O. (enhance-listed O, enhance-unchanged O);
+  of-list = λ list O. (list-listed O, list-unchanged O);
+  of-passes = λ O. (list-listed O, list-unchanged O);
+  of-write = λ O. (write-listed O, write-unchanged O);
+  of-read = accepted-iff;
 }
 
 -- ## Demand 2
@@ -138,12 +184,22 @@ module _ {w h count : ℕ} {t : Settings} {frame plane marks queue output plane'
         (d .1, (O .written (d .0), O .beyond)),
       )
 
+module _ {w h refusal count : ℕ} {ss : List Pass} {plane marks queue plane' marks' queue' : List ℕ}
+    (O : Outcome w h refusal ss plane marks queue (Done count) plane' marks' queue') where
+  accepted-list : (plane' ≡ run (four w) ss plane) × (count ≡ runCount (four w) ss plane)
+  accepted-list =
+      let d = done-number refusal (runCount (four w) ss plane) count (O .answer) in
+      (O .plane-is ∙ ap (λ (x : ℕ). planeAfter x plane (run (four w) ss plane)) (d .0), d .1)
+
 pub demand-2 : Demand2
 demand-2 = record {
   of-intensity = λ O. O .filled refl;
   of-pass = λ O. accepted-pass O;
   of-recolour = λ O. (O .written refl, O .beyond refl);
   of-enhance = λ O. accepted-enhancement O;
+  of-list = λ list O. accepted-list O;
+  of-passes = λ O. accepted-list O;
+  of-write = λ O. (wrote-size O, (wrote-frame O, wrote-beyond O));
 }
 
 -- ## Demand 3

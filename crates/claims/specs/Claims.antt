@@ -14,8 +14,12 @@
 --   chainOf            the chain of passes that an enhancement stands for (enhance/specs/Calls)
 --   IntensityOutcome, RecolourOutcome, PassOutcome, EnhanceOutcome   what the calls ensure
 --   Sequence           calls of `pass`, each lent the plane as the one before left it (passes/specs/Calls)
+--   ListOutcome, PassesOutcome   what lists of passes ensure, in a file and in memory (passlists/specs/Outcomes)
+--   IsFrame            a list of bytes is a P6 frame, by its parts (netpbm/specs/Frames)
+--   Wrote              what the writer ensures (netpbm/specs/Writing)
 use Prim.Native.Nat.{ℕ, suc, _*_, _/_, _≤_, _<_}
 use mathlib.Core.Path.{_≡_}
+use mathlib.Core.Logic.{_↔_}
 use mathlib.Core.Bool.{true}
 use mathlib.Core.List.{List}
 use lib.ListN.{length, take, drop}
@@ -32,11 +36,20 @@ use Rattle.model.specs.declared.Answer.{Answer}
 use Rattle.model.specs.declared.Answer.the-variants.{Refused, Done}
 use Rattle.model.specs.Passes.{passed, passCount}
 use Rattle.model.specs.Calls.{Call, total, start, chain}
+use Rattle.model.specs.Runs.{run, runCount}
 use Rattle.passes.specs.Calls.{PassOutcome, Sequence}
 use Rattle.passes.specs.Calls as passes
 use Rattle.enhance.specs.declared.Settings.{Settings}
 use Rattle.enhance.specs.Calls.{chainOf, EnhanceOutcome}
 use Rattle.enhance.specs.Calls as enhance
+use Rattle.netpbm.specs.declared.Header.the-variants.{Frame}
+use Rattle.netpbm.specs.declared.Written.{Written}
+use Rattle.netpbm.specs.declared.Written.the-variants as written
+use Rattle.netpbm.specs.Reading.{readAnswer}
+use Rattle.netpbm.specs.Frames.{IsFrame}
+use Rattle.netpbm.specs.Writing.{encoding, writeRefusal, Wrote}
+use Rattle.passlists.specs.Format.{passesOf}
+use Rattle.passlists.specs.Outcomes.{fileRefusal, memoryRefusal, ListOutcome, PassesOutcome}
 
 -- ## Demand 1: exactly what is listed is refused, by its number, and a refusal leaves all lent memory as it was
 
@@ -51,6 +64,11 @@ pub record StatusAsListed (number : ℕ) (r : Status) : Type 0 where
   pub refused : (k : ℕ) → number ≡ suc k → r ≡ status.Refused (suc k)
   pub listed : (k : ℕ) → r ≡ status.Refused k → number ≡ k
   pub accepted : number ≡ 0 → r ≡ status.Done
+
+pub record WrittenAsListed (number : ℕ) (r : Written) : Type 0 where
+  pub refused : (k : ℕ) → number ≡ suc k → r ≡ written.Refused (suc k)
+  pub listed : (k : ℕ) → r ≡ written.Refused k → number ≡ k
+  pub accepted : number ≡ 0 → (k : ℕ) → r ≡ written.Refused k → ⊥
 
 pub record Demand1 : Type 0 where
   pub of-intensity : {w h : ℕ} {frame plane plane' : List ℕ} {r : Status} → IntensityOutcome w h frame plane r plane'
@@ -69,6 +87,20 @@ pub record Demand1 : Type 0 where
       → RefusedAsListed (enhance.refusalOf w h t frame plane marks queue output) r
       × ((k : ℕ) → r ≡ Refused k
       → (plane' ≡ plane) × ((marks' ≡ marks) × ((queue' ≡ queue) × (output' ≡ output))))
+  pub of-list : (list : List ℕ) {w h : ℕ} {plane marks queue plane' marks' queue' : List ℕ} {r : Answer}
+      → ListOutcome w h list plane marks queue r plane' marks' queue'
+      → RefusedAsListed (fileRefusal w h list plane marks queue) r
+      × ((k : ℕ) → r ≡ Refused k → (plane' ≡ plane) × ((marks' ≡ marks) × (queue' ≡ queue)))
+  pub of-passes : {w h : ℕ} {ss : List Pass} {plane marks queue plane' marks' queue' : List ℕ} {r : Answer}
+      → PassesOutcome w h ss plane marks queue r plane' marks' queue'
+      → RefusedAsListed (memoryRefusal w h ss plane marks queue) r
+      × ((k : ℕ) → r ≡ Refused k → (plane' ≡ plane) × ((marks' ≡ marks) × (queue' ≡ queue)))
+  pub of-write : {raster output output' : List ℕ} {w h : ℕ} {r : Written} → Wrote raster w h output r output'
+      → WrittenAsListed (writeRefusal w h (length raster) (length output)) r
+      × ((k : ℕ) → r ≡ written.Refused k → output' ≡ output)
+  -- reading lends no memory that could change; it accepts exactly the frames
+  pub of-read : (bytes : List ℕ) (limit w h offset : ℕ)
+      → (readAnswer bytes limit ≡ Frame w h offset) ↔ IsFrame bytes limit w h offset
 
 -- ## Demand 2: what is accepted becomes, byte for byte, what the algorithms give
 
@@ -87,6 +119,16 @@ pub record Demand2 : Type 0 where
       → (plane' ≡ chainOf w h t frame .plane) × ((count ≡ total (chainOf w h t frame .answers))
       × ((take (3 * (w * h)) output' ≡ recolour frame (chainOf w h t frame .plane))
       × (drop (3 * (w * h)) output' ≡ drop (3 * (w * h)) output)))
+  -- a list is the run of its passes, and the sum of their counts
+  pub of-list : (list : List ℕ) {w h count : ℕ} {plane marks queue plane' marks' queue' : List ℕ}
+      → ListOutcome w h list plane marks queue (Done count) plane' marks' queue'
+      → (plane' ≡ run (four w) (passesOf list) plane) × (count ≡ runCount (four w) (passesOf list) plane)
+  pub of-passes : {w h count : ℕ} {ss : List Pass} {plane marks queue plane' marks' queue' : List ℕ}
+      → PassesOutcome w h ss plane marks queue (Done count) plane' marks' queue'
+      → (plane' ≡ run (four w) ss plane) × (count ≡ runCount (four w) ss plane)
+  pub of-write : {raster output output' : List ℕ} {w h size : ℕ} → Wrote raster w h output (written.Length size) output'
+      → (size ≡ length (encoding raster w h)) × ((take size output' ≡ encoding raster w h)
+      × (drop size output' ≡ drop size output))
 
 -- ## Demand 3: one claim about a whole chain of calls
 
