@@ -4,3 +4,4 @@ pub mod Sweep
 pub mod Passing
 pub mod Steps
 pub mod Calls
+pub mod Examples
