@@ -1,0 +1,245 @@
+//! Random input: sides, planes, frames, files, lists and numbers, most of them sound and the rest damaged.
+
+use mlhe_reference::random::Random;
+
+/// One time in so many.
+pub fn one_in(random: &mut Random, times: usize) -> bool {
+    random.below(times) == 0
+}
+
+/// Sides of a plane with few pixels; seldom one with more, or with the longest side.
+pub fn sides(random: &mut Random) -> (usize, usize) {
+    match random.below(400) {
+        0 => (4_096, random.between(1, 2)),
+        1 => (random.between(1, 2), 4_096),
+        2 => (random.between(60, 130), random.between(60, 130)),
+        3..=40 => (random.between(1, 200), random.between(1, 12)),
+        41..=100 => (random.between(1, 4), random.between(1, 4)),
+        _ => (random.between(1, 16), random.between(1, 16)),
+    }
+}
+
+/// The sides that a call is told: the right ones, and seldom others, also such as overflow when multiplied.
+pub fn told_sides(random: &mut Random, w: usize, h: usize) -> (usize, usize) {
+    let wrong = [0, 1, 2, 255, 256, 1_024, 4_096, 4_097, 1 << 16, 1 << 20, 1 << 32, 1 << 63, usize::MAX];
+    match random.below(40) {
+        0 => (random.one_of(&wrong), h),
+        1 => (w, random.one_of(&wrong)),
+        2 => (random.one_of(&wrong), random.one_of(&wrong)),
+        3 => random.one_of(&[(4_096, 257), (257, 4_096), (1_025, 1_024), (4_096, 4_096)]),
+        4 => (h, w),
+        _ => (w, h),
+    }
+}
+
+/// A length where at least n are needed: mostly exact or long, sometimes short.
+pub fn length(random: &mut Random, n: usize) -> usize {
+    match random.below(30) {
+        0 => random.below(n + 1),
+        1 => n.saturating_sub(1),
+        2..=9 => n + random.between(1, 40),
+        _ => n,
+    }
+}
+
+/// A length where exactly n are needed.
+pub fn exact_length(random: &mut Random, n: usize) -> usize {
+    match random.below(20) {
+        0 => random.below(n + 1),
+        1 => n + random.between(1, 3),
+        _ => n,
+    }
+}
+
+/// So many values of one of several kinds of picture, w to a row.
+pub fn values(random: &mut Random, w: usize, count: usize) -> Vec<u8> {
+    let w = w.max(1);
+    let kind = random.below(9);
+    let (base, few) = (random.byte(), random.between(1, 6));
+    let palette: Vec<u8> = (0..few).map(|_| random.byte()).collect();
+    let (right, down) = (random.between(0, 9), random.between(0, 9));
+    let block = random.between(1, 6);
+    let mut walk = base;
+    let mut value = |p: usize| {
+        let (x, y) = (p % w, p / w);
+        match kind {
+            0 => base,
+            1 => random.byte(),
+            2 => palette[random.below(few)],
+            3 => base.wrapping_add(random.below(4) as u8),
+            4 => (right * x + down * y) as u8,
+            5 => palette[(x / block + y / block) % few],
+            6 => ((right * x + down * y) / 4 + random.below(12)) as u8,
+            7 if random.below(40) > 0 => base,
+            7 => palette[random.below(few)],
+            _ => {
+                walk = walk.wrapping_add(random.one_of(&[0, 0, 0, 1, 255, 3, 40]));
+                walk
+            }
+        }
+    };
+    (0..count).map(&mut value).collect()
+}
+
+/// So many bytes of a frame: coloured, or grey as its intensity.
+pub fn frame_bytes(random: &mut Random, w: usize, count: usize) -> Vec<u8> {
+    let pixels = count.div_ceil(3);
+    let tint = if one_in(random, 2) { [0, 0, 0] } else { [random.byte() / 4, random.byte() / 4, random.byte() / 4] };
+    let noisy = one_in(random, 3);
+    let mut bytes = Vec::new();
+    for value in values(random, w, pixels) {
+        for c in tint {
+            let noise = if noisy { random.byte() } else { 0 };
+            bytes.push(value.saturating_sub(c) ^ noise);
+        }
+    }
+    bytes.truncate(count);
+    bytes
+}
+
+/// The numbers of a pass, in the types of the C function.
+#[derive(Clone, Copy, Debug)]
+pub struct PassNumbers {
+    pub a: u8,
+    pub b: u8,
+    pub area: u32,
+    pub rule: RuleNumbers,
+}
+
+#[derive(Clone, Copy, Debug)]
+pub struct RuleNumbers {
+    pub rule: u8,
+    pub first: u16,
+    pub second: u16,
+}
+
+/// The numbers of the settings of an enhancement.
+#[derive(Clone, Copy, Debug)]
+pub struct SettingsNumbers {
+    pub last: u8,
+    pub area: u32,
+    pub rule: RuleNumbers,
+}
+
+/// The house setting.
+pub const HOUSE: SettingsNumbers =
+    SettingsNumbers { last: 7, area: 20, rule: RuleNumbers { rule: 0, first: 80, second: 300 } };
+
+pub fn settings_numbers(random: &mut Random) -> SettingsNumbers {
+    if one_in(random, 8) {
+        return HOUSE;
+    }
+    let last = if one_in(random, 20) { random.one_of(&[8, 9, 255]) } else { random.between(0, 7) as u8 };
+    SettingsNumbers { last, area: area(random), rule: rule_numbers(random) }
+}
+
+pub fn rule_numbers(random: &mut Random) -> RuleNumbers {
+    let numbers = [0, 1, 80, 81, 999, 1_000, 1_001, 25_499, 25_500, 25_501, 65_535];
+    match random.below(40) {
+        0 => return RuleNumbers { rule: 0, first: random.one_of(&numbers), second: random.one_of(&numbers) },
+        1 => return RuleNumbers { rule: 1, first: random.one_of(&numbers), second: 0 },
+        2 => return RuleNumbers { rule: 1, first: random.one_of(&numbers), second: random.one_of(&numbers) },
+        3 => return RuleNumbers { rule: random.one_of(&[2, 3, 128, 255]), first: 0, second: random.one_of(&numbers) },
+        _ => {}
+    }
+    if one_in(random, 3) {
+        let k = random.one_of(&[0, 1, 10, 100, 300, 500, 999, 1_000]);
+        return RuleNumbers { rule: 1, first: k, second: 0 };
+    }
+    let low = random.one_of(&[0, 0, 0, 50, 80, 100, 200]);
+    let high = random.one_of(&[300, 300, 400, 1_000, 25_500, 25_500, 25_500]);
+    RuleNumbers { rule: 0, first: low, second: high }
+}
+
+pub fn area(random: &mut Random) -> u32 {
+    match random.below(40) {
+        0 => 0,
+        1 => random.one_of(&[1_048_575, 1_048_576, 1_048_577, u32::MAX]),
+        2..=9 => random.between(2, 40) as u32,
+        _ => random.between(1, 3) as u32,
+    }
+}
+
+pub fn pass_numbers(random: &mut Random) -> PassNumbers {
+    let (x, y) = (random.byte(), random.byte());
+    let (a, b) = match random.below(16) {
+        0 => (x.max(y), x.min(y)),
+        1..=5 => (0, 255),
+        6 => (x, x),
+        7 => (0, 127),
+        8 => (128, 255),
+        _ => (x.min(y), x.max(y)),
+    };
+    PassNumbers { a, b, area: area(random), rule: rule_numbers(random) }
+}
+
+/// A pass list, often with something wrong in it.
+pub fn list_bytes(random: &mut Random, greatest: usize) -> Vec<u8> {
+    let count = random.between(0, greatest);
+    let mut bytes = b"MLP\x01\x00".to_vec();
+    bytes.extend((count as u16).to_le_bytes());
+    for _ in 0..count {
+        let pass = pass_numbers(random);
+        bytes.extend([pass.a, pass.b, pass.rule.rule, 0]);
+        bytes.extend(pass.area.to_le_bytes());
+        bytes.extend(pass.rule.first.to_le_bytes());
+        bytes.extend(pass.rule.second.to_le_bytes());
+    }
+    if one_in(random, 3) {
+        damage(random, &mut bytes);
+    }
+    bytes
+}
+
+/// A list of very many passes that change nothing, for the limit of 1,024.
+pub fn long_list(random: &mut Random) -> Vec<u8> {
+    let count = random.one_of(&[1_023u16, 1_024, 1_025]);
+    let mut bytes = b"MLP\x01\x00".to_vec();
+    bytes.extend(count.to_le_bytes());
+    for _ in 0..count {
+        bytes.extend([0, 255, 0, 0, 0, 0, 16, 0, 0, 0, 0x9c, 0x63]);
+    }
+    bytes
+}
+
+/// Changes, takes away or adds some bytes.
+pub fn damage(random: &mut Random, bytes: &mut Vec<u8>) {
+    for _ in 0..random.between(1, 2) {
+        let place = random.below(bytes.len().min(40) + 1).min(bytes.len());
+        match random.below(5) {
+            0 if place < bytes.len() => bytes[place] = random.byte(),
+            1 if place < bytes.len() => bytes[place] ^= 1 << random.below(8),
+            2 => bytes.truncate(random.below(bytes.len() + 1)),
+            3 => bytes.insert(place, random.byte()),
+            _ => bytes.push(random.byte()),
+        }
+    }
+}
+
+/// A P6 file of a frame, often with something wrong in it.
+pub fn p6_bytes(random: &mut Random) -> Vec<u8> {
+    let (w, h) = (random.between(1, 9), random.between(1, 9));
+    let (mut said_w, mut said_h, mut maxval) = (w, h, 255);
+    let wrong = [0, 1, 254, 256, 4_096, 4_097, 65_535, 999_999, 1_000_000];
+    match random.below(12) {
+        0 => said_w = random.one_of(&wrong),
+        1 => said_h = random.one_of(&wrong),
+        2 => maxval = random.one_of(&wrong),
+        3 => (said_w, said_h) = (random.one_of(&wrong), random.one_of(&wrong)),
+        _ => {}
+    }
+    let mut bytes = b"P6".to_vec();
+    for number in [said_w, said_h, maxval] {
+        for _ in 0..random.one_of(&[1, 1, 1, 2, 5]) {
+            bytes.push(random.one_of(b" \t\n\x0b\x0c\r"));
+        }
+        let zeros = random.one_of(&[0, 0, 0, 2, 5]);
+        bytes.extend(format!("{}{number}", "0".repeat(zeros)).bytes());
+    }
+    bytes.push(random.one_of(b" \t\n\x0b\x0c\r"));
+    bytes.extend(frame_bytes(random, w, 3 * w * h));
+    if one_in(random, 3) {
+        damage(random, &mut bytes);
+    }
+    bytes
+}

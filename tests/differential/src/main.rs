@@ -1,0 +1,135 @@
+//! The proved library's C functions against the second implementation.
+//!
+//!     cargo run --release                          100,000 cases
+//!     cargo run --release -- --long                5,000,000 cases
+//!     cargo run --release -- --cases N --seed S    so many, from another seed
+//!     cargo run --release -- --case K --seed S     one case again
+//!
+//! Every case is random from its seed and its number: sides, frames, planes, files and lists, sound and damaged; chains
+//! of passes with refused calls among them; lengths short, exact and long; any content in marks and queue; guards
+//! around all lent memory. Compared are answers, planes, outputs and every byte that has to stay; on all that is accepted
+//! the order of neighbours and the regional maxima and minima, counted from their definition. Ends with status 1 at the
+//! first difference. At the end it has to have seen every refusal and accepted calls of every kind.
+
+mod calls;
+mod guarded;
+mod inputs;
+
+use calls::KINDS;
+use mlhe_reference::random::Random;
+use std::env;
+use std::process::ExitCode;
+use std::time::Instant;
+
+const CASES: u64 = 100_000;
+const LONG: u64 = 5_000_000;
+const SEED: u64 = 20_260;
+
+/// How often each kind of case was tried, accepted, and refused with each number.
+#[derive(Default)]
+struct Tally {
+    calls: u64,
+    tried: [u64; KINDS.len()],
+    accepted: [u64; KINDS.len()],
+    refused: [u64; 18],
+}
+
+impl Tally {
+    fn add(&mut self, kind: usize, answers: &[i64]) {
+        self.tried[kind] += 1;
+        self.calls += answers.len() as u64;
+        self.accepted[kind] += u64::from(answers.iter().all(|&answer| answer >= 0));
+        for &answer in answers {
+            if answer < 0 {
+                self.refused[answer.unsigned_abs() as usize] += 1;
+            }
+        }
+    }
+
+    fn print(&self) {
+        for (kind, name) in KINDS.iter().enumerate() {
+            println!("{name:10} {:8} cases, {:8} of them with no refusal", self.tried[kind], self.accepted[kind]);
+        }
+        let refused: Vec<String> = (1..=17).map(|number| format!("{number}: {}", self.refused[number])).collect();
+        println!("refusals   {}", refused.join(", "));
+    }
+
+    fn saw_all(&self) -> bool {
+        self.accepted.iter().all(|&count| count > 0) && self.refused[1..].iter().all(|&count| count > 0)
+    }
+}
+
+/// One case: its kind and what came of it.
+fn run(seed: u64, number: u64) -> (usize, calls::Compared) {
+    let mut random = Random::new(Random::new(seed).bits() ^ number.wrapping_mul(0xA076_1D64_78BD_642F));
+    let kind = random.below(KINDS.len());
+    (kind, calls::case(kind, &mut random))
+}
+
+/// Frames of the greatest number of pixels, of three shapes.
+fn greatest_frames(seed: u64, tally: &mut Tally) -> Result<(), String> {
+    for (w, h) in [(1_024, 1_024), (4_096, 256), (256, 4_096)] {
+        let answers = calls::greatest(w, h, &mut Random::new(seed + w as u64))?;
+        tally.add(3, &answers);
+    }
+    Ok(())
+}
+
+struct Arguments {
+    seed: u64,
+    cases: u64,
+    case: Option<u64>,
+}
+
+fn arguments() -> Option<Arguments> {
+    let mut arguments = Arguments { seed: SEED, cases: CASES, case: None };
+    let mut words = env::args().skip(1);
+    while let Some(word) = words.next() {
+        let mut number = || words.next()?.parse().ok();
+        match word.as_str() {
+            "--long" => arguments.cases = LONG,
+            "--cases" => arguments.cases = number()?,
+            "--seed" => arguments.seed = number()?,
+            "--case" => arguments.case = Some(number()?),
+            _ => return None,
+        }
+    }
+    Some(arguments)
+}
+
+fn main() -> ExitCode {
+    let Some(Arguments { seed, cases, case }) = arguments() else {
+        eprintln!("usage: mlhe_differential [--long | --cases N] [--seed S] [--case K]");
+        return ExitCode::from(2);
+    };
+    let start = Instant::now();
+    let numbers = case.map_or(0..cases, |number| number..number + 1);
+    let mut tally = Tally::default();
+    for number in numbers.clone() {
+        let (kind, compared) = run(seed, number);
+        match compared {
+            Ok(answers) => tally.add(kind, &answers),
+            Err(what) => {
+                println!("DIFFERENT: {}: {what}; again with --case {number} --seed {seed}", KINDS[kind]);
+                return ExitCode::FAILURE;
+            }
+        }
+        if (number + 1) % 100_000 == 0 {
+            println!("{} cases agree", number + 1);
+        }
+    }
+    if case.is_none() {
+        if let Err(what) = greatest_frames(seed, &mut tally) {
+            println!("DIFFERENT: a frame of the greatest number of pixels: {what}");
+            return ExitCode::FAILURE;
+        }
+    }
+    tally.print();
+    let seconds = start.elapsed().as_secs_f64();
+    println!("{} cases with {} calls agree, seed {seed}, {seconds:.1} s", numbers.end - numbers.start, tally.calls);
+    if case.is_none() && cases >= CASES && !tally.saw_all() {
+        println!("some refusal or some kind of accepted call never came up");
+        return ExitCode::FAILURE;
+    }
+    ExitCode::SUCCESS
+}
