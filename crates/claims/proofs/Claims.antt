@@ -44,7 +44,8 @@ use Rattle.netpbm.specs.Writing as writing
 use Rattle.netpbm.proofs.Frames.{accepted-iff}
 use Rattle.netpbm.proofs.Writing.{wrote-nothing, wrote-size, wrote-frame, wrote-beyond}
 use Rattle.passlists.specs.Outcomes.{Outcome}
-use Rattle.claims.specs.Claims.{RefusedAsListed, StatusAsListed, WrittenAsListed, Demand1, Demand2, Shapes, Coloured, Demand3, Demand3Holds}
+use Rattle.claims.specs.Claims.{RefusedAsListed, StatusAsListed, WrittenAsListed, Demand1, Demand2, Shapes}
+use Rattle.claims.specs.Claims.{Coloured, Demand3, Demand3Holds}
 
 -- ## Answers by number
 
@@ -104,7 +105,8 @@ module _ {w h : ℕ} {t : Settings} {frame plane marks queue output plane' marks
   enhance-unchanged : (k : ℕ) → r ≡ Refused k
       → (plane' ≡ plane) × ((marks' ≡ marks) × ((queue' ≡ queue) × (output' ≡ output)))
   enhance-unchanged k e =
-      let number = refused-number (enhance.refusalOf w h t frame plane marks queue output) sum k (sym (O .answer) ∙ e) in (
+      let number = refused-number (enhance.refusalOf w h t frame plane marks queue output) sum k
+      (sym (O .answer) ∙ e) in (
         O .plane-is ∙ ap (λ (x : ℕ). planeAfter x plane (chainOf w h t frame .plane)) (number .1),
         O .refused (number .0) (number .1),
       )
@@ -251,7 +253,8 @@ module _ {w h : ℕ} {frame lent first : List ℕ} (I : IntensityOutcome w h fra
       → RecolourOutcome w h frame last output r output' → (r ≡ status.Done) × Coloured w h frame last output'
   recolours {last} {output} size room O =
       let fine = ap (intensityRefusal w h (length frame)) (size ∙ same-length) ∙ shape in
-      let done = O .answer ∙ ap colours.answered (recolour-accepts w h (length frame) (length last) (length output) fine room) in
+      let accepts = recolour-accepts w h (length frame) (length last) (length output) fine room in
+      let done = O .answer ∙ ap colours.answered accepts in
       (done, coloured (O .written done))
 
   -- an accepted enhancement
@@ -277,7 +280,8 @@ pub demand-3 : Demand3Holds
 demand-3 w h frame lent first last calls answers I S =
     let model = sequence-is S in
     let last-is : chain w h (start first) calls .plane ≡ last = ap (λ (s : State). s .plane) model in
-    let shapes : Shapes w first last = subst (Shapes w first) last-is (fine-shapes (chain-fine w h (start first) calls)) in
+    let kept = fine-shapes (chain-fine w h (start first) calls) in
+    let shapes : Shapes w first last = subst (Shapes w first) last-is kept in
     record {
       first-is = first-filled I;
       answers-are = sym (ap (λ (s : State). s .answers) model);

@@ -7,7 +7,8 @@ use Rattle.planes.specs.Neighbours.{four, linked, component, first}
 use Rattle.tones.specs.Tones.{plainTone, clipped, limitedTone, tone, kept}
 use Rattle.colours.specs.Frames.{third, pixelIntensity, intensity, greatestChannel, newChannel, recolour}
 use Rattle.model.specs.Passes.{inside, values, changes, retone, newTone, passed, passCount}
-use Rattle.model.specs.Calls.{planeRefusal, roomRefusal, areaRefusal, ruleRefusal, numbersRefusal, lentRefusal, passRefusal, call, chain}
+use Rattle.model.specs.Calls.{planeRefusal, roomRefusal, areaRefusal, ruleRefusal, numbersRefusal, lentRefusal}
+use Rattle.model.specs.Calls.{passRefusal, call, chain}
 use Rattle.model.specs.Enhancement.{section, level, levels, passes, callOf, enhanced}
 use Rattle.claims.specs.Examples.{After, Enhancing, Starred}
 

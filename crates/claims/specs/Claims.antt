@@ -82,7 +82,8 @@ pub record Demand1 : Type 0 where
       → RecolourOutcome w h frame plane output r output'
       → StatusAsListed (recolourRefusal w h (length frame) (length plane) (length output)) r
       × ((k : ℕ) → r ≡ status.Refused k → output' ≡ output)
-  pub of-enhance : {w h : ℕ} {t : Settings} {frame plane marks queue output plane' marks' queue' output' : List ℕ} {r : Answer}
+  pub of-enhance : {w h : ℕ} {t : Settings} {frame plane marks queue output plane' marks' queue' output' : List ℕ}
+      {r : Answer}
       → EnhanceOutcome w h t frame plane marks queue output r plane' marks' queue' output'
       → RefusedAsListed (enhance.refusalOf w h t frame plane marks queue output) r
       × ((k : ℕ) → r ≡ Refused k

@@ -1,5 +1,5 @@
--- What an accepted enhancement has, its outcome by the number of its refusal, and that the recursion ends as the list of
--- passes level by level, each of which is accepted. Assumes nothing.
+-- What an accepted enhancement has, its outcome by the number of its refusal, and that the recursion ends as the list
+-- of passes level by level, each of which is accepted. Assumes nothing.
 use Prim.Native.Nat.{ℕ, zero, suc, _+_, _-_, _*_, _^_, _≤_, _<_}
 use mathlib.Core.Path.{_≡_, refl, sym, ap, ap₂, _∙_}
 use mathlib.Core.Bool.{Bool, true, false, _||_}
@@ -24,14 +24,16 @@ use Rattle.colours.proofs.Calls.{intensity-accepted, recolour-accepts}
 use Rattle.model.specs.declared.Pass.{Pass}
 use Rattle.model.specs.declared.Answer.{Answer}
 use Rattle.model.specs.declared.Answer.the-variants.{Refused, Done}
-use Rattle.model.specs.Calls.{planeRefusal, roomRefusal, areaRefusal, ruleRefusal, numbersRefusal, lentRefusal, Lent, passRefusal, answered, planeAfter, total}
+use Rattle.model.specs.Calls.{planeRefusal, roomRefusal, areaRefusal, ruleRefusal, numbersRefusal, lentRefusal, Lent}
+use Rattle.model.specs.Calls.{passRefusal, answered, planeAfter, total}
 use Rattle.model.specs.Runs.{All, none, more}
 use Rattle.model.specs.Enhancement.{section, level, levels, passes, callOf, enhanced}
 use Rattle.model.proofs.Recursion.{all-append}
 use Rattle.model.proofs.Enhancement.{enhanced-recursion}
 use Rattle.enhance.specs.declared.Settings.{Settings}
 use Rattle.enhance.specs.Recursion.{Ready, Run}
-use Rattle.enhance.specs.Calls.{settingsRefusal, memoryRefusal, enhanceRefusal, chainOf, Enhanced, refusalOf, EnhanceOutcome}
+use Rattle.enhance.specs.Calls.{settingsRefusal, memoryRefusal, enhanceRefusal, chainOf, Enhanced, refusalOf}
+use Rattle.enhance.specs.Calls.{EnhanceOutcome}
 
 -- ## What is accepted
 

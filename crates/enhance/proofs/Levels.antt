@@ -61,7 +61,8 @@ module _ {last a b d k : ℕ} (W : Wide last a b (suc d) k) where
   }
 
 -- the tests of `deeper`
-pub deeper-yes : {a b last : ℕ} (l : ℕ) → a ≤ b → last ≤ 7 → ((k : ℕ) → k ≤ 8 → (b - a) + 1 ≡ 2 ^ k → l ≡ 8 - k) → l < last → Deeper a b last true
+pub deeper-yes : {a b last : ℕ} (l : ℕ) → a ≤ b → last ≤ 7
+    → ((k : ℕ) → k ≤ 8 → (b - a) + 1 ≡ 2 ^ k → l ≡ 8 - k) → l < last → Deeper a b last true
 deeper-yes {a} {b} {last} l ab small at-level h = record {
   some = λ _. go (b - a) refl;
   yes = λ _ d k W. omega (arith, at-level (d + k) (W .few) (omega (arith, W .width)), W .few, W .lowest);
@@ -72,7 +73,8 @@ deeper-yes {a} {b} {last} l ab small at-level h = record {
     go zero e = let z : l ≡ 8 - 0 = at-level 0 (omega arith) (omega arith) in absurd (omega arith)
     go (suc x) e = omega arith
 
-pub deeper-no : {a b last : ℕ} (l : ℕ) → a ≤ b → ((k : ℕ) → k ≤ 8 → (b - a) + 1 ≡ 2 ^ k → l ≡ 8 - k) → last ≤ l → Deeper a b last false
+pub deeper-no : {a b last : ℕ} (l : ℕ) → a ≤ b
+    → ((k : ℕ) → k ≤ 8 → (b - a) + 1 ≡ 2 ^ k → l ≡ 8 - k) → last ≤ l → Deeper a b last false
 deeper-no l ab at-level h = record {
   some = λ e. absurd (false≢true e);
   yes = λ e. absurd (false≢true e);
@@ -241,4 +243,7 @@ module _ (w h : ℕ) (t : Settings) (u : Next) {plane marks₀ marks queue plane
           record { width = omega (arith, ap (2 ^_) s); few = omega arith; lowest = omega arith } in
           let q = H .model m (7 - m) W in
           let xs = deep (7 - m) (t .area) (t .rule) m 0 ++ deep (7 - m) (t .area) (t .rule) m (0 + 2 ^ (m + (7 - m))) in
-          rw e (q .0 ∙ ap (run (four w) xs) (T .plane-is), ap₂ _+_ (T .count-is) (q .1 ∙ ap (runCount (four w) xs) (T .plane-is)))
+          rw e (
+            q .0 ∙ ap (run (four w) xs) (T .plane-is),
+            ap₂ _+_ (T .count-is) (q .1 ∙ ap (runCount (four w) xs) (T .plane-is)),
+          )

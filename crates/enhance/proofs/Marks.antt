@@ -1,5 +1,5 @@
--- Numbers in the marks: what a section's treatment leaves its halves, and what the halves leave. The parts of the section
--- that get the halves' numbers are whole components of the halves, and all but inert ones. Assumes nothing.
+-- Numbers in the marks: what a section's treatment leaves its halves, and what the halves leave. The parts of the
+-- section that get the halves' numbers are whole components of the halves, and all but inert ones. Assumes nothing.
 use Prim.Native.Nat.{ℕ, zero, suc, _+_, _-_, _*_, _/_, _^_, _≤_, _<_}
 use mathlib.Core.Path.{_≡_, refl, sym, ap, ap₂, subst, _∙_}
 use mathlib.Core.Logic.{_⊎_, inl, inr}
@@ -128,7 +128,8 @@ module _ (near : Near) (symm : (i j : ℕ) → near i j ≡ near j i) (s t : Pas
     (marks-are : (p : ℕ) → p < n → at marks' p ≡ cond (eqb (at marks p) code)
     (cond (inert s (values near s plane p)) 0 (number u (at (passed near s plane) p))) (at marks p))
     (fresh : (p : ℕ) → p < n → at marks p ≡ code' → ⊥)
-    (picks : (v : ℕ) → within s v ≡ true → (number u v ≡ code' → within t v ≡ true) × (within t v ≡ true → number u v ≡ code'))
+    (picks : (v : ℕ) → within s v ≡ true
+    → (number u v ≡ code' → within t v ≡ true) × (within t v ≡ true → number u v ≡ code'))
   where
     -- the plane after the treatment
     abbrev q : List ℕ
@@ -191,8 +192,8 @@ module _ (near : Near) (symm : (i j : ℕ) → near i j ≡ near j i) (s t : Pas
 
 -- ## A treated section
 
-module _ (w : ℕ) {n code r : ℕ} {s : Pass} {u : Next} {plane marks queue plane' marks' queue' : List ℕ} (ab : s .a ≤ s .b)
-    (whole : length plane ≡ n) (T : Treated (four w) n code s u plane marks queue plane' marks' queue' r) where
+module _ (w : ℕ) {n code r : ℕ} {s : Pass} {u : Next} {plane marks queue plane' marks' queue' : List ℕ}
+    (ab : s .a ≤ s .b) (whole : length plane ≡ n) (T : Treated (four w) n code s u plane marks queue plane' marks' queue' r) where
   new-at : (p : ℕ) → p < n → at plane' p ≡ newTone (four w) s plane p
   new-at p l =
       ap (λ (q : List ℕ). at q p) (T .plane-is) ∙ passed-at (four w) (four-sym w) s plane p (omega arith)
@@ -212,7 +213,8 @@ module _ (w : ℕ) {n code r : ℕ} {s : Pass} {u : Next} {plane marks queue pla
       ∙ ap (λ (x : Bool). cond x (cond (inert s (values (four w) s plane p)) 0 (number u (at plane' p))) (at marks p))
       (ne-eqb (at marks p) code f)
 
-  mark-next : (p : ℕ) → p < n → at marks p ≡ code → (at marks' p ≡ 0) ⊎ ((at marks' p ≡ u .low) ⊎ (at marks' p ≡ u .high))
+  mark-next : (p : ℕ) → p < n → at marks p ≡ code
+      → (at marks' p ≡ 0) ⊎ ((at marks' p ≡ u .low) ⊎ (at marks' p ≡ u .high))
   mark-next p l e = go (inert s (values (four w) s plane p)) (leb (at plane' p) (u .mid)) refl refl
     where
       by : (x y : Bool) → inert s (values (four w) s plane p) ≡ x → leb (at plane' p) (u .mid) ≡ y
@@ -248,7 +250,8 @@ module _ (w : ℕ) {n code r : ℕ} {s : Pass} {u : Next} {plane marks queue pla
   pub apart-node : {span : ℕ} {plane″ marks″ : List ℕ} → 1 ≤ code → 3 ≤ span
       → ((p : ℕ) → p < n → (at marks p ≡ code) ⊎ Away code span (at marks p))
       → (u .low ≡ code + 1) × (u .high ≡ code + 1 + (span - 1) / 2)
-      → Apart n (s .a) (s .b) code span plane' marks' plane″ marks″ → Apart n (s .a) (s .b) code span plane marks plane″ marks″
+      → Apart n (s .a) (s .b) code span plane' marks' plane″ marks″
+      → Apart n (s .a) (s .b) code span plane marks plane″ marks″
   apart-node {span} real many are z B = record {
     inside = λ p l i j. let k = in-stays p l (i, j) in B .inside p l (k .0) (k .1);
     outside = λ p l o. let e = out-stays p l o in B .outside p l (subst (Outside (s .a) (s .b)) (sym e) o) ∙ e;
@@ -267,7 +270,8 @@ module _ (w : ℕ) {n code r : ℕ} {s : Pass} {u : Next} {plane marks queue pla
   }
 
   -- the halves of a treated section are due: t has the same rule, and no smaller least area
-  module _ {span d last : ℕ} (N : Numbered last (s .a) (s .b) (suc d) code span) (K : Coded (four w) n code s plane marks)
+  module _ {span d last : ℕ} (N : Numbered last (s .a) (s .b) (suc d) code span)
+      (K : Coded (four w) n code s plane marks)
       (are : (p : ℕ) → p < n → (at marks p ≡ code) ⊎ Away code span (at marks p))
       (middle : u .mid ≡ (s .a + s .b) / 2) (z : (u .low ≡ code + 1) × (u .high ≡ code + 1 + (span - 1) / 2))
       (t : Settings) (area : s .area ≤ t .area) (rule : t .rule ≡ s .rule) where
@@ -341,10 +345,12 @@ module _ (w : ℕ) {n code r : ℕ} {s : Pass} {u : Next} {plane marks queue pla
       d = d;
       numbered = subst (λ (x : ℕ). Numbered x (s .a) (s .b) (suc d) code span) same N;
       low = subst (λ (m : ℕ). Coded (four w) m (code + 1) (passOn t (s .a) mid) plane' marks') size
-          (coded-part (passOn t (s .a) mid) (record { low = omega arith; high = omega (arith, ab); area = area; rule = rule })
+          (coded-part (passOn t (s .a) mid)
+          (record { low = omega arith; high = omega (arith, ab); area = area; rule = rule })
           (code + 1) (omega arith) (fresh (code + 1) (omega arith) (omega (arith, twice N, half-some N))) low-picks);
       high = subst (λ (m : ℕ). Coded (four w) m (code + 1 + (span - 1) / 2) (passOn t (mid + 1) (s .b)) plane' marks') size
-          (coded-part (passOn t (mid + 1) (s .b)) (record { low = omega (arith, ab); high = omega arith; area = area; rule = rule })
+          (coded-part (passOn t (mid + 1) (s .b))
+          (record { low = omega (arith, ab); high = omega arith; area = area; rule = rule })
           (code + 1 + (span - 1) / 2) (omega arith)
           (fresh (code + 1 + (span - 1) / 2) (omega arith) (omega (arith, twice N, half-some N))) high-picks);
       marks-are = λ p l. marks-after p (omega arith);
@@ -354,7 +360,8 @@ module _ (w : ℕ) {n code r : ℕ} {s : Pass} {u : Next} {plane marks queue pla
 
 -- planes that are alike on the section, and marks that agree where they have the code
 coded-alike : {near : Near} {n code : ℕ} {s : Pass} {plane plane' marks marks' : List ℕ} → length plane ≡ n
-    → Alike s plane plane' → ((p : ℕ) → p < n → (at marks p ≡ code → at marks' p ≡ code) × (at marks' p ≡ code → at marks p ≡ code))
+    → Alike s plane plane'
+    → ((p : ℕ) → p < n → (at marks p ≡ code → at marks' p ≡ code) × (at marks' p ≡ code → at marks p ≡ code))
     → Coded near n code s plane marks → Coded near n code s plane' marks'
 coded-alike {near} {n} {code} {s} {plane} {plane'} whole A same K = record {
   coded = λ p h e. A .section p (omega arith) ∙ K .coded p h (same p h .1 e);
@@ -365,7 +372,8 @@ coded-alike {near} {n} {code} {s} {plane} {plane'} whole A same K = record {
       ap (inert s) (values-alike near s plane plane' A p (omega arith) d) ∙ K .others p h d (λ c. f (same p h .0 c));
 }
 
-module _ {w h a b code span : ℕ} {t : Settings} {plane marks : List ℕ} (H : Halves w h a b code span t plane marks) where
+module _ {w h a b code span : ℕ} {t : Settings} {plane marks : List ℕ}
+    (H : Halves w h a b code span t plane marks) where
   abbrev half : ℕ
   half = (span - 1) / 2
 
@@ -398,9 +406,13 @@ module _ {w h a b code span : ℕ} {t : Settings} {plane marks : List ℕ} (H : 
     -- its number and those below it are gone
     after-low : (p : ℕ) → p < w * h → (at marks₁ p ≡ code + 1 + half) ⊎ Away (code + 1 + half) half (at marks₁ p)
     after-low p l = elim (H .marks-are p l) [
-      | inl (inl e) ↦ inr (inl (omega (arith, A .cleared p l (omega (arith, e)) (omega (arith, e, half-some (H .numbered))))))
+      | inl (inl e) ↦
+          let z = A .cleared p l (omega (arith, e)) (omega (arith, e, half-some (H .numbered))) in
+          inr (inl (omega (arith, z)))
       | inl (inr e) ↦ inl (A .stays p l (inr (omega (arith, e))) ∙ e)
-      | inr e ↦ inr (subst (Away (code + 1 + half) half) (sym (A .stays p l (low-away (at marks p) e))) (high-away (at marks p) e))
+      | inr e ↦
+          let same = A .stays p l (low-away (at marks p) e) in
+          inr (subst (Away (code + 1 + half) half) (sym same) (high-away (at marks p) e))
     ]
 
     same-high : (p : ℕ) → p < w * h
@@ -439,7 +451,8 @@ module _ {w h a b code span : ℕ} {t : Settings} {plane marks : List ℕ} (H : 
     }
 
     -- and the upper half
-    module _ {plane₂ marks₂ : List ℕ} (B : Apart (w * h) (middle + 1) b (code + 1 + half) half plane₁ marks₁ plane₂ marks₂) where
+    module _ {plane₂ marks₂ : List ℕ}
+        (B : Apart (w * h) (middle + 1) b (code + 1 + half) half plane₁ marks₁ plane₂ marks₂) where
       order : a < b
       order = halves-order (H .numbered)
 
@@ -455,9 +468,11 @@ module _ {w h a b code span : ℕ} {t : Settings} {plane marks : List ℕ} (H : 
               (omega (arith, x, order), x .1)
         ];
         outside = λ p l o.
-            let low : Outside a middle (at plane p) = elim o [ inl x ↦ inl x | inr x ↦ inr (omega (arith, x, order)) ] in
+            let low : Outside a middle (at plane p) =
+            elim o [ inl x ↦ inl x | inr x ↦ inr (omega (arith, x, order)) ] in
             let e = A .outside p l low in
-            let high : Outside (middle + 1) b (at plane p) = elim o [ inl x ↦ inl (omega (arith, x, order)) | inr x ↦ inr x ] in
+            let high : Outside (middle + 1) b (at plane p) =
+            elim o [ inl x ↦ inl (omega (arith, x, order)) | inr x ↦ inr x ] in
             B .outside p l (subst (Outside (middle + 1) b) (sym e) high) ∙ e;
         cleared = λ p l i j. elim (H .marks-are p l) [
           | inl (inl e) ↦
@@ -513,7 +528,8 @@ root-marks span {s = s} {plane} {marks} {marks'} M p l = elim (decide (within s 
 
 -- ## The halves of a section that was due
 
-module _ {w h a b code span r : ℕ} {s : Pass} {t : Settings} {u : Next} {plane marks queue plane' marks' queue' : List ℕ}
+module _ {w h a b code span r : ℕ} {s : Pass} {t : Settings} {u : Next}
+    {plane marks queue plane' marks' queue' : List ℕ}
     (low : s .a ≡ a) (high : s .b ≡ b) (whole : length plane ≡ w * h)
     (T : Treated (four w) (w * h) code s u plane marks queue plane' marks' queue' r)
     (K : Coded (four w) (w * h) code s plane marks)

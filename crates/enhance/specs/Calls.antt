@@ -1,4 +1,5 @@
--- The call `enhance`: its refusals in order, its answer, and what it does to each lent slice. n = w × h. Definitions only.
+-- The call `enhance`: its refusals in order, its answer, and what it does to each lent slice. n = w × h.
+-- Definitions only.
 --
 --   enhanceRefusal   the number of the first refusal that applies, of 1, 2, 3, 4, 14, 9, 6, 7, 8; 0 where none does
 --   chainOf          the chain of passes that an enhancement stands for, from the frame's intensity
@@ -36,7 +37,7 @@ enhanceRefusal w h frame plane marks queue output t =
 
 -- ## What an enhancement does
 
--- the list of passes level by level, lower section first, level 0 with area 1, run as a chain from the frame's intensity
+-- the list of passes level by level, lower section first, level 0 with area 1, run as a chain from the intensity
 abbrev pub chainOf : ℕ → ℕ → Settings → List ℕ → State
 chainOf w h t frame = enhanced w h (intensity frame) (t .last) (t .area) (t .rule)
 

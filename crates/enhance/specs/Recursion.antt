@@ -1,6 +1,6 @@
--- The recursion over sections with numbers in the marks. The sections of a branch have an interval of numbers: a section's
--- own first, then those of its lower half, then those of its upper half. A pixel's mark is the number of the section that
--- is due for it, and 0 where none is: those of an inert component are not entered again. Definitions only.
+-- The recursion over sections with numbers in the marks. The sections of a branch have an interval of numbers: a
+-- section's own first, then those of its lower half, then those of its upper half. A pixel's mark is the number of the
+-- section that is due for it, and 0 where none is: those of an inert component are not entered again. Definitions only.
 --
 --   Wide       a section's width is a power of two, and so is the last level's
 --   Ready      a plane with room for it, and settings that are not refused

@@ -1,11 +1,13 @@
--- `enhance::equalise` and `enhance::split` meet their contracts. The measure is the width of the section, twice, and one
--- more for `equalise`. What each call leaves of plane and marks is what the next requires. Assumes nothing.
+-- `enhance::equalise` and `enhance::split` meet their contracts. The measure is the width of the section, twice, and
+-- one more for `equalise`. What each call leaves of plane and marks is what the next requires. Assumes nothing.
 use mathlib.Core.Path.{refl}
 use native.Mathlib.Nat.{le-refl}
 use native.Mathlib.Omega.{arith}
 use borrow.Author.Needs.{needs}
 use Rattle.enhance.proofs.Levels.{still-ready, small, leaf, node, halves}
-use Rattle.enhance.proofs.Marks.{numbered-order, numbered-some, numbered-many, halves-order, halves-room, next-not, due-section, apart-leaf, apart-node, next-halves, due-low, due-high, apart-both}
+use Rattle.enhance.proofs.Marks.{numbered-order, numbered-some, numbered-many, halves-order, halves-room}
+use Rattle.enhance.proofs.Marks.{next-not, due-section, apart-leaf, apart-node, next-halves, due-low, due-high}
+use Rattle.enhance.proofs.Marks.{apart-both}
 use Prim.Native.Nat.{ℕ, _+_, _-_, _*_, _<_}
 use borrow.Fn.Kinds.{In}
 use borrow.Fn.PlainCycle.{Measures, is, falls, and}
@@ -133,7 +135,11 @@ equalise-split-requires t c κs =
     let g = next-halves refl refl whole T (due .coded) (due .marks-are) (X .middle) (X .halves e) (le-refl _) refl
     (due .d) deep N in (
       omega (arith, s .pre .0, D .some e),
-      (still-ready ready (omega (arith, v .treat-section)) (omega (arith, v .treat-section)) (omega (arith, v .treat-section)), g),
+      (
+        still-ready ready (omega (arith, v .treat-section)) (omega (arith, v .treat-section))
+            (omega (arith, v .treat-section)),
+        g,
+      ),
     )
 
 equalise-add-result : (t : ℕ) → equalise-lts.Need-add-result (
@@ -147,7 +153,8 @@ equalise-add-result : (t : ℕ) → equalise-lts.Need-add-result (
   split.Post,
 ) (equalise-at t) equalise.Post
 equalise-add-result t c =
-    let v = c .before .before .before .before .before .before .before .before .before .before .before .before .before .before .before .before .before in
+    let u = c .before .before .before .before .before .before .before .before .before in
+    let v = u .before .before .before .before .before .before .before .before in
     let s = v .before .before .before .before .before .before .before .before .before in
     let ready = s .pre .1 .0 in
     let due = s .pre .1 .1 in
@@ -209,7 +216,8 @@ equalise-returns : (t : ℕ) → equalise-lts.Need-returns (
   split.Post,
 ) (equalise-at t) equalise.Post
 equalise-returns t c =
-    let v = c .before .before .before .before .before .before .before .before .before .before .before .before .before .before .before .before .before in
+    let u = c .before .before .before .before .before .before .before .before .before in
+    let v = u .before .before .before .before .before .before .before .before in
     let s = v .before .before .before .before .before .before .before .before .before in
     let ready = s .pre .1 .0 in
     let due = s .pre .1 .1 in
@@ -223,7 +231,8 @@ equalise-returns t c =
     let e = c .before .before .before .before .before .before .before .before .before .before .if1 .taken in
     let H = c .before .before .before .before .before .before .split .ensures in
     let many = numbered-many (due .d) N (D .yes e (due .d) (N .k) (N .wide)) in
-    node (args .w) (args .h) (args .a) (args .b) (args .code) (args .span) (args .settings) _ (numbered-order N) few whole T D e H
+    node (args .w) (args .h) (args .a) (args .b) (args .code) (args .span) (args .settings) _ (numbered-order N) few whole
+    T D e H
     (apart-node (args .w) (numbered-order N) whole T (N .real) many (due .marks-are) (X .halves e) (H .apart))
 
 equalise-same-length-4 : (t : ℕ) → equalise-lts.Need-same-length-4 (
@@ -285,7 +294,8 @@ equalise-returns-2 t c =
     let whole = ready .lent .whole in
     let args = s .args in
     let e = c .if1 .left in
-    leaf (args .w) (args .h) (args .a) (args .b) (args .code) (args .span) (args .settings) _ (numbered-order N) few whole T D e
+    leaf (args .w) (args .h) (args .a) (args .b) (args .code) (args .span) (args .settings) _ (numbered-order N) few whole
+    T D e
     (apart-leaf (args .w) (numbered-order N) whole T (N .real) (numbered-some N) (due .marks-are) (X .none e))
 
 split-add-mid :
@@ -303,7 +313,8 @@ split-sub-half t c = numbered-some (c .before .before .before .pre .1 .1 .number
 split-add-equalise :
     (t : ℕ) →
     split-lts.Need-add-equalise (equalise-below t, equalise.Post) (split-at t) split.Post
-split-add-equalise t c = omega (arith, halves-room (c .before .before .before .before .before .before .pre .1 .1 .numbered))
+split-add-equalise t c =
+    omega (arith, halves-room (c .before .before .before .before .before .before .pre .1 .1 .numbered))
 
 split-equalise-requires : (t : ℕ) → split-lts.Need-equalise-requires (
   equalise-below t,
@@ -317,17 +328,23 @@ split-equalise-requires t c κs =
 split-add-equalise-2 :
     (t : ℕ) →
     split-lts.Need-add-equalise-2 (equalise-below t, equalise.Post) (split-at t) split.Post
-split-add-equalise-2 t c = omega (arith, halves-order (c .before .before .before .before .before .before .before .before .before .before .before .before .before .before .before .before .pre .1 .1 .numbered))
+split-add-equalise-2 t c =
+    let u = c .before .before .before .before .before .before .before .before in
+    omega (arith, halves-order (u .before .before .before .before .before .before .before .before .pre .1 .1 .numbered))
 
 split-add-equalise-3 :
     (t : ℕ) →
     split-lts.Need-add-equalise-3 (equalise-below t, equalise.Post) (split-at t) split.Post
-split-add-equalise-3 t c = omega (arith, halves-room (c .before .before .before .before .before .before .before .before .before .before .before .before .before .before .before .before .pre .1 .1 .numbered))
+split-add-equalise-3 t c =
+    let u = c .before .before .before .before .before .before .before .before in
+    omega (arith, halves-room (u .before .before .before .before .before .before .before .before .pre .1 .1 .numbered))
 
 split-add-equalise-4 :
     (t : ℕ) →
     split-lts.Need-add-equalise-4 (equalise-below t, equalise.Post) (split-at t) split.Post
-split-add-equalise-4 t c = omega (arith, halves-room (c .before .before .before .before .before .before .before .before .before .before .before .before .before .before .before .before .pre .1 .1 .numbered))
+split-add-equalise-4 t c =
+    let u = c .before .before .before .before .before .before .before .before in
+    omega (arith, halves-room (u .before .before .before .before .before .before .before .before .pre .1 .1 .numbered))
 
 split-equalise-requires-2 : (t : ℕ) → split-lts.Need-equalise-requires-2 (
   equalise-below t,
@@ -347,7 +364,13 @@ split-equalise-requires-2 t c κs =
 
 split-add-result :
     (t : ℕ) → split-lts.Need-add-result (equalise-below t, equalise.Post) (split-at t) split.Post
-split-add-result t c = omega (arith, c .before .before .before .before .before .before .before .before .before .before .before .before .before .before .before .before .equalise .ensures .bound, c .before .before .before .before .before .before .equalise2 .ensures .bound)
+split-add-result t c =
+    omega (
+      arith,
+      c .before .before .before .before .before .before .before .before .before .before
+          .before .before .before .before .before .before .equalise .ensures .bound,
+      c .before .before .before .before .before .before .equalise2 .ensures .bound,
+    )
 
 split-same-length :
     (t : ℕ) → split-lts.Need-same-length (equalise-below t, equalise.Post) (split-at t) split.Post
@@ -366,7 +389,8 @@ split-same-length-3 t c = search needs
 split-returns :
     (t : ℕ) → split-lts.Need-returns (equalise-below t, equalise.Post) (split-at t) split.Post
 split-returns t c =
-    let v = c .before .before .before .before .before .before .before .before .before .before .before .before .before .before .before .before in
+    let u = c .before .before .before .before .before .before .before .before in
+    let v = u .before .before .before .before .before .before .before .before in
     let s = v .before .before .before .before .before .before .before in
     let low = v .equalise .ensures in
     let high = c .before .before .before .before .before .before .equalise2 .ensures in

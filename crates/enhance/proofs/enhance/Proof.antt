@@ -13,7 +13,9 @@ returns : tie.Need-returns
 returns c = refused-by _ (c .before .refusal-of .ensures) (c .if1 .taken)
 
 enhance-frame-requires : tie.Need-enhance-frame-requires
-enhance-frame-requires c κs = sym (c .before .before .before .before .before .refusal-of .ensures) ∙ c .before .before .before .before .if1 .left
+enhance-frame-requires c κs =
+    let t = c .before .before .before .before in
+    sym (t .before .refusal-of .ensures) ∙ t .if1 .left
 
 same-length : tie.Need-same-length
 same-length c = search needs
@@ -29,7 +31,9 @@ same-length-4 c = search needs
 
 returns-2 : tie.Need-returns-2
 returns-2 c =
-    done-by (sym (c .before .before .before .before .before .before .before .before .before .before .before .before .before .before .refusal-of .ensures) ∙ c .before .before .before .before .before .before .before .before .before .before .before .before .before .if1 .left) (c .before .before .before .before .before .before .before .before .enhance-frame .ensures)
+    let e = c .before .before .before .before .before .before .before .before in
+    let t = e .before .before .before .before .before in
+    done-by (sym (t .before .refusal-of .ensures) ∙ t .if1 .left) (e .enhance-frame .ensures)
 
 pub enhance-spec : {M : Type 1} → statement M
 enhance-spec =

@@ -14,7 +14,8 @@ run-levels-requires : tie.Need-run-levels-requires
 run-levels-requires c κs =
     let s = c .before .before .before .before .before .before .before .before .before .before .before .before in
     let F = fine _ _ _ _ _ _ _ _ (s .pre) in
-    still-ready (F .ready) (omega (arith, c .before .before .before .before .before .intensity)) (omega arith) (omega arith)
+    let first = c .before .before .before .before .before .intensity in
+    still-ready (F .ready) (omega (arith, first)) (omega arith) (omega arith)
 
 recolour-requires : tie.Need-recolour-requires
 recolour-requires c κs = search needs
@@ -33,9 +34,11 @@ same-length-4 c = search needs
 
 returns : tie.Need-returns
 returns c =
-    let s = c .before .before .before .before .before .before .before .before .before .before .before .before .before .before .before .before .before .before .before .before .before .before .before .before in
-    let first = c .before .before .before .before .before .before .before .before .before .before .before .before .before .before .before .before .before .intensity in
-    let levels = c .before .before .before .before .before .before .before .before .before .before .before .run-levels in
+    let l = c .before .before .before .before .before .before .before .before .before .before .before in
+    let i = l .before .before .before .before .before .before in
+    let s = i .before .before .before .before .before .before .before in
+    let first = i .intensity in
+    let levels = l .run-levels in
     in-turn (fine _ _ _ _ _ _ _ _ (s .pre)) (omega (arith, first)) (omega (arith, levels)) (first .ensures)
     (levels .ensures) (c .before .before .recolour .ensures)
 

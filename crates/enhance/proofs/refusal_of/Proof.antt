@@ -40,7 +40,8 @@ settings-refusal-requires c κs = search needs
 returns-3 : tie.Need-returns-3
 unfolding enhanceRefusal
 returns-3 c =
-    let shape = sym (c .before .before .before .before .intensity-refusal .ensures) ∙ c .before .before .before .if1 .left in
+    let t = c .before .before .before in
+    let shape = sym (t .before .intensity-refusal .ensures) ∙ t .if1 .left in
     let memory = sym (c .before .before .room-refusal .ensures) ∙ c .before .if2 .left in
     c .settings-refusal .ensures ∙ sym (▷-right _ _ shape ∙ ▷-right _ _ memory)
 

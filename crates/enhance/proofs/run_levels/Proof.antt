@@ -34,9 +34,10 @@ mark-section-requires c κs =
 
 treat-section-requires : tie.Need-treat-section-requires
 treat-section-requires c κs =
-    let s = c .before .before .before .before .before .before .before .before .before .before .before .before .before .before in
-    let M = c .before .before .before .before .before .mark-section .ensures in
-    marked-section (s .pre .lent) (omega arith) M (next-not (c .before .before .before .before .before .before .before .before .next-of .ensures) (omega arith))
+    let m = c .before .before .before .before .before in
+    let s = m .before .before .before .before .before .before .before .before .before in
+    let X = m .before .before .before .next-of .ensures in
+    marked-section (s .pre .lent) (omega arith) (m .mark-section .ensures) (next-not X (omega arith))
 
 split-requires : tie.Need-split-requires
 split-requires c κs =
@@ -61,7 +62,8 @@ split-requires c κs =
 
 add-result : tie.Need-add-result
 add-result c =
-    let v = c .before .before .before .before .before .before .before .before .before .before .before .before .before .before .before .before .before in
+    let u = c .before .before .before .before .before .before .before .before .before in
+    let v = u .before .before .before .before .before .before .before .before in
     let m = v .before .before .before .before .before .before in
     let s = m .before .before .before .before .before .before .before .before .before in
     let few = s .pre .lent .size .few in
@@ -84,7 +86,8 @@ same-length-3 c = search needs
 
 returns : tie.Need-returns
 returns c =
-    let v = c .before .before .before .before .before .before .before .before .before .before .before .before .before .before .before .before .before in
+    let u = c .before .before .before .before .before .before .before .before .before in
+    let v = u .before .before .before .before .before .before .before .before in
     let m = v .before .before .before .before .before .before in
     let s = m .before .before .before .before .before .before .before .before .before in
     let few = s .pre .lent .size .few in
@@ -95,7 +98,8 @@ returns c =
     let span = m .before .before .before .before .before .sections .ensures in
     let e = c .before .before .before .before .before .before .before .before .before .before .if1 .taken in
     let deep = m .before .before .before .before .some .ensures .0 e in
-    root-halves (s .args .w) (s .args .h) (s .args .settings) _ few whole (M .rest) T deep (s .pre .last) (c .before .before .before .before .before .before .split .ensures)
+    root-halves (s .args .w) (s .args .h) (s .args .settings) _ few whole (M .rest) T deep (s .pre .last)
+    (c .before .before .before .before .before .before .split .ensures)
 
 same-length-4 : tie.Need-same-length-4
 same-length-4 c = search needs

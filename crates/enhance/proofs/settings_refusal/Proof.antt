@@ -27,7 +27,8 @@ returns-3 : tie.Need-returns-3
 unfolding settingsRefusal
 returns-3 c =
     let e = c .before .before .area-refusal .ensures in
-    simp (le-ltb _ _ (c .before .before .before .if1 .left)) (c .rule-refusal .ensures ∙ sym (▷-right _ _ (sym e ∙ c .before .if2 .left)))
+    simp (le-ltb _ _ (c .before .before .before .if1 .left))
+    (c .rule-refusal .ensures ∙ sym (▷-right _ _ (sym e ∙ c .before .if2 .left)))
 
 pub settings-refusal-spec : {M : Type 1} → statement M
 settings-refusal-spec =
