@@ -1,0 +1,169 @@
+// One function for each kind of call: it lends what the case names, calls, and prints the line.
+use crate::head::Case;
+use crate::lines;
+use crate::memory;
+use crate::parts;
+use enhance::Settings;
+use model::Answer;
+use model::Pass;
+use tones::Rule;
+
+// Room for marks and queue, and for an output.
+const MEMORY: usize = 320;
+
+const OUTPUT: usize = 3200;
+
+// What every byte of an output is before the call.
+const FILL: u8 = 170;
+
+// The tone rule of a case.
+fn rule_of(case: Case) -> Rule {
+    let first = case.first;
+    let second = case.second;
+    if case.rule == 0 {
+        return Rule::Plain {
+            low: first,
+            high: second,
+        };
+    }
+    Rule::Limited { k: first }
+}
+
+// The pass of a case.
+fn pass_of(case: Case) -> Pass {
+    let rule = rule_of(case);
+    Pass {
+        a: case.a,
+        b: case.b,
+        area: case.area,
+        rule: rule,
+    }
+}
+
+// The settings of a case.
+fn settings_of(case: Case) -> Settings {
+    let rule = rule_of(case);
+    Settings::new(case.last, case.area, rule)
+}
+
+// The end of a line: how many entries of marks and queue had to stay and did not.
+fn end_with_strays(answer: Answer, plane: usize, marks: &[u8], queue: &[u32]) {
+    let from = memory::kept_from(answer, plane);
+    lines::count(memory::strays(marks, queue, from));
+    lines::end();
+}
+
+pub fn intensity(case: Case, frame: &[u8], plane: &mut [u8]) {
+    let status = colours::intensity(frame, case.w, case.h, plane);
+    lines::status(status);
+    lines::bytes(plane);
+    lines::end();
+}
+
+// A pass with lent working memory.
+fn pass_with(case: Case, plane: &mut [u8], marks: &mut [u8], queue: &mut [u32]) {
+    let answer = passes::pass(plane, marks, queue, case.w, case.h, pass_of(case));
+    lines::answer(answer);
+    lines::bytes(plane);
+    end_with_strays(answer, plane.len(), marks, queue);
+}
+
+pub fn pass(case: Case, plane: &mut [u8]) {
+    let mut marks = [0u8; MEMORY];
+    let mut queue = [0u32; MEMORY];
+    memory::fill_marks(&mut marks);
+    memory::fill_queue(&mut queue);
+    pass_with(
+        case,
+        plane,
+        parts::front(&mut marks, case.marks),
+        parts::front_queue(&mut queue, case.queue),
+    );
+}
+
+// A list with lent working memory.
+fn list_with(case: Case, bytes: &[u8], plane: &mut [u8], marks: &mut [u8], queue: &mut [u32]) {
+    let answer = passlists::run_list(bytes, plane, marks, queue, case.w, case.h);
+    lines::answer(answer);
+    lines::bytes(plane);
+    end_with_strays(answer, plane.len(), marks, queue);
+}
+
+pub fn list(case: Case, bytes: &[u8], plane: &mut [u8]) {
+    let mut marks = [0u8; MEMORY];
+    let mut queue = [0u32; MEMORY];
+    memory::fill_marks(&mut marks);
+    memory::fill_queue(&mut queue);
+    list_with(
+        case,
+        bytes,
+        plane,
+        parts::front(&mut marks, case.marks),
+        parts::front_queue(&mut queue, case.queue),
+    );
+}
+
+// Recolouring to a lent output.
+fn recolour_to(case: Case, frame: &[u8], plane: &[u8], output: &mut [u8]) {
+    let status = colours::recolour(frame, case.w, case.h, plane, output);
+    lines::status(status);
+    lines::bytes(output);
+    lines::end();
+}
+
+pub fn recolour(case: Case, frame: &[u8], plane: &[u8]) {
+    let mut output = [FILL; OUTPUT];
+    recolour_to(case, frame, plane, parts::front(&mut output, case.output));
+}
+
+// An enhancement with lent working memory and output.
+fn enhance_with(
+    case: Case,
+    frame: &[u8],
+    plane: &mut [u8],
+    marks: &mut [u8],
+    queue: &mut [u32],
+    output: &mut [u8],
+) {
+    let settings = settings_of(case);
+    let answer = enhance::enhance(frame, case.w, case.h, settings, plane, marks, queue, output);
+    lines::answer(answer);
+    lines::bytes(plane);
+    lines::bytes(output);
+    end_with_strays(answer, plane.len(), marks, queue);
+}
+
+pub fn enhance(case: Case, frame: &[u8], plane: &mut [u8]) {
+    let mut marks = [0u8; MEMORY];
+    let mut queue = [0u32; MEMORY];
+    let mut output = [FILL; OUTPUT];
+    memory::fill_marks(&mut marks);
+    memory::fill_queue(&mut queue);
+    enhance_with(
+        case,
+        frame,
+        plane,
+        parts::front(&mut marks, case.marks),
+        parts::front_queue(&mut queue, case.queue),
+        parts::front(&mut output, case.output),
+    );
+}
+
+pub fn read(case: Case, bytes: &[u8]) {
+    let header = netpbm::read_within(bytes, case.limit);
+    lines::header(header);
+    lines::end();
+}
+
+// Writing to a lent output.
+fn write_to(case: Case, raster: &[u8], output: &mut [u8]) {
+    let written = netpbm::write(raster, case.w, case.h, output);
+    lines::written(written);
+    lines::bytes(output);
+    lines::end();
+}
+
+pub fn write(case: Case, raster: &[u8]) {
+    let mut output = [FILL; OUTPUT];
+    write_to(case, raster, parts::front(&mut output, case.output));
+}
