@@ -26,7 +26,8 @@ pub record Earlier (near : Near) (n code : ℕ) (marks : List ℕ) (low p : ℕ)
   pub below : pixel < n
   pub leads-to : region near n marks code pixel p ≡ true
 
-pub later-low : {near : Near} {n code : ℕ} {marks : List ℕ} {low low′ p : ℕ} → low ≤ low′
+-- it stays one as `low` rises
+later-low : {near : Near} {n code : ℕ} {marks : List ℕ} {low low′ p : ℕ} → low ≤ low′
     → Earlier near n code marks low p → Earlier near n code marks low′ p
 later-low h r = record {
   pixel = r .pixel;

@@ -32,6 +32,7 @@ pub record Marked (s : Pass) (plane marks marks' : List ℕ) (k : ℕ) : Type 0 
   pub drawn : (p : ℕ) → p < k → at marks' p ≡ cond (within s (at plane p)) 1 0
   pub rest : Beyond k marks marks'
 
+-- the next mark of a pixel of value v: `low` up to `mid`, `high` above
 abbrev pub number : Next → ℕ → ℕ
 number t v = cond (leb v (t .mid)) (t .low) (t .high)
 
@@ -40,7 +41,7 @@ pub record Pixels (plane queue : List ℕ) (m : ℕ) : Type 0 where
   pub room : m ≤ length queue
   pub below : (i : ℕ) → i < m → at queue i < length plane
 
--- and have marks
+-- the same, and each of them has a mark
 pub record Listed (marks plane queue : List ℕ) (m : ℕ) : Type 0 where
   pub pixels : Pixels plane queue m
   pub marked : (i : ℕ) → i < m → at queue i < length marks
@@ -57,7 +58,7 @@ pub record Renumbered (t : Next) (plane queue marks marks' : List ℕ) (m : ℕ)
 unfoldable pub oneValue : List ℕ → Bool
 oneValue vs = every (eqb (at vs 0)) vs
 
--- the plain rule keeps a component of one value
+-- the rule is plain and all values are one: the plain rule keeps such a component back
 abbrev pub lone : Rule → List ℕ → Bool
 lone (Plain low high) vs = oneValue vs
 lone (Limited k) vs = false

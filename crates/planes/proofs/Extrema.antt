@@ -161,7 +161,7 @@ module _ (le lower : ℕ → ℕ → Bool) (O : Order le lower) (near : Near) (p
   abbrev Zone : ℕ → Bool
   Zone = linked (flat near p) (length p) i
 
-  -- no pixel next to the zone is above it: so it is where the zone is extreme, and only there
+  -- no pixel next to the zone is above it; `extreme-out` and `extreme-in`: this is so exactly where the zone is extreme
   abbrev Bounded : Type 0
   Bounded = (j k : ℕ) → j < length p → k < length p → Zone j ≡ true → near j k ≡ true → le (at p k) (at p i) ≡ true
 
@@ -250,7 +250,7 @@ module _ (le lower : ℕ → ℕ → Bool) (O : Order le lower) (near : Near) (s
           zx : Z x ≡ true
           zx = held x hx d
 
-          -- k is no lower than x in p, so it is none in q, and lies in the zone after all
+          -- k is no lower than x in p, so no lower in q, where the zone of x is extreme: k lies in it
           again : le (at p j) (at p k) ≡ true → Z k ≡ true
           again l =
               let l′ : le (at p x) (at p k) ≡ true =
