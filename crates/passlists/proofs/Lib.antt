@@ -7,3 +7,5 @@ pub mod Chains
 pub mod Recursion
 pub mod Examples
 pub mod Outcomes
+pub mod Turns
+pub mod Walks

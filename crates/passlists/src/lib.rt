@@ -360,3 +360,23 @@ fn answer(s: Progress) -> Answer
     }
     Answer::Done(s.sum)
 }
+
+// Lent passes over the lent plane, one after the other, or the refusal that they meet with. The plane has w columns and
+// h rows; marks and queue are working memory of at least as many entries, with any content.
+pub fn run_passes(
+    passes: &[Pass],
+    plane: &mut [u8],
+    marks: &mut [u8],
+    queue: &mut [u32],
+    w: usize,
+    h: usize,
+) -> Answer
+    ensures { λ r. ⌜ PassesOutcome w h (now (passes .entry)) (now (plane .entry)) (now (marks .entry))
+        (now (queue .entry)) r (now (plane .exit)) (now (marks .exit)) (now (queue .exit)) ⌝ }
+{
+    let mut s = begin(w, h, plane.len(), marks.len(), queue.len(), passes.len());
+    while s.at < s.end {
+        s = turn(plane, marks, queue, w, h, passes[s.at], s);
+    }
+    answer(s)
+}
