@@ -10,24 +10,20 @@ use Rattle.model.specs.Passes.{inside, values, changes, retone, newTone, passed
 use Rattle.model.specs.Calls.{planeRefusal, roomRefusal, areaRefusal, ruleRefusal, numbersRefusal, lentRefusal}
 use Rattle.model.specs.Calls.{passRefusal, call, chain}
 use Rattle.model.specs.Enhancement.{section, level, levels, passes, callOf, enhanced}
-use Rattle.claims.specs.Examples.{After, Enhancing, Starred}
+use Rattle.passes.proofs.Examples.{pass-examples}
+use Rattle.claims.specs.Examples.{Enhancing, Starred}
 
 pub starred : Starred
-unfolding sizeRefusal four linked component first plainTone clipped limitedTone tone kept third pixelIntensity intensity greatestChannel newChannel recolour inside values changes retone newTone passed passCount planeRefusal roomRefusal areaRefusal ruleRefusal numbersRefusal lentRefusal passRefusal call chain section level levels passes callOf enhanced
+unfolding sizeRefusal four linked component first plainTone clipped limitedTone tone kept
+    third pixelIntensity intensity greatestChannel newChannel recolour
+    inside values changes retone newTone passed passCount
+    planeRefusal roomRefusal areaRefusal ruleRefusal numbersRefusal lentRefusal passRefusal call chain
+    section level levels passes callOf enhanced
 starred = record {
-  A = record { plane = refl; answer = refl };
-  B = record { plane = refl; answer = refl };
-  C = record { plane = refl; answer = refl };
-  D = record { plane = refl; answer = refl };
-  E = record { plane = refl; answer = refl };
-  F = record { plane = refl; answer = refl };
-  G = record { plane = refl; answer = refl };
-  H = record { plane = refl; answer = refl };
-  J = record { plane = refl; answer = refl };
+  passes = pass-examples;
   K = record { plane = refl; answer = refl };
   L = record { plane = refl; answer = refl };
   N = refl;
   N′ = refl;
   O = λ j. refl;
-  least = record { plane = refl; answer = refl };
 }
