@@ -3,6 +3,8 @@
 // read          width, height and the raster's offset of a frame of at most 1,048,576 pixels, or a refusal
 // read_within   the same, with the greatest number of pixels given
 // write         a frame into a lent output: the length written, or a refusal
+// put_bytes     bytes into an output that has room for them, from a place on; the place after them
+// put_number    the decimal digits of a number, likewise
 ghost use mathlib.Core.Path.{_≡_};
 ghost use Prim.Native.Nat.{_+_, _≤_, _<_};
 ghost use lib.ListN.{length, drop};
@@ -275,7 +277,7 @@ fn write_refusal(w: usize, h: usize, raster: usize, output: usize) -> u8
 }
 
 // Writes `bytes` into `output` from `at` on, and answers the place after them.
-fn put_bytes(output: &mut [u8], at: usize, bytes: &[u8]) -> usize
+pub fn put_bytes(output: &mut [u8], at: usize, bytes: &[u8]) -> usize
     requires { ⌜ at + length (now bytes) ≤ length (now output) ⌝ }
     ensures { λ r. ⌜ Put (now (output .entry)) at (now (bytes .entry)) r (now (output .exit)) ⌝ }
 {
@@ -288,7 +290,7 @@ fn put_bytes(output: &mut [u8], at: usize, bytes: &[u8]) -> usize
 }
 
 // Writes the digits of x into `output` from `at` on, and answers the place after them. The code of 0 is 48.
-fn put_number(output: &mut [u8], at: usize, x: usize) -> usize
+pub fn put_number(output: &mut [u8], at: usize, x: usize) -> usize
     requires { ⌜ (x < 1000000) × (at + length (decimal x) ≤ length (now output)) ⌝ }
     ensures { λ r. ⌜ Put (now (output .entry)) at (decimal x) r (now (output .exit)) ⌝ }
 {

@@ -1,0 +1,140 @@
+-- A frame of at most 16,384 pixels is enhanced with the house setting and written: none of the refusals applies to the
+-- two calls, and what is written is the enhanced frame. Assumes nothing.
+use Prim.Native.Nat.{ℕ, zero, suc, _+_, _-_, _*_, _≤_, _<_}
+use mathlib.Core.Path.{_≡_, refl, sym, ap, subst, _∙_}
+use mathlib.Core.List.{List}
+use native.Mathlib.Omega.{arith}
+use lib.ListN.{length, take, drop, length-drop}
+use lib.Seq.{take-all, length-take-le}
+use borrow.Author.Tests.{le-ltb, eq-eqb}
+use Rattle.planes.specs.Refusals.{Sized}
+use Rattle.planes.specs.Refusals as planes
+use Rattle.planes.proofs.Refusals.{sized-none}
+use Rattle.tones.specs.declared.Rule.{Rule}
+use Rattle.tones.specs.declared.Rule.the-variants.{Plain}
+use Rattle.colours.specs.Frames.{recolour}
+use Rattle.colours.specs.Calls.{intensityRefusal}
+use Rattle.model.specs.Calls.{areaRefusal, ruleRefusal}
+use Rattle.model.specs.declared.Answer.{Answer}
+use Rattle.enhance.specs.declared.Settings.{Settings}
+use Rattle.enhance.specs.Calls.{settingsRefusal, memoryRefusal, enhanceRefusal, chainOf, EnhanceOutcome}
+use Rattle.netpbm.specs.Frames.{IsFrame}
+use Rattle.netpbm.specs.Writing.{heading, encoding, writeRefusal, answer, Wrote}
+use Rattle.netpbm.specs.declared.Written.{Written}
+use Rattle.netpbm.specs.declared.Written.the-variants.{Refused, Length}
+use Rattle.netpbm.proofs.Decimal.{decimal-spelled}
+use Rattle.netpbm.proofs.Heading.{heading-length}
+use Rattle.frames.specs.Program.{greatestPixels, house, enhancedFrame, Emitted}
+use Rattle.frames.proofs.Emitting.{emitted-wrote}
+
+-- the frame's size is not refused by the library either
+in-library : {w h : ℕ} → Sized w h greatestPixels → Sized w h planes.greatestPixels
+in-library size = record {
+  wide = size .wide;
+  narrow = size .narrow;
+  high = size .high;
+  low = size .low;
+  few = omega (arith, size .few);
+}
+
+house-accepted : settingsRefusal house ≡ 0
+unfolding settingsRefusal areaRefusal ruleRefusal
+house-accepted = refl
+
+-- the heading has at most 21 bytes
+short-heading : {w h : ℕ} → Sized w h greatestPixels → length (heading w h) ≤ 21
+short-heading {w} {h} size =
+    let columns = decimal-spelled w (omega (arith, size .narrow)) .few in
+    let rows = decimal-spelled h (omega (arith, size .low)) .few in
+    omega (arith, heading-length w h)
+
+-- the work memory that the two calls are lent
+pub record Room (n plane marks queue colours : ℕ) : Type 0 where
+  pub pixels : plane ≡ n
+  pub marked : n ≤ marks
+  pub queued : n ≤ queue
+  pub coloured : 3 * n ≤ colours
+
+module _ {w h : ℕ} (size : Sized w h greatestPixels) where
+  enhance-accepts : {frame plane marks queue colours : ℕ} → frame ≡ 3 * (w * h)
+      → Room (w * h) plane marks queue colours
+      → enhanceRefusal w h frame plane marks queue colours house ≡ 0
+  unfolding enhanceRefusal intensityRefusal memoryRefusal
+  enhance-accepts {frame} {plane} {marks} {queue} {colours} channels room =
+      simp (
+        sized-none w h planes.greatestPixels (in-library size),
+        eq-eqb plane (w * h) (room .pixels),
+        eq-eqb frame (3 * (w * h)) channels,
+        le-ltb marks (w * h) (room .marked),
+        le-ltb queue (w * h) (room .queued),
+        le-ltb colours (3 * (w * h)) (room .coloured),
+        house-accepted,
+      )
+
+  write-accepts : {raster output : ℕ} → raster ≡ 3 * (w * h) → 3 * (w * h) + 21 ≤ output
+      → writeRefusal w h raster output ≡ 0
+  unfolding writeRefusal
+  write-accepts {raster} {output} channels room =
+      let head = short-heading size in
+      simp (
+        sized-none w h planes.greatestPixels (in-library size),
+        eq-eqb raster (3 * (w * h)) channels,
+        le-ltb output (length (heading w h) + raster) (omega arith),
+      )
+
+abbrev setting : ℕ → ℕ → Rule → Settings
+setting last area rule = record { last = last; area = area; rule = rule }
+
+-- the constructor's answer
+pub house-is : (t : Settings) → (t .last ≡ 7) × ((t .area ≡ 20) × (t .rule ≡ Plain 80 300)) → t ≡ house
+house-is t e =
+    ap (λ (last : ℕ). setting last (t .area) (t .rule)) (e .0)
+    ∙ ap (λ (area : ℕ). setting 7 area (t .rule)) (e .1 .0)
+    ∙ ap (λ (rule : Rule). setting 7 20 rule) (e .1 .1)
+
+-- what stands from the offset on, lent as a part of the input
+pub raster-lent : (input : List ℕ) (offset : ℕ) → take (length input - offset) (drop offset input) ≡ drop offset input
+raster-lent input offset = take-all (length input - offset) (drop offset input) (omega (arith, length-drop offset input))
+
+-- a refusal is answered to none but a refusal's number
+not-length : (k n number : ℕ) → k ≡ 0 → Refused number ≡ answer k n → ⊥
+not-length zero n number z e = let clash : _≡_ {A = ℕ} 0 1 = cc in omega arith
+not-length (suc k) n number z e = omega arith
+
+module _ {input : List ℕ} {w h offset : ℕ} (f : IsFrame input greatestPixels w h offset) where
+  abbrev raster : List ℕ
+  raster = drop offset input
+
+  channels : length raster ≡ 3 * (w * h)
+  channels = omega (arith, length-drop offset input, f .placed, f .filled)
+
+  -- the enhancement's output is the recoloured frame
+  pub recoloured : {frame plane marks queue colours plane' marks' queue' colours' : List ℕ} {t : Settings} {r : Answer}
+      → EnhanceOutcome w h t frame plane marks queue colours r plane' marks' queue' colours'
+      → t ≡ house → frame ≡ raster → Room (w * h) (length plane) (length marks) (length queue) (length colours)
+      → take (3 * (w * h)) colours' ≡ recolour raster (chainOf w h house raster .plane)
+  recoloured {frame} {plane} {marks} {queue} {colours} outcome setting-is frame-is room =
+      let refusal = enhanceRefusal w h (length frame) (length plane) (length marks) (length queue) (length colours) in
+      let counted = ap length frame-is ∙ channels in
+      let accepted = ap refusal setting-is ∙ enhance-accepts (f .sized) counted room in
+      outcome .written accepted
+      ∙ ap (λ (s : Settings). recolour frame (chainOf w h s frame .plane)) setting-is
+      ∙ ap (λ (l : List ℕ). recolour l (chainOf w h house l .plane)) frame-is
+
+  -- which is what is written
+  pub emitted-enhanced : {new output output' : List ℕ} {answer : Written} {size : ℕ} → Wrote new w h output answer output'
+      → answer ≡ Length size → new ≡ recolour raster (chainOf w h house raster .plane)
+      → Emitted (enhancedFrame raster w h) output size output'
+  unfolding enhancedFrame
+  emitted-enhanced {new} {output} {output'} {size = size} wrote answer-is new-is =
+      let written = subst (λ (r : Written). Wrote new w h output r output') answer-is wrote in
+      subst (λ (l : List ℕ). Emitted (encoding l w h) output size output') new-is (emitted-wrote written)
+
+  -- and is not refused
+  pub never-refused : {new output output' : List ℕ} {answer : Written} {number : ℕ} → Wrote new w h output answer output'
+      → answer ≡ Refused number → length new ≡ 3 * (w * h) → 65536 ≤ length output → ⊥
+  never-refused {new} {output} {number = number} wrote answer-is counted room =
+      let few = f .sized .few in
+      let fits : 3 * (w * h) + 21 ≤ length output = omega arith in
+      let accepted = write-accepts (f .sized) counted fits in
+      not-length _ (length (encoding new w h)) number accepted (sym answer-is ∙ wrote .answers)
