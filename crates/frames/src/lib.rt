@@ -4,6 +4,9 @@
 ghost use lib.ListN.{drop};
 ghost use Rattle.netpbm.specs.Frames.{IsFrame};
 ghost use Rattle.frames.specs.Program.{greatestPixels, refusalLine, enhancedFrame, programOutput, Emitted};
+
+mod export;
+
 use enhance::Settings;
 use netpbm::Header;
 use netpbm::Written;
@@ -18,7 +21,7 @@ pub const PIXELS: usize = 16384;
 pub const OUTPUT: usize = 65536;
 
 // Writes the line of a refusal, and answers its length.
-fn put_refusal(number: u8, output: &mut [u8; 65536]) -> usize
+fn put_refusal(number: u8, output: &mut [u8; OUTPUT]) -> usize
     ensures { λ r. ⌜ Emitted (refusalLine number) (now (output .entry)) r (now (output .exit)) ⌝ }
 {
     let after_word = netpbm::put_bytes(output, 0, b"refused ");
@@ -27,18 +30,20 @@ fn put_refusal(number: u8, output: &mut [u8; 65536]) -> usize
 }
 
 // Writes the frame whose raster begins at the offset, enhanced with the house setting, and answers the length written.
-fn put_enhanced(input: &[u8], w: usize, h: usize, offset: usize, output: &mut [u8; 65536]) -> usize
+fn put_enhanced(input: &[u8], w: usize, h: usize, offset: usize, output: &mut [u8; OUTPUT]) -> usize
     requires { ⌜ IsFrame (now input) greatestPixels w h offset ⌝ }
     ensures { λ r. ⌜ Emitted (enhancedFrame (drop offset (now (input .entry))) w h) (now (output .entry)) r (now (output .exit)) ⌝ }
 {
     let n = w * h;
-    let mut plane = [0u8; 16384];
-    let mut marks = [0u8; 16384];
-    let mut queue = [0u32; 16384];
-    let mut colours = [0u8; 49152];
+    let size = 3 * n;
+    let raster = &input[offset..];
+    let mut plane = [0u8; PIXELS];
+    let mut marks = [0u8; PIXELS];
+    let mut queue = [0u32; PIXELS];
+    let mut colours = [0u8; 3 * PIXELS];
     let house = Settings::house();
     let done = enhance::enhance(
-        &input[offset..],
+        raster,
         w,
         h,
         house,
@@ -47,8 +52,8 @@ fn put_enhanced(input: &[u8], w: usize, h: usize, offset: usize, output: &mut [u
         &mut queue,
         &mut colours,
     );
-    let size = 3 * n;
-    let written = netpbm::write(&colours[..size], w, h, output);
+    let enhanced = &colours[..size];
+    let written = netpbm::write(enhanced, w, h, output);
     match written {
         Written::Length(length) => length,
         Written::Refused(_) => 0,
@@ -56,7 +61,7 @@ fn put_enhanced(input: &[u8], w: usize, h: usize, offset: usize, output: &mut [u
 }
 
 // The answer to an input, from the beginning of the output on; how many bytes it has.
-pub fn program_output(input: &[u8], output: &mut [u8; 65536]) -> usize
+pub fn program_output(input: &[u8], output: &mut [u8; OUTPUT]) -> usize
     ensures { λ r. ⌜ Emitted (programOutput (now (input .entry))) (now (output .entry)) r (now (output .exit)) ⌝ }
 {
     if INPUT < input.len() {
