@@ -12,7 +12,8 @@ use Rattle.netpbm.proofs.Writing.{wrote-size, wrote-frame, wrote-beyond}
 use Rattle.frames.specs.Program.{Emitted}
 
 -- bytes that were put from the beginning on
-pub emitted-put : {bytes output output' : List ℕ} {r : ℕ} → Put output 0 bytes r output' → Emitted bytes output r output'
+pub emitted-put : {bytes output output' : List ℕ} {r : ℕ} → Put output 0 bytes r output'
+    → Emitted bytes output r output'
 emitted-put {bytes} {output} {output'} {r} p =
     let whole : r ≡ length bytes = p .next ∙ zero-add (length bytes) in
     let all : output' ≡ bytes ++ drop r output =

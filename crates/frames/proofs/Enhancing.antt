@@ -1,11 +1,11 @@
 -- A frame of at most 16,384 pixels is enhanced with the house setting and written: none of the refusals applies to the
 -- two calls, and what is written is the enhanced frame. Assumes nothing.
-use Prim.Native.Nat.{ℕ, zero, suc, _+_, _-_, _*_, _≤_, _<_}
+use Prim.Native.Nat.{ℕ, zero, suc, _+_, _-_, _*_, _≤_}
 use mathlib.Core.Path.{_≡_, refl, sym, ap, subst, _∙_}
 use mathlib.Core.List.{List}
 use native.Mathlib.Omega.{arith}
 use lib.ListN.{length, take, drop, length-drop}
-use lib.Seq.{take-all, length-take-le}
+use lib.Seq.{take-all}
 use borrow.Author.Tests.{le-ltb, eq-eqb}
 use Rattle.planes.specs.Refusals.{Sized}
 use Rattle.planes.specs.Refusals as planes
@@ -48,7 +48,7 @@ short-heading {w} {h} size =
     let rows = decimal-spelled h (omega (arith, size .low)) .few in
     omega (arith, heading-length w h)
 
--- the work memory that the two calls are lent
+-- the lengths of what the enhancement is lent, of which the first is exact
 pub record Room (n plane marks queue colours : ℕ) : Type 0 where
   pub pixels : plane ≡ n
   pub marked : n ≤ marks
@@ -85,7 +85,7 @@ module _ {w h : ℕ} (size : Sized w h greatestPixels) where
 abbrev setting : ℕ → ℕ → Rule → Settings
 setting last area rule = record { last = last; area = area; rule = rule }
 
--- the constructor's answer
+-- what `Settings::house` answers
 pub house-is : (t : Settings) → (t .last ≡ 7) × ((t .area ≡ 20) × (t .rule ≡ Plain 80 300)) → t ≡ house
 house-is t e =
     ap (λ (last : ℕ). setting last (t .area) (t .rule)) (e .0)
@@ -94,7 +94,8 @@ house-is t e =
 
 -- what stands from the offset on, lent as a part of the input
 pub raster-lent : (input : List ℕ) (offset : ℕ) → take (length input - offset) (drop offset input) ≡ drop offset input
-raster-lent input offset = take-all (length input - offset) (drop offset input) (omega (arith, length-drop offset input))
+raster-lent input offset =
+    take-all (length input - offset) (drop offset input) (omega (arith, length-drop offset input))
 
 -- a refusal is answered to none but a refusal's number
 not-length : (k n number : ℕ) → k ≡ 0 → Refused number ≡ answer k n → ⊥
@@ -122,17 +123,18 @@ module _ {input : List ℕ} {w h offset : ℕ} (f : IsFrame input greatestPixels
       ∙ ap (λ (l : List ℕ). recolour l (chainOf w h house l .plane)) frame-is
 
   -- which is what is written
-  pub emitted-enhanced : {new output output' : List ℕ} {answer : Written} {size : ℕ} → Wrote new w h output answer output'
-      → answer ≡ Length size → new ≡ recolour raster (chainOf w h house raster .plane)
-      → Emitted (enhancedFrame raster w h) output size output'
+  pub emitted-enhanced : {new output output' : List ℕ} {answer : Written} {size : ℕ}
+      → Wrote new w h output answer output' → answer ≡ Length size
+      → new ≡ recolour raster (chainOf w h house raster .plane) → Emitted (enhancedFrame raster w h) output size output'
   unfolding enhancedFrame
   emitted-enhanced {new} {output} {output'} {size = size} wrote answer-is new-is =
       let written = subst (λ (r : Written). Wrote new w h output r output') answer-is wrote in
       subst (λ (l : List ℕ). Emitted (encoding l w h) output size output') new-is (emitted-wrote written)
 
   -- and is not refused
-  pub never-refused : {new output output' : List ℕ} {answer : Written} {number : ℕ} → Wrote new w h output answer output'
-      → answer ≡ Refused number → length new ≡ 3 * (w * h) → 65536 ≤ length output → ⊥
+  pub never-refused : {new output output' : List ℕ} {answer : Written} {number : ℕ}
+      → Wrote new w h output answer output' → answer ≡ Refused number → length new ≡ 3 * (w * h)
+      → 65536 ≤ length output → ⊥
   never-refused {new} {output} {number = number} wrote answer-is counted room =
       let few = f .sized .few in
       let fits : 3 * (w * h) + 21 ≤ length output = omega arith in

@@ -1,3 +1,4 @@
 pub mod Emitting
 pub mod Enhancing
 pub mod Program
+pub mod Examples

@@ -1,5 +1,5 @@
-// The answer to an input, for callers in C and Rust: the input is a pointer and a length, the output a pointer to 65,536
-// bytes.
+// The answer to an input, for callers in C and Rust: the input is a pointer and a length, the output a pointer to
+// 65,536 bytes.
 ghost use Rattle.frames.specs.Program.{programOutput, Emitted};
 use crate::program_output;
 

@@ -32,7 +32,8 @@ fn put_refusal(number: u8, output: &mut [u8; OUTPUT]) -> usize
 // Writes the frame whose raster begins at the offset, enhanced with the house setting, and answers the length written.
 fn put_enhanced(input: &[u8], w: usize, h: usize, offset: usize, output: &mut [u8; OUTPUT]) -> usize
     requires { ⌜ IsFrame (now input) greatestPixels w h offset ⌝ }
-    ensures { λ r. ⌜ Emitted (enhancedFrame (drop offset (now (input .entry))) w h) (now (output .entry)) r (now (output .exit)) ⌝ }
+    ensures { λ r. ⌜ Emitted (enhancedFrame (drop offset (now (input .entry))) w h)
+        (now (output .entry)) r (now (output .exit)) ⌝ }
 {
     let n = w * h;
     let size = 3 * n;

@@ -1,0 +1,37 @@
+//! Damaged and hostile input: the proved function answers each one as the second implementation does, and leaves the
+//! output beyond the answer as it was.
+
+use mlhe_hostile::{program, Inputs, OUTPUT};
+use std::collections::BTreeMap;
+
+const SEED: u64 = 6;
+const INPUTS: usize = 30_000;
+
+/// The answer's first line, or `P6` for a frame.
+fn kind(answer: &[u8]) -> String {
+    if answer.starts_with(b"P6\n") {
+        return "P6".to_string();
+    }
+    String::from_utf8(answer.to_vec()).expect("a line").trim_end().to_string()
+}
+
+#[test]
+fn every_input_is_answered_as_by_the_second_implementation() {
+    let mut inputs = Inputs::new(SEED);
+    let mut output = Box::new([0; OUTPUT]);
+    let mut answers: BTreeMap<String, usize> = BTreeMap::new();
+    for index in 0..INPUTS {
+        let input = inputs.input();
+        let before = index as u8;
+        output.fill(before);
+        let size = program(&input, &mut output);
+        assert_eq!(output[..size], mlhe_reference::program(&input), "input {index} of seed {SEED}");
+        assert!(output[size..].iter().all(|&byte| byte == before), "input {index}: the output beyond the answer");
+        *answers.entry(kind(&output[..size])).or_default() += 1;
+    }
+    println!("{answers:?}");
+    for number in [1, 2, 10, 11, 12, 13] {
+        assert!(answers.get(&format!("refused {number}")).copied().unwrap_or(0) >= 100, "refusal {number} is rare");
+    }
+    assert!(answers["P6"] >= INPUTS / 5, "few frames are accepted");
+}
