@@ -5,7 +5,7 @@ use mlhe_hostile::{program, Inputs, OUTPUT};
 use std::collections::BTreeMap;
 
 const SEED: u64 = 6;
-const INPUTS: usize = 30_000;
+const INPUTS: usize = 60_000;
 
 /// The answer's first line, or `P6` for a frame.
 fn kind(answer: &[u8]) -> String {
