@@ -17,8 +17,22 @@ const WHITESPACE: [&[u8]; 10] = [b" ", b"\n", b"\t", b"\r", b"\x0b", b"\x0c", b"
 
 /// Sides of the frames that are built, mostly small ones; 128 by 128 is the largest that the program takes.
 const SIDES: [(usize, usize); 16] = [
-    (1, 1), (2, 1), (1, 2), (3, 3), (5, 4), (4, 5), (8, 8), (7, 9), (16, 3), (1, 40), (40, 1), (12, 11), (20, 20),
-    (32, 24), (24, 32), (61, 43),
+    (1, 1),
+    (2, 1),
+    (1, 2),
+    (3, 3),
+    (5, 4),
+    (4, 5),
+    (8, 8),
+    (7, 9),
+    (16, 3),
+    (1, 40),
+    (40, 1),
+    (12, 11),
+    (20, 20),
+    (32, 24),
+    (24, 32),
+    (61, 43),
 ];
 
 /// Large sides, for one input in a hundred.
