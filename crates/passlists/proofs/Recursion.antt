@@ -1,14 +1,16 @@
 -- The passes of an enhancement, written as a list and run on a plane, as the intensity of a frame, give the plane and
--- the count of the enhancement. All levels together are 255 passes. Assumes nothing.
+-- the count of the enhancement: level by level, and also in the order of the recursion, each section before its lower
+-- and its upper half. All levels together are 255 passes. Assumes nothing.
 --
---   sections-255    the full recursion has 255 sections
---   list-enhances   the list's outcome is the enhancement's plane and count
+--   sections-255         the full recursion has 255 sections
+--   list-enhances        the outcome of the list level by level is the enhancement's plane and count
+--   recursion-enhances   so is that of the list in the order of the recursion
 use Prim.Native.Nat.{ℕ, zero, suc, _+_, _-_, _*_, _^_, _≤_, _<_}
 use mathlib.Core.Path.{_≡_, refl, sym, ap, ap₂, subst, _∙_}
 use mathlib.Core.Logic.{_⊎_, inl, inr}
 use mathlib.Core.Bool.{Bool, not, _||_}
 use mathlib.Core.List.{List, [], _∷_, map}
-use native.Mathlib.Nat.{mul-le-mul, zero-add, suc-mul, le-refl}
+use native.Mathlib.Nat.{mul-le-mul, zero-add, suc-mul, suc-add, le-refl}
 use native.Mathlib.Omega.{arith}
 use lib.Pow.{pow-add, pow-pos}
 use lib.ListN.{length}
@@ -18,6 +20,7 @@ use Rattle.planes.specs.Lists.{from}
 use Rattle.planes.specs.Refusals.{when, _▷_, sizeRefusal, greatestPixels}
 use Rattle.planes.specs.Neighbours.{four}
 use Rattle.planes.proofs.Tests.{or-none}
+use Rattle.planes.proofs.Neighbours.{four-sym}
 use Rattle.planes.proofs.Refusals.{when-none, ▷-none}
 use Rattle.tones.specs.declared.Rule.{Rule}
 use Rattle.tones.specs.declared.Rule.the-variants.{Plain, Limited}
@@ -26,10 +29,10 @@ use Rattle.model.specs.declared.Answer.{Answer}
 use Rattle.model.specs.declared.Answer.the-variants.{Done}
 use Rattle.model.specs.Calls.{planeRefusal, roomRefusal, areaRefusal, ruleRefusal, numbersRefusal, lentRefusal}
 use Rattle.model.specs.Calls.{passRefusal, answered, planeAfter, total, start}
-use Rattle.model.specs.Runs.{run, runCount, All, none, more}
-use Rattle.model.specs.Enhancement.{section, level, levels, passes, enhanced, callOf}
+use Rattle.model.specs.Runs.{run, runCount, Same, All, none, more}
+use Rattle.model.specs.Enhancement.{section, level, levels, passes, enhanced, callOf, deep, recursive}
 use Rattle.model.proofs.Chains.{lent}
-use Rattle.model.proofs.Recursion.{all-append, all-map}
+use Rattle.model.proofs.Recursion.{all-append, all-map, recursion-listed}
 use Rattle.model.proofs.Enhancement.{chain-runs}
 use Rattle.passlists.specs.Format.{greatestCount, encode, RuleFits, Storable}
 use Rattle.passlists.specs.Refusals.{firstRefusal, passesRefusal}
@@ -39,9 +42,10 @@ use Rattle.passlists.proofs.Lists.{encoded-refusal}
 
 -- ## The sections
 
-pub sections-255 : (area : ℕ) (rule : Rule) → length (passes 7 area rule) ≡ 255
-unfolding passes level levels section
-sections-255 area rule = refl
+pub sections-255 : (area : ℕ) (rule : Rule)
+    → (length (passes 7 area rule) ≡ 255) × (length (recursive 7 area rule) ≡ 255)
+unfolding passes level levels recursive deep section
+sections-255 area rule = (refl, refl)
 
 -- a pass with the rule, and with area 1 or the given one, on an interval of bytes
 record Proper (area : ℕ) (rule : Rule) (s : Pass) : Type 0 where
@@ -58,15 +62,18 @@ module _ (area : ℕ) (rule : Rule) where
       let all : 2 ^ l * 2 ^ (8 - l) ≡ 256 = sym (pow-add 2 l (8 - l)) ∙ ap (2 ^_) sum in
       subst (j * 2 ^ (8 - l) ≤_) all (mul-le-mul {n₂ = 2 ^ l} {m₂ = 2 ^ (8 - l)} h (le-refl (2 ^ (8 - l))))
 
-  -- section j of level l, with either area
+  -- a section that ends at 256 or before, with either area
+  proper-at : (used a width : ℕ) → (used ≡ 1) ⊎ (used ≡ area) → 0 < width → a + width ≤ 256
+      → Proper area rule (section used rule a width)
+  unfolding section
+  proper-at used a width is some h = record { order = omega arith; top = omega arith; area-is = is; rule-is = refl }
+
+  -- section j of level l
   proper-section : (used l j : ℕ) → (used ≡ 1) ⊎ (used ≡ area) → l ≤ 8 → j < 2 ^ l
       → Proper area rule (section used rule (j * 2 ^ (8 - l)) (2 ^ (8 - l)))
-  unfolding section
   proper-section used l j is deep h =
-      let some : 0 < 2 ^ (8 - l) = pow-pos (8 - l) in
-      let end : suc j * 2 ^ (8 - l) ≤ 256 = ends l (suc j) deep h in
-      let next : suc j * 2 ^ (8 - l) ≡ j * 2 ^ (8 - l) + 2 ^ (8 - l) = suc-mul j (2 ^ (8 - l)) in
-      record { order = omega arith; top = omega arith; area-is = is; rule-is = refl }
+      let end = subst (_≤ 256) (suc-mul j (2 ^ (8 - l))) (ends l (suc j) deep h) in
+      proper-at used (j * 2 ^ (8 - l)) (2 ^ (8 - l)) is (pow-pos (8 - l)) end
 
   proper-level : (used l : ℕ) → (used ≡ 1) ⊎ (used ≡ area) → l ≤ 8 → All (Proper area rule) (level l used rule)
   unfolding level
@@ -86,6 +93,25 @@ module _ (area : ℕ) (rule : Rule) where
   proper : (last : ℕ) → last ≤ 7 → All (Proper area rule) (passes last area rule)
   unfolding passes
   proper last h = all-append (proper-level 1 0 (inl refl) (omega arith)) (proper-levels 1 last (omega arith))
+
+  -- a section of the recursion and those below it
+  proper-deep : (k d a : ℕ) → a + 2 ^ (d + k) ≤ 256 → All (Proper area rule) (deep k area rule d a)
+  unfolding deep
+  proper-deep k zero a h = more (proper-at area a (2 ^ (0 + k)) (inr refl) (pow-pos (0 + k)) h) none
+  proper-deep k (suc d) a h =
+      let double : 2 ^ (suc d + k) ≡ 2 ^ (d + k) + 2 ^ (d + k) = ap (2 ^_) (suc-add d k) ∙ omega arith in
+      more (proper-at area a (2 ^ (suc d + k)) (inr refl) (pow-pos (suc d + k)) h)
+      (all-append (proper-deep k d a (omega arith)) (proper-deep k d (a + 2 ^ (d + k)) (omega arith)))
+
+  proper-recursive : (last : ℕ) → last ≤ 7 → All (Proper area rule) (recursive last area rule)
+  unfolding recursive
+  proper-recursive zero h = more (proper-at 1 0 256 (inl refl) (omega arith) (omega arith)) none
+  proper-recursive (suc m) h =
+      let sum : m + (7 - m) ≡ 7 = omega arith in
+      let half : 2 ^ (m + (7 - m)) ≡ 128 = ap (2 ^_) sum in
+      more (proper-at 1 0 256 (inl refl) (omega arith) (omega arith))
+      (all-append (proper-deep (7 - m) m 0 (omega arith))
+      (proper-deep (7 - m) m (0 + 2 ^ (m + (7 - m))) (omega arith)))
 
 -- ## Their numbers are accepted, and fit
 
@@ -134,16 +160,17 @@ first-fine : (ss : List Pass) → All (λ s. numbersRefusal s ≡ 0) ss → firs
 first-fine [] none = refl
 first-fine (s ∷ ss) (more e a) = ap₂ _▷_ e (first-fine ss a)
 
-few : (last area : ℕ) (rule : Rule) → last ≤ 7 → length (passes last area rule) ≤ 255
-unfolding passes level levels section
-few zero area rule h = omega arith
-few (suc zero) area rule h = omega arith
-few (suc (suc zero)) area rule h = omega arith
-few (suc (suc (suc zero))) area rule h = omega arith
-few (suc (suc (suc (suc zero)))) area rule h = omega arith
-few (suc (suc (suc (suc (suc zero))))) area rule h = omega arith
-few (suc (suc (suc (suc (suc (suc zero)))))) area rule h = omega arith
-few (suc (suc (suc (suc (suc (suc (suc zero))))))) area rule h = omega arith
+few : (last area : ℕ) (rule : Rule) → last ≤ 7
+    → (length (passes last area rule) ≤ 255) × (length (recursive last area rule) ≤ 255)
+unfolding passes level levels recursive deep section
+few zero area rule h = (omega arith, omega arith)
+few (suc zero) area rule h = (omega arith, omega arith)
+few (suc (suc zero)) area rule h = (omega arith, omega arith)
+few (suc (suc (suc zero))) area rule h = (omega arith, omega arith)
+few (suc (suc (suc (suc zero)))) area rule h = (omega arith, omega arith)
+few (suc (suc (suc (suc (suc zero))))) area rule h = (omega arith, omega arith)
+few (suc (suc (suc (suc (suc (suc zero)))))) area rule h = (omega arith, omega arith)
+few (suc (suc (suc (suc (suc (suc (suc zero))))))) area rule h = (omega arith, omega arith)
 few (suc (suc (suc (suc (suc (suc (suc (suc l)))))))) area rule h = absurd (omega arith)
 
 -- room for n pixels is enough
@@ -160,41 +187,59 @@ enough w h plane marks queue e =
 module _ (w h last area : ℕ) (rule : Rule) (levels-fine : last ≤ 7) (area-fine : areaRefusal area ≡ 0)
     (rule-fine : ruleRefusal rule ≡ 0) (plane marks queue : List ℕ)
     (lent-fine : lentRefusal w h (length plane) (length marks) (length queue) ≡ 0) where
-  abbrev sections : List Pass
-  sections = passes last area rule
+  each-fine : (ss : List Pass) → All (Proper area rule) ss → All (λ s. numbersRefusal s ≡ 0) ss
+  each-fine ss = all-map (accepted-pass area rule area-fine rule-fine)
 
-  each : All (λ s. numbersRefusal s ≡ 0) sections
-  each = all-map (accepted-pass area rule area-fine rule-fine) (proper area rule last levels-fine)
-
-  sections-fine : passesRefusal sections ≡ 0
+  sections-fine : (ss : List Pass) → length ss ≤ 255 → All (Proper area rule) ss → passesRefusal ss ≡ 0
   unfolding passesRefusal
-  sections-fine =
-      ap₂ (λ (t : Bool) (k : ℕ). when t 16 ▷ k)
-      (le-ltb greatestCount (length sections) (omega (arith, few last area rule levels-fine)))
-      (first-fine sections each)
+  sections-fine ss l p =
+      ap₂ (λ (t : Bool) (k : ℕ). when t 16 ▷ k) (le-ltb greatestCount (length ss) (omega arith))
+      (first-fine ss (each-fine ss p))
 
   -- the model's enhancement is the run of the sections
-  pub enhancement-runs : (enhanced w h plane last area rule .plane ≡ run (four w) sections plane)
-      × (total (enhanced w h plane last area rule .answers) ≡ runCount (four w) sections plane)
+  enhancement-runs : (enhanced w h plane last area rule .plane ≡ run (four w) (passes last area rule) plane)
+      × (total (enhanced w h plane last area rule .answers) ≡ runCount (four w) (passes last area rule) plane)
   unfolding enhanced callOf passRefusal
   enhancement-runs =
       let whole = lent w h (length plane) (length marks) (length queue) lent-fine .whole in
       let room = enough w h (length plane) (length marks) (length queue) lent-fine in
-      let runs = chain-runs w h sections (all-map (λ s z. ap₂ _▷_ room z) each) (start plane) whole in
-      (runs .0, runs .1 ∙ zero-add (runCount (four w) sections plane))
+      let fine = each-fine (passes last area rule) (proper area rule last levels-fine) in
+      let runs = chain-runs w h (passes last area rule) (all-map (λ s z. ap₂ _▷_ room z) fine) (start plane) whole in
+      (runs .0, runs .1 ∙ zero-add (runCount (four w) (passes last area rule) plane))
+
+  -- the enhancement's plane and count
+  abbrev Enhances : Answer → List ℕ → Type 0
+  Enhances r plane' =
+      (plane' ≡ enhanced w h plane last area rule .plane)
+      × (r ≡ Done (total (enhanced w h plane last area rule .answers)))
+
+  -- the sections in any order that ends in the same planes with the same sums
+  ordered-enhances : (ss : List Pass) → length ss ≤ 255 → All (Proper area rule) ss
+      → Same (four w) ss (passes last area rule) → (r : Answer) (plane' marks' queue' : List ℕ)
+      → ListOutcome w h (encode ss) plane marks queue r plane' marks' queue' → Enhances r plane'
+  ordered-enhances ss l p alike r plane' marks' queue' out =
+      let told : length ss < 65536 = omega arith in
+      let fit = all-map (storable-pass area rule area-fine rule-fine) p in
+      let refusal : fileRefusal w h (encode ss) plane marks queue ≡ 0 =
+      ap₂ _▷_ lent-fine (encoded-refusal ss told fit ∙ sections-fine ss l p) in
+      let same = passes-encode ss told fit .0 in
+      let last-plane = alike .planes plane ∙ sym (enhancement-runs .0) in
+      let sum = alike .sums plane ∙ sym (enhancement-runs .1) in (
+        out .plane-is ∙ ap₂ (λ (k : ℕ) (ps : List Pass). planeAfter k plane (run (four w) ps plane)) refusal same
+            ∙ last-plane,
+        out .answer ∙ ap₂ (λ (k : ℕ) (ps : List Pass). answered k (runCount (four w) ps plane)) refusal same
+            ∙ ap Done sum,
+      )
 
   pub list-enhances : (r : Answer) (plane' marks' queue' : List ℕ)
-      → ListOutcome w h (encode sections) plane marks queue r plane' marks' queue'
-      → (plane' ≡ enhanced w h plane last area rule .plane)
-      × (r ≡ Done (total (enhanced w h plane last area rule .answers)))
-  list-enhances r plane' marks' queue' out =
-      let told : length sections < 65536 = omega (arith, few last area rule levels-fine) in
-      let fit = all-map (storable-pass area rule area-fine rule-fine) (proper area rule last levels-fine) in
-      let refusal : fileRefusal w h (encode sections) plane marks queue ≡ 0 =
-      ap₂ _▷_ lent-fine (encoded-refusal sections told fit ∙ sections-fine) in
-      let same = passes-encode sections told fit .0 in (
-        out .plane-is ∙ ap₂ (λ (k : ℕ) (ss : List Pass). planeAfter k plane (run (four w) ss plane)) refusal same
-            ∙ sym (enhancement-runs .0),
-        out .answer ∙ ap₂ (λ (k : ℕ) (ss : List Pass). answered k (runCount (four w) ss plane)) refusal same
-            ∙ ap Done (sym (enhancement-runs .1)),
-      )
+      → ListOutcome w h (encode (passes last area rule)) plane marks queue r plane' marks' queue' → Enhances r plane'
+  list-enhances =
+      ordered-enhances (passes last area rule) (few last area rule levels-fine .0) (proper area rule last levels-fine)
+      (record { planes = λ p. refl; sums = λ p. refl })
+
+  pub recursion-enhances : (r : Answer) (plane' marks' queue' : List ℕ)
+      → ListOutcome w h (encode (recursive last area rule)) plane marks queue r plane' marks' queue'
+      → Enhances r plane'
+  recursion-enhances =
+      ordered-enhances (recursive last area rule) (few last area rule levels-fine .1)
+      (proper-recursive area rule last levels-fine) (recursion-listed (four w) (four-sym w) last area rule levels-fine)

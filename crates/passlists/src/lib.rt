@@ -24,13 +24,14 @@ use tones::Rule;
 // The greatest count of passes.
 pub const COUNT: usize = 1024;
 
-// How far a run over lent passes has come. They are all checked before the first one runs.
-pub struct Progress {
-    pub at: usize,
-    pub end: usize,
-    pub sum: u32,
-    pub refusal: u8,
-    pub running: bool,
+// How far a run over lent passes has come: the pass that is due, of `end` passes, to be checked or, once all are
+// checked, to be run; the sum of the counts so far; and the refusal that the run has met with, or 0.
+struct Progress {
+    at: usize,
+    end: usize,
+    sum: u32,
+    refusal: u8,
+    running: bool,
 }
 
 // The 16-bit number at index i, low byte first.
