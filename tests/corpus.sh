@@ -1,6 +1,7 @@
 #!/usr/bin/env bash
 # Runs the program on every file of the corpus. Each answer is the one that the manifest names, and byte for byte that
-# of the second implementation. Proves and builds the program first, unless nothing has changed since.
+# of the second implementation. Inputs at the limit of length, and one that arrives in pieces, follow. Proves and builds
+# the program first, unless nothing has changed since.
 set -euo pipefail
 cd "$(dirname "$0")/.."
 
@@ -27,28 +28,52 @@ entries() {
         { print $1 "\t" $2 "\t" $at }' "$manifest"
 }
 
+# runs the program on a file; its answer is that of the second implementation
+answer() {
+    "$program" < "$1" > "$out/answer"
+    "$reference" < "$1" > "$out/reference"
+    cmp "$out/answer" "$out/reference" || fail "$1: the second implementation answers otherwise"
+}
+
+# the program answered the line
+answered() {
+    printf '%s\n' "$1" | cmp "$out/answer" - || fail "$2: not $1"
+}
+
 entries > "$out/entries" || fail "$manifest has no column $column"
 accepted=0
 refused=0
 while IFS=$'\t' read -r name length expected; do
     file=tests/corpus/$name
     [ "$(stat -c %s "$file")" = "$length" ] || fail "$name does not have $length bytes"
-    "$program" < "$file" > "$out/answer"
-    "$reference" < "$file" > "$out/reference"
-    cmp "$out/answer" "$out/reference" || fail "$name: the second implementation answers otherwise"
+    answer "$file"
     case $expected in
     "accept "*)
         sides=${expected#accept }
-        printf 'P6\n%s\n255\n' "${sides/x/ }" > "$out/expected"
-        cmp -n "$(stat -c %s "$out/expected")" "$out/answer" "$out/expected" || fail "$name: not $expected"
+        printf 'P6\n%s\n255\n' "${sides/x/ }" > "$out/header"
+        cmp -n "$(stat -c %s "$out/header")" "$out/answer" "$out/header" || fail "$name: not $expected"
         accepted=$((accepted + 1))
         ;;
     *)
-        printf '%s\n' "$expected" > "$out/expected"
-        cmp "$out/answer" "$out/expected" || fail "$name: not $expected"
+        answered "$expected" "$name"
         refused=$((refused + 1))
         ;;
     esac
 done < "$out/entries"
 [ "$((accepted + refused))" -gt 0 ] || fail "$manifest names no file"
 echo "corpus: $accepted files accepted and $refused refused, as the manifest and the second implementation say"
+
+# 65,536 bytes are read, and more are refused whatever they are
+head -c 65536 /dev/zero > "$out/longest"
+answer "$out/longest"
+answered "refused 10" longest
+for length in 65537 65538 1000000; do
+    head -c "$length" /dev/zero > "$out/long"
+    answer "$out/long"
+    answered "refused 13" "$length bytes"
+done
+
+# a frame that arrives in pieces is read whole
+{ head -c 12; sleep 0.2; head -c 5000; sleep 0.2; cat; } < tests/corpus/pil.ppm | "$program" > "$out/answer"
+"$program" < tests/corpus/pil.ppm | cmp - "$out/answer" || fail "a frame in pieces"
+echo "corpus: inputs at the limit of length, and one in pieces, as they should be"
