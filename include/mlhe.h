@@ -156,8 +156,8 @@ int64_t mlhe_recolour(const uint8_t *frame, size_t frame_length, size_t w, size_
  * queue     working memory, at least n elements
  * output    at least 3 * n bytes, of which the first 3 * n become the recoloured frame
  *
- * Answers the number of components that were retoned, on all levels. Refusals, in order: 1, 2, 3, 4, 14, 17, 9, 6, 7, 8.
- * 17 (a rule other than 0 and 1, or limited with second not 0) is tested before the other numbers of the setting.
+ * Answers the number of components that were retoned, on all levels. Refusals, in order: 1, 2, 3, 4, 14, 17, 9, 6, 7,
+ * 8. 17 (a rule other than 0 and 1, or limited with second not 0) is tested before the other numbers of the setting.
  */
 int64_t mlhe_enhance(const uint8_t *frame, size_t frame_length, size_t w, size_t h, uint8_t last, uint32_t area,
                      uint8_t rule, uint16_t first, uint16_t second, uint8_t *plane, size_t plane_length,

@@ -2,9 +2,9 @@
 //!
 //!     cargo run --release --example enhance -- [--list LIST.mlp] [--to FOLDER] FILE...
 //!
-//! Each file is enhanced with the house setting, or with the passes of a list, and written to a file of the same name in
-//! the folder, or beside it as NAME.mlhe.ppm. One line for each file says how far the run is. What is wrong with a file
-//! goes to standard error; the others are still enhanced, and the exit status is then 1. Wrong arguments give 2.
+//! Each file is enhanced with the house setting, or with the passes of a list, and written to a file of the same name
+//! in the folder, or beside it as NAME.mlhe.ppm. One line for each file says how far the run is. What is wrong with a
+//! file goes to standard error; the others are still enhanced, and the exit status is then 1. Wrong arguments give 2.
 
 use mlhe::{Frame, Memory, PassList, Settings};
 use std::error::Error;
@@ -78,12 +78,7 @@ fn read_list(file: &Path) -> Result<PassList, String> {
 }
 
 /// Enhances one file and answers what was done.
-fn enhance(
-    file: &Path,
-    list: Option<&PassList>,
-    folder: Option<&Path>,
-    memory: &mut Memory,
-) -> Result<String, String> {
+fn enhance(file: &Path, list: Option<&PassList>, folder: Option<&Path>, memory: &mut Memory) -> Result<String, String> {
     let frame = Frame::from_p6(&fs::read(file).map_err(about(file))?).map_err(about(file))?;
     let (enhanced, retoned) = match list {
         None => {

@@ -4,8 +4,8 @@
 //! # Safety
 //!
 //! Each pointer is followed by the number of its elements. That many elements have to be valid for reading, and for
-//! writing where the pointer is mutable; no mutable memory may overlap any other memory of the call. Lengths and numbers
-//! may be any: what does not fit is refused.
+//! writing where the pointer is mutable; no mutable memory may overlap any other memory of the call. Lengths and
+//! numbers may be any: what does not fit is refused.
 
 #[allow(clippy::too_many_arguments)]
 mod declared {

@@ -5,8 +5,8 @@ use crate::{lent, Memory, Plane, Refusal, Settings};
 /// The most bytes that stand before the raster of a written frame.
 const GREATEST_HEADER: usize = 17;
 
-/// A frame: w columns and h rows of pixels, each the bytes red, green, blue. Its sides are 1 to 4,096, and it has at most
-/// 1,048,576 pixels.
+/// A frame: w columns and h rows of pixels, each the bytes red, green, blue. Its sides are 1 to 4,096, and it has at
+/// most 1,048,576 pixels.
 #[derive(Clone, Debug, PartialEq, Eq, Hash)]
 pub struct Frame {
     w: usize,

@@ -43,8 +43,7 @@ pub fn read(bytes: &[u8]) -> Result<Header, Refusal> {
 
 /// Writes a P6 frame and answers the number of bytes written. Refusals, in order: 1, 2, 3, 14.
 pub fn write(raster: &[u8], w: usize, h: usize, output: &mut [u8]) -> Result<usize, Refusal> {
-    let answer =
-        unsafe { ffi::mlhe_write(raster.as_ptr(), raster.len(), w, h, output.as_mut_ptr(), output.len()) };
+    let answer = unsafe { ffi::mlhe_write(raster.as_ptr(), raster.len(), w, h, output.as_mut_ptr(), output.len()) };
     Refusal::of_answer(answer).map(|length| length as usize)
 }
 

@@ -1,8 +1,8 @@
 //! Morpho-local histogram equalisation (MLHE) of frames: safe calls of the proved library.
 //!
-//! The library is written in Rattle and proved to do what its contracts say; this crate links it and gives its calls the
-//! types that a Rust user expects. Whatever a caller may do, no two neighbours of a plane are reversed by a chain of
-//! passes, and there are no more regional maxima and minima afterwards than before.
+//! The library is written in Rattle and proved to do what its contracts say; this crate links it and gives its calls
+//! the types that a Rust user expects. Whatever a caller may do, no two neighbours of a plane are reversed by a chain
+//! of passes, and there are no more regional maxima and minima afterwards than before.
 //!
 //! - [`Frame`] and [`Plane`] own their bytes and always have the length of their sides.
 //! - [`Pass`], [`Rule`] and [`Settings`] say what to do, and [`PassList`] is a list of passes that has been checked.

@@ -1,15 +1,15 @@
 //! The proved library's C functions against the second implementation.
 //!
-//!     cargo run --release                          100,000 cases
+//!     cargo run --release                          60,000 cases
 //!     cargo run --release -- --long                5,000,000 cases
 //!     cargo run --release -- --cases N --seed S    so many, from another seed
 //!     cargo run --release -- --case K --seed S     one case again
 //!
 //! Every case is random from its seed and its number: sides, frames, planes, files and lists, sound and damaged; chains
 //! of passes with refused calls among them; lengths short, exact and long; any content in marks and queue; guards
-//! around all lent memory. Compared are answers, planes, outputs and every byte that has to stay; on all that is accepted
-//! the order of neighbours and the regional maxima and minima, counted from their definition. Ends with status 1 at the
-//! first difference. At the end it has to have seen every refusal and accepted calls of every kind.
+//! around all lent memory. Compared are answers, planes, outputs and every byte that has to stay; on all that is
+//! accepted the order of neighbours and the regional maxima and minima, counted from their definition. Ends with status
+//! 1 at the first difference. At the end it has to have seen every refusal and accepted calls of every kind.
 
 mod calls;
 mod guarded;
@@ -21,7 +21,7 @@ use std::env;
 use std::process::ExitCode;
 use std::time::Instant;
 
-const CASES: u64 = 100_000;
+const CASES: u64 = 60_000;
 const LONG: u64 = 5_000_000;
 const SEED: u64 = 20_260;
 

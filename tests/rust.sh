@@ -1,0 +1,69 @@
+#!/usr/bin/env bash
+# What is tested from outside the proofs: the second implementation's own tests, the safe Rust crate's tests and the
+# examples in its documentation, the C functions against the second implementation, both example programs on a small
+# frame, and that docs/EVIDENCE.md is as its program writes it. Stops at the first error. Offline.
+#
+#   tests/rust.sh            some minutes at most, once the library is proved
+#   tests/rust.sh --long     with the long differential test
+set -euo pipefail
+cd "$(dirname "$0")/.."
+out=target/rust
+mkdir -p "$out"
+
+# The library is proved and built once, here, and all that follows links it.
+if [ -z "${MLHE_LIBRARY:-}" ]; then
+    rt staticlib capi > "$out/staticlib.log" 2>&1 || { cat "$out/staticlib.log"; exit 1; }
+    MLHE_LIBRARY=$PWD/target/staticlib/libcapi.a
+fi
+export MLHE_LIBRARY
+export CARGO_TARGET_DIR=$PWD/target/cargo
+cargo=(cargo --quiet --offline --locked)
+
+for package in reference rust tests/differential tools/evidence bench/checker; do
+    cargo fmt --check --manifest-path "$package/Cargo.toml"
+done
+"${cargo[@]}" test --manifest-path reference/Cargo.toml
+"${cargo[@]}" test --manifest-path rust/Cargo.toml
+"${cargo[@]}" test --manifest-path tools/evidence/Cargo.toml
+"${cargo[@]}" run --release --manifest-path tests/differential/Cargo.toml -- "$@"
+"${cargo[@]}" run --release --manifest-path tools/evidence/Cargo.toml -- --check
+
+# Both examples, as their documentation says: frames of the corpus with the house setting and with a list, the same
+# bytes from both; and what is wrong with a file is said, with a status that is not 0.
+make --quiet -C examples/c MLHE_LIBRARY="$MLHE_LIBRARY"
+"${cargo[@]}" build --release --manifest-path rust/Cargo.toml --example enhance
+c=examples/c/enhance
+rust=$CARGO_TARGET_DIR/release/examples/enhance
+frames=(tests/corpus/pil.ppm tests/corpus/imagemagick-4096x4.ppm tests/corpus/column-1x1024.ppm)
+# One limited pass on [0, 255], area 1, clip 10.
+printf 'MLP\1\0\1\0\0\377\1\0\1\0\0\0\12\0\0\0' > "$out/limited.mlp"
+for folder in house list; do
+    rm -rf "${out:?}/$folder"
+    mkdir -p "$out/$folder"
+done
+"$rust" --to "$out/house" "${frames[@]}"
+"$rust" --list "$out/limited.mlp" --to "$out/list" "${frames[@]}"
+for frame in "${frames[@]}"; do
+    name=$(basename "$frame")
+    "$c" "$frame" "$out/c.ppm"
+    cmp "$out/c.ppm" "$out/house/$name"
+    "$c" "$out/limited.mlp" "$frame" "$out/c.ppm"
+    cmp "$out/c.ppm" "$out/list/$name"
+done
+
+# A command that has to end with status 1 and to name the file and the refusal on standard error.
+refused() {
+    local file=$1 number=$2 status=0
+    shift 2
+    "$@" > /dev/null 2> "$out/error.txt" || status=$?
+    if [ "$status" != 1 ] || ! grep -q "$file: refused $number: " "$out/error.txt"; then
+        echo "$*: status $status, and $(cat "$out/error.txt")"
+        exit 1
+    fi
+}
+short=tests/corpus/truncated-middle.ppm
+refused "$short" 12 "$c" "$short" "$out/c.ppm"
+refused "$short" 12 "$rust" --to "$out/house" "${frames[0]}" "$short"
+refused "$short" 15 "$c" "$short" "${frames[0]}" "$out/c.ppm"
+refused "$short" 15 "$rust" --list "$short" --to "$out/house" "${frames[0]}"
+echo "tests/rust.sh: all passed"

@@ -1,0 +1,143 @@
+//! Makes docs/EVIDENCE.md and its pictures.
+//!
+//!     cargo run --release             writes them
+//!     cargo run --release -- --check  ends with status 1 unless they are as this would write them
+
+mod methods;
+mod pictures;
+mod png;
+
+use methods::METHODS;
+use mlhe::{Frame, Memory, Settings};
+use mlhe_reference::extrema::{parted_neighbours, regional_maxima, regional_minima, reversed_neighbours};
+use pictures::Picture;
+use std::path::Path;
+use std::process::ExitCode;
+use std::{env, fs};
+
+/// The document, with a place for the table.
+const DOCUMENT: &str = include_str!("document.md");
+
+/// What is counted of a plane, against the picture's own.
+struct Counts {
+    maxima: usize,
+    minima: usize,
+    /// Maxima and minima that contain none of the picture's own.
+    invented: usize,
+    reversed: usize,
+    parted: usize,
+    /// The mean difference of neighbours, in hundredths.
+    difference: usize,
+}
+
+fn counts(first: &[u8], last: &[u8], w: usize, h: usize) -> Counts {
+    let (maxima, minima) = (regional_maxima(last, w, h), regional_minima(last, w, h));
+    let invented = invented(&maxima, &regional_maxima(first, w, h)) + invented(&minima, &regional_minima(first, w, h));
+    Counts {
+        maxima: maxima.len(),
+        minima: minima.len(),
+        invented,
+        reversed: reversed_neighbours(first, last, w, h),
+        parted: parted_neighbours(first, last, w, h),
+        difference: difference(last, w, h),
+    }
+}
+
+/// How many sets of the last plane contain no whole set of the first.
+fn invented(last: &[Vec<usize>], first: &[Vec<usize>]) -> usize {
+    let mut holder = std::collections::HashMap::new();
+    for (place, set) in last.iter().enumerate() {
+        holder.extend(set.iter().map(|&pixel| (pixel, place)));
+    }
+    let mut contains = vec![false; last.len()];
+    for set in first {
+        if let Some(&place) = holder.get(&set[0]) {
+            contains[place] |= set.iter().all(|pixel| holder.get(pixel) == Some(&place));
+        }
+    }
+    contains.iter().filter(|&&one| !one).count()
+}
+
+fn difference(plane: &[u8], w: usize, h: usize) -> usize {
+    let (mut sum, mut pairs) = (0, 0);
+    for p in 0..w * h {
+        let right = (p % w + 1 < w).then_some(p + 1);
+        let below = (p + w < w * h).then_some(p + w);
+        for q in [right, below].into_iter().flatten() {
+            sum += usize::from(plane[p].abs_diff(plane[q]));
+            pairs += 1;
+        }
+    }
+    (100 * sum + pairs / 2) / pairs
+}
+
+fn frame_of(picture: Picture) -> Frame {
+    Frame::new(picture.w, picture.h, picture.bytes).expect("the picture is small")
+}
+
+fn row(name: &str, method: &str, c: &Counts) -> String {
+    let Counts { maxima, minima, invented, reversed, parted, difference } = c;
+    let difference = format!("{}.{:02}", difference / 100, difference % 100);
+    format!("| {name} | {method} | {maxima} | {minima} | {invented} | {reversed} | {parted} | {difference} |\n")
+}
+
+fn table() -> String {
+    let mut table =
+        String::from("| Picture | Method | Maxima | Minima | Invented | Reversed | Parted | Difference |\n");
+    table.push_str("|---|---|---:|---:|---:|---:|---:|---:|\n");
+    let all = [
+        ("ramp, 256 × 64", pictures::ramp()),
+        ("clouds, 256 × 256", pictures::clouds()),
+        ("haze, 256 × 192", pictures::haze()),
+        ("night, 256 × 192", pictures::night()),
+    ];
+    for (name, picture) in all {
+        let frame = frame_of(picture);
+        let (w, h, first) = (frame.width(), frame.height(), frame.intensity().into_values());
+        table.push_str(&row(name, "(the picture)", &counts(&first, &first, w, h)));
+        for method in &METHODS {
+            table.push_str(&row("", method.name, &counts(&first, &(method.run)(&frame), w, h)));
+        }
+    }
+    table
+}
+
+/// The files to write: their names, from the repository on, and their bytes.
+fn files() -> Vec<(&'static str, Vec<u8>)> {
+    let before = pictures::small_night();
+    let (w, h) = (before.w, before.h);
+    let picture = png::encoded(&before);
+    let enhanced = frame_of(before).enhanced(&Settings::HOUSE, &mut Memory::new()).expect("the setting is sound");
+    let after = Picture { w, h, bytes: enhanced.frame.into_bytes() };
+    vec![
+        ("docs/EVIDENCE.md", DOCUMENT.replace("TABLE\n", &table()).into_bytes()),
+        ("docs/evidence/before.png", picture),
+        ("docs/evidence/after.png", png::encoded(&after)),
+    ]
+}
+
+fn main() -> ExitCode {
+    let check = match env::args().nth(1).as_deref() {
+        None => false,
+        Some("--check") => true,
+        Some(_) => {
+            eprintln!("usage: mlhe_evidence [--check]");
+            return ExitCode::from(2);
+        }
+    };
+    let repository = Path::new(env!("CARGO_MANIFEST_DIR")).join("../..");
+    for (name, bytes) in files() {
+        let path = repository.join(name);
+        if check {
+            if fs::read(&path).ok().as_deref() != Some(&bytes) {
+                println!("{name} is not as it would be made now");
+                return ExitCode::FAILURE;
+            }
+        } else {
+            fs::create_dir_all(path.parent().expect("a folder")).expect("the folder can be made");
+            fs::write(&path, bytes).expect("the file can be written");
+            println!("{name}");
+        }
+    }
+    ExitCode::SUCCESS
+}
