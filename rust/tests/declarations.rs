@@ -1,0 +1,113 @@
+//! Nothing in the languages holds the declarations of the C functions against their source. This does: the functions of
+//! `crates/capi`, `include/mlhe.h` and `src/ffi.rs` have the same names, parameters and types, in the same order.
+
+use mlhe::Refusal;
+use std::collections::BTreeMap;
+use std::fs;
+use std::path::Path;
+
+/// For each function its parameters: name and C type.
+type Functions = BTreeMap<String, Vec<(String, String)>>;
+
+fn text(name: &str) -> String {
+    let path = Path::new(env!("CARGO_MANIFEST_DIR")).join("..").join(name);
+    fs::read_to_string(&path).unwrap_or_else(|error| panic!("{}: {error}", path.display()))
+}
+
+/// The text between a mark and the next closing parenthesis, for each place where the mark stands.
+fn parameter_lists<'a>(text: &'a str, mark: &str) -> Vec<(&'a str, Vec<&'a str>)> {
+    let heads = text.split(mark).skip(1);
+    let split = |head: &'a str| {
+        let (name, rest) = head.split_once('(').expect("a parameter list");
+        let (parameters, _) = rest.split_once(')').expect("an end of it");
+        (name.trim(), parameters.split(',').map(str::trim).filter(|one| !one.is_empty()).collect())
+    };
+    heads.map(split).collect()
+}
+
+fn number_type(rust: &str) -> &'static str {
+    match rust {
+        "u8" => "uint8_t",
+        "u16" => "uint16_t",
+        "u32" => "uint32_t",
+        "usize" => "size_t",
+        other => panic!("no such type: {other}"),
+    }
+}
+
+/// A slice is a pointer and its length.
+fn of_rattle() -> Functions {
+    let text = text("crates/capi/src/lib.rt");
+    let mut functions = Functions::new();
+    for (name, parameters) in parameter_lists(&text, "pub extern \"C\" fn ") {
+        let mut listed = Vec::new();
+        for parameter in parameters {
+            let (name, kind) = parameter.split_once(": ").expect("a type");
+            let slice = kind.strip_suffix(']').and_then(|kind| kind.split_once('['));
+            let Some((reference, element)) = slice else {
+                listed.push((name.to_string(), number_type(kind).to_string()));
+                continue;
+            };
+            let constant = if reference == "&" { "const " } else { "" };
+            listed.push((name.to_string(), format!("{constant}{} *", number_type(element))));
+            listed.push((format!("{name}_length"), "size_t".to_string()));
+        }
+        functions.insert(name.to_string(), listed);
+    }
+    functions
+}
+
+fn of_header() -> Functions {
+    let text = text("include/mlhe.h");
+    let mut functions = Functions::new();
+    for (name, parameters) in parameter_lists(&text, "\nint64_t ") {
+        let one = |parameter: &str| {
+            let words = parameter.split_whitespace().collect::<Vec<_>>().join(" ");
+            let place = words.rfind([' ', '*']).expect("a type") + 1;
+            (words[place..].to_string(), words[..place].trim().to_string())
+        };
+        functions.insert(name.to_string(), parameters.into_iter().map(one).collect());
+    }
+    functions
+}
+
+fn of_rust() -> Functions {
+    let text = text("rust/src/ffi.rs");
+    let mut functions = Functions::new();
+    for (name, parameters) in parameter_lists(&text, "pub fn ") {
+        let one = |parameter: &str| {
+            let (name, kind) = parameter.split_once(": ").expect("a type");
+            let pointer = |element: &str, constant: &str| format!("{constant}{} *", number_type(element));
+            let kind = match (kind.strip_prefix("*const "), kind.strip_prefix("*mut ")) {
+                (Some(element), _) => pointer(element, "const "),
+                (_, Some(element)) => pointer(element, ""),
+                _ => number_type(kind).to_string(),
+            };
+            (name.to_string(), kind)
+        };
+        functions.insert(name.to_string(), parameters.into_iter().map(one).collect());
+    }
+    functions
+}
+
+#[test]
+fn the_declarations_agree() {
+    let rattle = of_rattle();
+    assert_eq!(rattle.len(), 7);
+    assert_eq!(rattle, of_header());
+    assert_eq!(rattle, of_rust());
+}
+
+#[test]
+fn the_refusals_of_the_header_are_those_of_the_crate() {
+    let text = text("include/mlhe.h");
+    let numbers: Vec<u8> = text
+        .lines()
+        .filter_map(|line| line.trim().strip_prefix("MLHE_REFUSED_")?.split_once(" = "))
+        .map(|(_, rest)| {
+            let digits: String = rest.chars().take_while(char::is_ascii_digit).collect();
+            digits.parse().expect("a number")
+        })
+        .collect();
+    assert_eq!(numbers, Refusal::ALL.map(Refusal::number));
+}

@@ -1,0 +1,104 @@
+//! What is turned down, through the safe types and through the C functions.
+
+use mlhe::{ffi, lent, Frame, Memory, Pass, PassList, Plane, Refusal, Rule, Settings};
+use std::ptr::{null, null_mut};
+
+const PLAIN: Rule = Rule::Plain { low: 0, high: 25_500 };
+const WHOLE: Pass = Pass { a: 0, b: 255, area: 1, rule: PLAIN };
+
+#[test]
+fn frames_and_planes_have_the_length_of_their_sides() {
+    assert_eq!(Frame::new(0, 1, vec![]), Err(Refusal::Sides));
+    assert_eq!(Frame::new(1, 4_097, vec![0; 3 * 4_097]), Err(Refusal::Sides));
+    assert_eq!(Frame::new(4_096, 257, vec![0; 3 * 4_096 * 257]), Err(Refusal::Pixels));
+    assert_eq!(Frame::new(2, 1, vec![0; 5]), Err(Refusal::Lengths));
+    assert_eq!(Plane::new(usize::MAX, usize::MAX, vec![]), Err(Refusal::Sides));
+    assert_eq!(Plane::new(4_096, 257, vec![0; 4_096 * 257]), Err(Refusal::Pixels));
+    assert_eq!(Plane::new(2, 1, vec![0; 3]), Err(Refusal::Lengths));
+    assert_eq!(Plane::new(2, 1, vec![5, 6]).unwrap().values(), [5, 6]);
+}
+
+#[test]
+fn a_plane_of_other_sides_does_not_recolour_a_frame() {
+    let frame = Frame::new(2, 3, vec![9; 18]).unwrap();
+    let turned = Plane::new(3, 2, vec![9; 6]).unwrap();
+    assert_eq!(frame.recoloured(&turned), Err(Refusal::Lengths));
+}
+
+#[test]
+fn numbers_are_refused_and_nothing_changes() {
+    let mut plane = Plane::new(4, 1, vec![10, 10, 20, 30]).unwrap();
+    let mut memory = Memory::new();
+    let refused = [
+        (Pass { a: 9, b: 8, ..WHOLE }, Refusal::Interval),
+        (Pass { area: 1_048_577, ..WHOLE }, Refusal::Area),
+        (Pass { rule: Rule::Plain { low: 81, high: 80 }, ..WHOLE }, Refusal::Limits),
+        (Pass { rule: Rule::Limited { k: 1_001 }, ..WHOLE }, Refusal::Clip),
+    ];
+    for (pass, refusal) in refused {
+        assert_eq!(plane.pass(&pass, &mut memory), Err(refusal));
+        assert_eq!(PassList::new(&[WHOLE, pass]), Err(refusal));
+        assert_eq!(plane.values(), [10, 10, 20, 30]);
+    }
+    let frame = Frame::new(1, 1, vec![1, 2, 3]).unwrap();
+    let settings = Settings { last: 8, ..Settings::HOUSE };
+    assert_eq!(frame.enhanced(&settings, &mut memory), Err(Refusal::Level));
+}
+
+#[test]
+fn a_list_has_at_most_1024_passes() {
+    assert_eq!(PassList::new(&[WHOLE; 1_024]).unwrap().bytes().len(), 7 + 12 * 1_024);
+    assert_eq!(PassList::new(&[WHOLE; 1_025]), Err(Refusal::ListLength));
+    assert_eq!(PassList::new(&[WHOLE; 65_536]), Err(Refusal::ListLength));
+}
+
+#[test]
+fn memory_serves_planes_of_any_size() {
+    let mut memory = Memory::new();
+    for side in [1, 40, 3, 100] {
+        let values: Vec<u8> = (0..side * side).map(|p| p as u8).collect();
+        let mut plane = Plane::new(side, side, values.clone()).unwrap();
+        let mut again = Plane::new(side, side, values).unwrap();
+        assert_eq!(plane.pass(&WHOLE, &mut memory), again.pass(&WHOLE, &mut Memory::with_pixels(side * side)));
+        assert_eq!(plane, again);
+    }
+}
+
+#[test]
+fn lent_memory_that_is_too_short_is_refused() {
+    let (mut plane, mut marks, mut queue) = ([1, 2], [0; 2], [0; 2]);
+    assert_eq!(lent::pass(&mut plane, &mut marks[..1], &mut queue, 2, 1, &WHOLE), Err(Refusal::Memory));
+    assert_eq!(lent::pass(&mut plane, &mut marks, &mut queue[..1], 2, 1, &WHOLE), Err(Refusal::Memory));
+    assert_eq!(lent::recolour(&[0; 6], 2, 1, &plane, &mut [0; 5]), Err(Refusal::Output));
+    assert_eq!(lent::write(&[0; 6], 2, 1, &mut [0; 16]), Err(Refusal::Output));
+    assert_eq!(lent::write(&[0; 6], 2, 1, &mut [0; 17]), Ok(17));
+}
+
+#[test]
+fn no_memory_at_all_is_refused() {
+    unsafe {
+        let mut numbers = [7; 3];
+        assert_eq!(ffi::mlhe_read(null(), 0, numbers.as_mut_ptr(), 3), -10);
+        assert_eq!(ffi::mlhe_read(b"P6 1 1 255 abc".as_ptr(), 14, null_mut(), 0), -14);
+        assert_eq!(numbers, [7; 3]);
+        assert_eq!(ffi::mlhe_write(null(), 0, 1, 1, null_mut(), 0), -3);
+        assert_eq!(ffi::mlhe_intensity(null(), 0, 1, 1, null_mut(), 0), -3);
+        assert_eq!(ffi::mlhe_run_list(null(), 0, null_mut(), 0, null_mut(), 0, null_mut(), 0, 1, 1), -3);
+        assert_eq!(
+            ffi::mlhe_run_list(null(), 0, [1].as_mut_ptr(), 1, [0].as_mut_ptr(), 1, [0].as_mut_ptr(), 1, 1, 1),
+            -16
+        );
+    }
+}
+
+#[test]
+fn a_rule_that_there_is_not_is_refused_before_the_other_numbers() {
+    let (mut plane, mut marks, mut queue) = ([1u8], [0u8], [0u32]);
+    for (rule, second, refusal) in [(2, 0, -17), (255, 0, -17), (1, 1, -17), (1, 0, -5), (0, 1, -5)] {
+        let answer = unsafe {
+            let (plane, marks, queue) = (plane.as_mut_ptr(), marks.as_mut_ptr(), queue.as_mut_ptr());
+            ffi::mlhe_pass(plane, 1, marks, 1, queue, 1, 1, 1, 9, 8, 0, rule, 0, second)
+        };
+        assert_eq!(answer, refusal);
+    }
+}
