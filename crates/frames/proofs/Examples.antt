@@ -63,5 +63,10 @@ small = ascii "P6\n2 1\n255\n" ++ (10 ∷ 10 ∷ 10 ∷ 20 ∷ 20 ∷ 20 ∷ [])
 
 -- example P: the frame is written as it was read
 pub P : programOutput small ≡ small
-unfolding programOutput enhancedFrame readAnswer header mark field number isDigit isWhite frameRefusal sizeRefusal decimal heading four linked component first plainTone tone kept third pixelIntensity intensity greatestChannel newChannel recolour inside values changes retone newTone passed passCount planeRefusal roomRefusal areaRefusal ruleRefusal numbersRefusal lentRefusal passRefusal call chain section level levels passes callOf enhanced
+unfolding programOutput enhancedFrame readAnswer header mark field number isDigit isWhite frameRefusal sizeRefusal
+    decimal heading four linked component first plainTone tone kept
+    third pixelIntensity intensity greatestChannel newChannel recolour
+    inside values changes retone newTone passed passCount
+    planeRefusal roomRefusal areaRefusal ruleRefusal numbersRefusal lentRefusal passRefusal call chain
+    section level levels passes callOf enhanced
 P = refl

@@ -1,6 +1,7 @@
 // The program without its input and output: from the bytes that it read to the bytes that it writes.
 //
 // program_output   the enhanced frame, or the line of a refusal
+// mlhe_program     the same for callers in C and Rust, in `export`
 ghost use lib.ListN.{drop};
 ghost use Rattle.netpbm.specs.Frames.{IsFrame};
 ghost use Rattle.frames.specs.Program.{greatestPixels, refusalLine, enhancedFrame, programOutput, Emitted};
