@@ -8,7 +8,7 @@ set -euo pipefail
 cd "$(dirname "$0")/.."
 
 # The files of cases that the program runs, in this order. Those of `program` are for the program `mlhe`.
-names=(intensity pass chain recolour enhance list read write)
+names=(intensity pass chain recolour enhance list passes read write)
 
 made=$(mktemp -d)
 trap 'rm -rf "$made"' EXIT

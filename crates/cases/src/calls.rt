@@ -3,10 +3,9 @@ use crate::head::Case;
 use crate::lines;
 use crate::memory;
 use crate::parts;
+use crate::records;
 use enhance::Settings;
 use model::Answer;
-use model::Pass;
-use tones::Rule;
 
 // Room for marks and queue, and for an output.
 const MEMORY: usize = 320;
@@ -16,33 +15,9 @@ const OUTPUT: usize = 3200;
 // What every byte of an output is before the call.
 const FILL: u8 = 170;
 
-// The tone rule of a case.
-fn rule_of(case: Case) -> Rule {
-    let first = case.first;
-    let second = case.second;
-    if case.rule == 0 {
-        return Rule::Plain {
-            low: first,
-            high: second,
-        };
-    }
-    Rule::Limited { k: first }
-}
-
-// The pass of a case.
-fn pass_of(case: Case) -> Pass {
-    let rule = rule_of(case);
-    Pass {
-        a: case.a,
-        b: case.b,
-        area: case.area,
-        rule: rule,
-    }
-}
-
 // The settings of a case.
 fn settings_of(case: Case) -> Settings {
-    let rule = rule_of(case);
+    let rule = records::case_rule(case);
     Settings::new(case.last, case.area, rule)
 }
 
@@ -62,7 +37,14 @@ pub fn intensity(case: Case, frame: &[u8], plane: &mut [u8]) {
 
 // A pass with lent working memory.
 fn pass_with(case: Case, plane: &mut [u8], marks: &mut [u8], queue: &mut [u32]) {
-    let answer = passes::pass(plane, marks, queue, case.w, case.h, pass_of(case));
+    let answer = passes::pass(
+        plane,
+        marks,
+        queue,
+        case.w,
+        case.h,
+        records::case_pass(case),
+    );
     lines::answer(answer);
     lines::bytes(plane);
     end_with_strays(answer, plane.len(), marks, queue);
@@ -95,6 +77,30 @@ pub fn list(case: Case, bytes: &[u8], plane: &mut [u8]) {
     memory::fill_marks(&mut marks);
     memory::fill_queue(&mut queue);
     list_with(
+        case,
+        bytes,
+        plane,
+        parts::front(&mut marks, case.marks),
+        parts::front_queue(&mut queue, case.queue),
+    );
+}
+
+// Passes in memory, with lent working memory.
+fn passes_with(case: Case, bytes: &[u8], plane: &mut [u8], marks: &mut [u8], queue: &mut [u32]) {
+    let list = records::passes_of(bytes);
+    let count = bytes.len() / records::RECORD;
+    let answer = passarrays::run_array(list, count, plane, marks, queue, case.w, case.h);
+    lines::answer(answer);
+    lines::bytes(plane);
+    end_with_strays(answer, plane.len(), marks, queue);
+}
+
+pub fn passes(case: Case, bytes: &[u8], plane: &mut [u8]) {
+    let mut marks = [0u8; MEMORY];
+    let mut queue = [0u32; MEMORY];
+    memory::fill_marks(&mut marks);
+    memory::fill_queue(&mut queue);
+    passes_with(
         case,
         bytes,
         plane,

@@ -27,12 +27,12 @@ pub struct Case {
 }
 
 // The number of two bytes.
-fn short_of(low: u8, high: u8) -> u16 {
+pub fn short_of(low: u8, high: u8) -> u16 {
     low as u16 + 256 * high as u16
 }
 
 // The number of two 16-bit numbers.
-fn long_of(low: u16, high: u16) -> u32 {
+pub fn long_of(low: u16, high: u16) -> u32 {
     low as u32 + 65536 * high as u32
 }
 

@@ -11,6 +11,7 @@ mod head;
 mod lines;
 mod memory;
 mod parts;
+mod records;
 
 use head::Case;
 use head::HEAD;
@@ -38,6 +39,7 @@ fn answer(case: Case, bytes: &[u8], plane: &mut [u8]) {
         2 => calls::recolour(case, bytes, plane),
         3 => calls::enhance(case, bytes, plane),
         4 => calls::list(case, bytes, plane),
+        5 => calls::passes(case, bytes, plane),
         6 => calls::read(case, bytes),
         7 => calls::write(case, bytes),
         _ => lines::end(),

@@ -9,7 +9,8 @@
 //!
 //! DIR/NAME.in holds cases, DIR/NAME.out one line for each of them, in their order. NAME is `intensity`, `pass`,
 //! `chain`, `recolour`, `enhance`, `list`, `passes`, `read`, `write` or `program`. `chain` mixes the kinds 0, 1 and 2;
-//! every other file has one kind of case. A file of cases has at most 60,000 bytes.
+//! every other file has one kind of case. A file of cases has at most 60,000 bytes. `tests/vectors.sh` joins all files
+//! but `program` into the input and the expected output of the program `crates/vectors`, which calls the library.
 //!
 //! # A case
 //!
@@ -40,7 +41,7 @@
 //! | | | plane: the plane's bytes before the call (0 to 5) |
 //!
 //! Passes in memory (kind 5) are given by 12 bytes each: a, b, rule (0 or 1), 0, area (4 bytes), then low and high or
-//! k and 0 (2 bytes each). The list in memory has as many passes as `bytes` has twelves, at most 1,026.
+//! k and 0 (2 bytes each). The list in memory has as many passes as `bytes` has twelves, at most 1,025.
 //!
 //! # Running a case
 //!

@@ -1,0 +1,83 @@
+// Passes by value: of a case, and of the records of 12 bytes that stand for a list in memory.
+ghost use Prim.Native.Nat.{_<_};
+use crate::head;
+use crate::head::Case;
+use model::Pass;
+use passarrays::ROOM;
+use tones::Rule;
+
+// The length of a record.
+pub const RECORD: usize = 12;
+
+// The tone rule of these numbers.
+fn rule_of(rule: u8, first: u16, second: u16) -> Rule {
+    if rule == 0 {
+        return Rule::Plain {
+            low: first,
+            high: second,
+        };
+    }
+    Rule::Limited { k: first }
+}
+
+// The tone rule of a case.
+pub fn case_rule(case: Case) -> Rule {
+    rule_of(case.rule, case.first, case.second)
+}
+
+// The pass of a case.
+pub fn case_pass(case: Case) -> Pass {
+    let rule = case_rule(case);
+    Pass {
+        a: case.a,
+        b: case.b,
+        area: case.area,
+        rule: rule,
+    }
+}
+
+// The byte at index i, or 0 beyond the end.
+fn byte_at(bytes: &[u8], i: usize) -> u8 {
+    if i < bytes.len() { bytes[i] } else { 0 }
+}
+
+// The 16-bit number at index i, low byte first.
+fn short_at(bytes: &[u8], i: usize) -> u16
+    requires { ⌜ i < 65536 ⌝ }
+{
+    head::short_of(byte_at(bytes, i), byte_at(bytes, i + 1))
+}
+
+// The 32-bit number at index i, low byte first.
+fn long_at(bytes: &[u8], i: usize) -> u32
+    requires { ⌜ i < 65000 ⌝ }
+{
+    head::long_of(short_at(bytes, i), short_at(bytes, i + 2))
+}
+
+// The pass of the record that starts at index i.
+fn pass_at(bytes: &[u8], i: usize) -> Pass
+    requires { ⌜ i < 60000 ⌝ }
+{
+    let rule = rule_of(
+        byte_at(bytes, i + 2),
+        short_at(bytes, i + 8),
+        short_at(bytes, i + 10),
+    );
+    Pass {
+        a: byte_at(bytes, i),
+        b: byte_at(bytes, i + 1),
+        area: long_at(bytes, i + 4),
+        rule: rule,
+    }
+}
+
+// The passes of all records, and others after them.
+pub fn passes_of(bytes: &[u8]) -> [Pass; ROOM] {
+    let first = pass_at(bytes, 0);
+    let mut list = [first; ROOM];
+    for j in 0..ROOM {
+        list[j] = pass_at(bytes, RECORD * j);
+    }
+    list
+}
