@@ -27,4 +27,5 @@ diff -rq "$made/tests" tests/vectors
 for name in stdin stdout; do
     cmp "$made/crates/$name" "crates/vectors/$name"
 done
-echo "stored test cases: $(cat tests/vectors/*.out | wc -l) in tests/vectors, $(wc -l < crates/vectors/stdout) in crates/vectors"
+all=$(cat tests/vectors/*.out | wc -l)
+echo "stored test cases: $all, of which the program runs $(wc -l < crates/vectors/stdout)"

@@ -1,5 +1,5 @@
--- `cases::run_cases` is safe and ends. The loop's invariant: the plane's buffer keeps its length. The measure is the number of
--- cases that may still come. Assumes nothing.
+-- `cases::run_cases` is safe and ends. The loop's invariant: the plane's buffer keeps its length. The measure is the
+-- number of cases that may still come. Assumes nothing.
 use Prim.Native.Nat.{_-_}
 use mathlib.Core.Path.{_≡_}
 use native.Mathlib.Omega.{arith}

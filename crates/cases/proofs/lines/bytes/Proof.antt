@@ -1,5 +1,5 @@
--- `cases::lines::bytes` is safe and ends. Nothing has to hold from turn to turn. The measure is what is left of the length.
--- Assumes nothing.
+-- `cases::lines::bytes` is safe and ends. Nothing has to hold from turn to turn. The measure is what is left of the
+-- length. Assumes nothing.
 use Prim.Native.Nat.{_-_}
 use native.Mathlib.Omega.{arith}
 use borrow.Author.Needs.{needs}

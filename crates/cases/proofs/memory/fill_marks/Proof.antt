@@ -1,5 +1,5 @@
--- `cases::memory::fill_marks` is safe and ends. The loop's invariant: marks keep their length. The measure is what is left of it.
--- Assumes nothing.
+-- `cases::memory::fill_marks` is safe and ends. The loop's invariant: marks keep their length. The measure is what is left
+-- of it. Assumes nothing.
 use Prim.Native.Nat.{_-_}
 use mathlib.Core.Path.{_≡_}
 use native.Mathlib.Omega.{arith}
@@ -41,4 +41,14 @@ returns c = search needs
 pub fill-marks-spec : {M : Type 1} → statement M
 fill-marks-spec =
     tie.close
-    (tie.spec Inv-loop μ-loop loop-holds mark-at-requires slice-write-marks add-i loop-less loop-again same-length returns)
+    (tie.spec
+    Inv-loop
+    μ-loop
+    loop-holds
+    mark-at-requires
+    slice-write-marks
+    add-i
+    loop-less
+    loop-again
+    same-length
+    returns)

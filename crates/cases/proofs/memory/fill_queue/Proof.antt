@@ -1,5 +1,5 @@
--- `cases::memory::fill_queue` is safe and ends. The loop's invariant: queue keep their length. The measure is what is left of it.
--- Assumes nothing.
+-- `cases::memory::fill_queue` is safe and ends. The loop's invariant: the queue keeps its length. The measure is what is left
+-- of it. Assumes nothing.
 use Prim.Native.Nat.{_-_}
 use mathlib.Core.Path.{_≡_}
 use native.Mathlib.Omega.{arith}
@@ -44,4 +44,15 @@ returns c = search needs
 pub fill-queue-spec : {M : Type 1} → statement M
 fill-queue-spec =
     tie.close
-    (tie.spec Inv-loop μ-loop loop-holds queued-at-requires mul-queue slice-write-queue add-i loop-less loop-again same-length returns)
+    (tie.spec
+    Inv-loop
+    μ-loop
+    loop-holds
+    queued-at-requires
+    mul-queue
+    slice-write-queue
+    add-i
+    loop-less
+    loop-again
+    same-length
+    returns)

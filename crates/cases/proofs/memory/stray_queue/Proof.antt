@@ -1,5 +1,5 @@
--- `cases::memory::stray_queue` meets its contract. The loop's invariant: the count is at most the number of entries of the queue passed,
--- and at most the length. The measure is what is left of the length. Assumes nothing.
+-- `cases::memory::stray_queue` meets its contract. The loop's invariant: the count is at most the number of entries
+-- passed, and at most the length. The measure is what is left of the length. Assumes nothing.
 use Prim.Native.Nat.{_-_, _≤_}
 use native.Mathlib.Omega.{arith}
 use borrow.Author.Needs.{needs}

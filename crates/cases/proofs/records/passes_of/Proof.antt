@@ -1,5 +1,5 @@
--- `cases::records::passes_of` is safe and ends: every record of the 1,025 starts below 60,000, and nothing else has to hold
--- from turn to turn. The measure is the number of records that are left. Assumes nothing.
+-- `cases::records::passes_of` is safe and ends: each of the 1,025 records starts below 60,000, and nothing else has to
+-- hold from turn to turn. The measure is the number of records that are left. Assumes nothing.
 use Prim.Native.Nat.{_-_}
 use native.Mathlib.Omega.{arith}
 use borrow.Author.Needs.{needs}
