@@ -9,7 +9,7 @@
 //!
 //! DIR/NAME.in holds cases, DIR/NAME.out one line for each of them, in their order. NAME is `intensity`, `pass`,
 //! `chain`, `recolour`, `enhance`, `list`, `passes`, `read`, `write` or `program`. `chain` mixes the kinds 0, 1 and 2;
-//! every other file has one kind of case. A file of cases has at most 60,000 bytes. `tests/vectors.sh` joins all files
+//! every other file has one kind of case. A file of cases has at most 65,000 bytes. `tests/vectors.sh` joins all files
 //! but `program` into the input and the expected output of the program `crates/vectors`, which calls the library.
 //!
 //! # A case
@@ -75,7 +75,7 @@ use std::path::Path;
 use std::{env, fs, process};
 
 /// The greatest length of a file of cases.
-const GREATEST_FILE: usize = 60_000;
+const GREATEST_FILE: usize = 65_000;
 
 fn main() -> io::Result<()> {
     let arguments: Vec<String> = env::args().skip(1).collect();
@@ -617,6 +617,15 @@ fn list_cases() -> Vec<Case> {
             case.bytes[at] = random.one_of(&[0, 1, 2, 16, 255]);
         }
         cases.push(case);
+    }
+    // A sound list with each of its bytes changed in turn, a little and much.
+    let whole = list(5, 1, &[EXAMPLE, Pass { area: 2, ..EXAMPLE }], &parts);
+    for at in 0..whole.bytes.len() {
+        for change in [1, 128] {
+            let mut case = whole.clone();
+            case.bytes[at] ^= change;
+            cases.push(case);
+        }
     }
     let sound_list = list(2, 2, &[EXAMPLE, EXAMPLE], &[10, 20, 200, 10]);
     let mut tests = size_tests();
