@@ -102,8 +102,10 @@ fn equalise(
     span: u8,
     settings: Settings,
 ) -> u32
-    requires { ⌜ Ready w h (length (now plane)) (length (now marks)) (length (now queue)) settings × Due w h a b code span settings (now plane) (now marks) ⌝ }
-    ensures { λ r. ⌜ Equalised w h a b code span settings (now (plane .entry)) (now (marks .entry)) (now (queue .entry)) (now (plane .exit)) (now (marks .exit)) (now (queue .exit)) r ⌝ }
+    requires { ⌜ Ready w h (length (now plane)) (length (now marks)) (length (now queue)) settings
+        × Due w h a b code span settings (now plane) (now marks) ⌝ }
+    ensures { λ r. ⌜ Equalised w h a b code span settings (now (plane .entry)) (now (marks .entry))
+        (now (queue .entry)) (now (plane .exit)) (now (marks .exit)) (now (queue .exit)) r ⌝ }
 {
     let last = settings.last;
     let area = settings.area;
@@ -141,8 +143,10 @@ fn split(
     span: u8,
     settings: Settings,
 ) -> u32
-    requires { ⌜ Ready w h (length (now plane)) (length (now marks)) (length (now queue)) settings × Halves w h a b code span settings (now plane) (now marks) ⌝ }
-    ensures { λ r. ⌜ Halved w h a b code span settings (now (plane .entry)) (now (marks .entry)) (now (queue .entry)) (now (plane .exit)) (now (marks .exit)) (now (queue .exit)) r ⌝ }
+    requires { ⌜ Ready w h (length (now plane)) (length (now marks)) (length (now queue)) settings
+        × Halves w h a b code span settings (now plane) (now marks) ⌝ }
+    ensures { λ r. ⌜ Halved w h a b code span settings (now (plane .entry)) (now (marks .entry))
+        (now (queue .entry)) (now (plane .exit)) (now (marks .exit)) (now (queue .exit)) r ⌝ }
 {
     let mid = ((a as u16 + b as u16) / 2) as u8;
     let half = (span - 1) / 2;
@@ -192,7 +196,8 @@ fn run_levels(
     settings: Settings,
 ) -> u32
     requires { ⌜ Ready w h (length (now plane)) (length (now marks)) (length (now queue)) settings ⌝ }
-    ensures { λ r. ⌜ Run w h settings (now (plane .entry)) (now (marks .entry)) (now (queue .entry)) (now (plane .exit)) (now (marks .exit)) (now (queue .exit)) r ⌝ }
+    ensures { λ r. ⌜ Run w h settings (now (plane .entry)) (now (marks .entry)) (now (queue .entry))
+        (now (plane .exit)) (now (marks .exit)) (now (queue .exit)) r ⌝ }
 {
     let last = settings.last;
     let rule = settings.rule;
@@ -283,8 +288,11 @@ fn enhance_frame(
     queue: &mut [u32],
     output: &mut [u8],
 ) -> u32
-    requires { ⌜ enhanceRefusal w h (length (now frame)) (length (now plane)) (length (now marks)) (length (now queue)) (length (now output)) settings ≡ 0 ⌝ }
-    ensures { λ r. ⌜ Enhanced w h settings (now (frame .entry)) (now (marks .entry)) (now (queue .entry)) (now (output .entry)) r (now (plane .exit)) (now (marks .exit)) (now (queue .exit)) (now (output .exit)) ⌝ }
+    requires { ⌜ enhanceRefusal w h (length (now frame)) (length (now plane)) (length (now marks))
+        (length (now queue)) (length (now output)) settings ≡ 0 ⌝ }
+    ensures { λ r. ⌜ Enhanced w h settings (now (frame .entry)) (now (marks .entry)) (now (queue .entry))
+        (now (output .entry)) r (now (plane .exit)) (now (marks .exit)) (now (queue .exit)) (now (output .exit))
+        ⌝ }
 {
     let filled = colours::intensity(frame, w, h, plane);
     let count = run_levels(plane, marks, queue, w, h, settings);
@@ -304,7 +312,9 @@ pub fn enhance(
     queue: &mut [u32],
     output: &mut [u8],
 ) -> Answer
-    ensures { λ r. ⌜ EnhanceOutcome w h settings (now (frame .entry)) (now (plane .entry)) (now (marks .entry)) (now (queue .entry)) (now (output .entry)) r (now (plane .exit)) (now (marks .exit)) (now (queue .exit)) (now (output .exit)) ⌝ }
+    ensures { λ r. ⌜ EnhanceOutcome w h settings (now (frame .entry)) (now (plane .entry)) (now (marks .entry))
+        (now (queue .entry)) (now (output .entry)) r (now (plane .exit)) (now (marks .exit)) (now (queue .exit))
+        (now (output .exit)) ⌝ }
 {
     let refusal = refusal_of(
         w,
