@@ -224,6 +224,24 @@ void growth_with_levels_and_single_passes() {
     }
 }
 
+// A row of a pass on [0, greatest].
+void row(const std::string &name, const planes::Plane &plane, int greatest, const Parameters &parameters) {
+    row(name, plane.values.size(), time_pass(plane, 0, greatest, parameters));
+}
+
+// A pass with least area 1 over the planes that are hardest on a search and a flood.
+void single_passes_by_shape() {
+    const int shapes[3][2] = {{1024, 1024}, {4096, 256}, {256, 4096}};
+    Parameters parameters = published::house;
+    parameters.area = 1;
+    for (const auto &shape : shapes) {
+        head("Single passes, least area 1, " + sides(shape[0], shape[1]));
+        row("flat [0, 255]", planes::make("flat", shape[0], shape[1]), 255, parameters);
+        row("noise [0, 127]", planes::make("noise", shape[0], shape[1]), 127, parameters);
+        row("comb [0, 127]", planes::make("comb", shape[0], shape[1]), 127, parameters);
+    }
+}
+
 void summary() {
     if (!library::linked) {
         std::printf("\nThe library is not linked; the published structure's bytes and counts are right.\n");
@@ -253,6 +271,7 @@ int main(int argc, char **argv) {
     least_area_1();
     growth_with_pixels();
     growth_with_levels_and_single_passes();
+    single_passes_by_shape();
     summary();
     return 0;
 }
