@@ -5,9 +5,9 @@ use mathlib.Core.Bool.{Bool, true, false, not, _||_}
 use native.Mathlib.Nat.{mul-le-mul}
 use native.Mathlib.Omega.{arith}
 use lib.Dec.{eqb, ltb}
-use borrow.Author.Tests.{le-ltb, ltb-false, eq-eqb, ne-eqb, eqb-true, not-false}
+use borrow.Author.Tests.{le-ltb, ltb-false, eq-eqb, eqb-true, not-false}
 use Rattle.planes.specs.Refusals.{when, _▷_, badSide, sizeRefusal, Sized}
-use Rattle.planes.proofs.Refusals.{when-none, ▷-none, sized}
+use Rattle.planes.proofs.Refusals.{when-none, ▷-none, sized, sized-none}
 use Rattle.netpbm.specs.Reading.{frameRefusal}
 
 -- sides of at most 4,096 have a product that is far from overflow
@@ -15,15 +15,6 @@ pub few-pixels : (w h limit : ℕ) → sizeRefusal w h limit ≡ 0 → w * h ≤
 few-pixels w h limit e =
     let size = sized w h limit e in
     mul-le-mul {n₂ = 4096} {m₂ = 4096} (size .narrow) (size .low)
-
-good-side : (x : ℕ) → 1 ≤ x → x ≤ 4096 → badSide x ≡ false
-good-side x least most = simp (ne-eqb x 0 (λ e. omega arith), le-ltb 4096 x most)
-
--- a size within the limits is not refused
-pub size-accepted : {w h limit : ℕ} → Sized w h limit → sizeRefusal w h limit ≡ 0
-unfolding sizeRefusal
-size-accepted {w} {h} {limit} s =
-    rw (good-side w (s .wide) (s .narrow), good-side h (s .high) (s .low), le-ltb limit (w * h) (s .few))
 
 -- what a frame that is not refused has
 pub record Accepted (w h maxval raster limit : ℕ) : Type 0 where
@@ -52,7 +43,7 @@ unfolding frameRefusal
 accepted-frame {w} {h} {maxval} {raster} {limit} a =
     let filled = a .filled in
     simp (
-      size-accepted (a .size),
+      sized-none w h limit (a .size),
       eq-eqb maxval 255 (a .maxval-is),
       le-ltb raster (3 * (w * h)) (omega arith),
       le-ltb (3 * (w * h)) raster (omega arith),
