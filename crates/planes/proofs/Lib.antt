@@ -2,6 +2,7 @@ pub mod Tests
 pub mod Lists
 pub mod Counts
 pub mod Rounding
+pub mod Quotients
 pub mod Refusals
 pub mod Links
 pub mod Neighbours
