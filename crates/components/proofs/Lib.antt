@@ -6,3 +6,4 @@ pub mod Runs
 pub mod Spreading
 pub mod Flooding
 pub mod Four
+pub mod Whole

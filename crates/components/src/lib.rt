@@ -3,6 +3,7 @@
 //
 // next_pixel   the first pixel from one on, in reading order, that has the code
 // flood        takes the component of a pixel: its marks become 0, and its pixels are the first entries of the queue
+// take_plane   the same for a plane whose pixels all have one code, which is one component: nothing is searched
 //
 // A pixel is taken with its run: the pixels of its row that have the code and follow one another. Which pixels of other
 // rows are neighbours is known to `spread` alone.
@@ -12,6 +13,7 @@ ghost use Rattle.planes.specs.Neighbours.{four};
 ghost use Rattle.components.specs.Search.{Searchable, Tells, Skipped, NextPixel};
 ghost use Rattle.components.specs.Floods.{rowEnd, Above, Below, RunStart, RunTaken, Reached};
 ghost use Rattle.components.specs.Floods.{Room, Spreadable, Spread, Floodable, Flooded};
+ghost use Rattle.components.specs.Floods.{Takeable, PlaneTaken};
 
 // What a search finds.
 pub enum Found {
@@ -187,4 +189,19 @@ pub fn flood(
         tail = spread(marks, queue, w, n, code, p, tail);
     }
     tail
+}
+
+// Takes the whole plane, whose pixels all have one code, as one component: the marks become 0, and the queue lists all
+// pixels. Their number.
+pub fn take_plane(marks: &mut [u8], queue: &mut [u32], w: usize, h: usize) -> usize
+    requires { ⌜ Takeable (now marks) (now queue) w h ⌝ }
+    ensures { λ r. ⌜ PlaneTaken (four w) (w * h) (now (marks .entry)) (now (queue .entry)) (now (marks .exit))
+        (now (queue .exit)) r ⌝ }
+{
+    let n = w * h;
+    for k in 0..n {
+        marks[k] = 0;
+        queue[k] = k as u32;
+    }
+    n
 }

@@ -1,0 +1,131 @@
+-- A plane whose pixels all have one code is one component under the four neighbours: a chain leads from its first pixel
+-- down the first column and along the row of any other. So the pixels taken in reading order, one after the other, are
+-- that component. Assumes nothing.
+use Prim.Native.Nat.{ℕ, zero, suc, _+_, _*_, _/_, _%_, _≤_, _<_}
+use mathlib.Core.Path.{_≡_, refl, sym, ap, subst, _∙_}
+use mathlib.Core.Logic.{inl, inr}
+use mathlib.Core.Bool.{Bool, true, false, cond, _&&_}
+use mathlib.Core.List.{List}
+use native.Mathlib.Nat.{div-add-mod', mod-lt, add-zero, zero-mul}
+use native.Mathlib.Omega.{arith}
+use lib.ListN.{length, set, length-set}
+use borrow.Author.Tests.{le-ltb}
+use Rattle.planes.specs.Lists.{at, Beyond}
+use Rattle.planes.specs.Neighbours.{Near, four, Chain, here, step, linked}
+use Rattle.planes.specs.Enumerations.{Enumerates}
+use Rattle.planes.proofs.Tests.{less-or-not}
+use Rattle.planes.proofs.Lists.{beyond-refl}
+use Rattle.planes.proofs.Stores.{at-set}
+use Rattle.planes.proofs.Neighbours.{near-right, down-of}
+use Rattle.planes.proofs.Enumerations.{entries-size}
+use Rattle.components.specs.Regions.{alike, region}
+use Rattle.components.specs.Floods.{PlaneTaken}
+use Rattle.components.proofs.Regions.{alike-of, region-of}
+
+-- ## All pixels are one component
+
+-- the first n pixels of a plane of w columns have the code
+module _ (w n code : ℕ) (marks : List ℕ) (wide : 1 ≤ w) (all : (p : ℕ) → p < n → at marks p ≡ code) where
+  -- a chain leads from the first pixel to p
+  abbrev Leads : ℕ → Type 0
+  Leads p = Chain (alike (four w) marks code) n 0 p
+
+  -- and on to a later neighbour, which is q as well as r
+  onward : (p q r : ℕ) → Leads p → four w p q ≡ true → q ≡ r → p < r → r < n → Leads r
+  onward p q r c e d l h =
+      subst Leads d (step c (alike-of (four w) n code marks (all p (omega arith)) (all q (omega arith)) e) (omega arith))
+
+  -- to the first pixel of row y, and to that in column x
+  down : (y : ℕ) → y * w < n → Leads (y * w)
+  down zero h = subst Leads (sym (zero-mul w)) here
+  down (suc y) h = onward (y * w) (y * w + w) (suc y * w) (down y (omega arith)) (down-of w (y * w) wide)
+      (omega arith) (omega arith) h
+
+  along-row : (y x : ℕ) → x < w → y * w + x < n → Leads (y * w + x)
+  along-row y zero l h = rw add-zero (down y (omega arith))
+  along-row y (suc x) l h =
+      onward (y * w + x) (y * w + x + 1) (y * w + suc x) (along-row y x (omega arith) (omega arith))
+      (near-right w y x (omega arith) (omega arith)) (omega arith) (omega arith) h
+
+  pub plane-chain : (p : ℕ) → p < n → Leads p
+  plane-chain p h =
+      let split = div-add-mod' p w in
+      subst Leads split (along-row (p / w) (p % w) (mod-lt p wide) (omega arith))
+
+  pub plane-region : (p : ℕ) → p < n → region (four w) n marks code 0 p ≡ true
+  plane-region p h = region-of (four w) n code marks 0 p (omega arith) h (plane-chain p h)
+
+-- no pixel past the first n is in a region
+region-past : (near : Near) (n code : ℕ) (marks : List ℕ) (s p : ℕ) → n ≤ p → region near n marks code s p ≡ false
+unfolding region
+region-past near n code marks s p h = ap (_&& linked (alike near marks code) n s p) (le-ltb p n h)
+
+-- ## Pixels taken in reading order
+
+-- the first k marks are 0, and the first k entries of the queue are their own numbers; all other marks and entries, and
+-- both lengths, are what they were
+pub record Taking (k : ℕ) (marks queue marks' queue' : List ℕ) : Type 0 where
+  pub off : (p : ℕ) → p < k → at marks' p ≡ 0
+  pub listed : (p : ℕ) → p < k → at queue' p ≡ p
+  pub marks-rest : Beyond k marks marks'
+  pub queue-rest : Beyond k queue queue'
+
+pub taking-none : (marks queue : List ℕ) → Taking 0 marks queue marks queue
+taking-none marks queue = record {
+  off = λ p h. absurd (omega arith);
+  listed = λ p h. absurd (omega arith);
+  marks-rest = beyond-refl 0 marks;
+  queue-rest = beyond-refl 0 queue;
+}
+
+-- a store to entry k leaves those after it
+beyond-more : {k : ℕ} {xs xs' : List ℕ} (v : ℕ) → Beyond k xs xs' → k < length xs' → Beyond (k + 1) xs (set xs' k v)
+beyond-more {k} {xs} {xs'} v b h = record {
+  size = rw length-set (b .size);
+  rest = λ p l. at-set (λ (x : ℕ). x ≡ at xs p) xs' k p v h
+      (λ q. absurd (omega arith)) (λ q. b .rest p (omega arith));
+}
+
+pub taking-more : {k : ℕ} {marks queue marks' queue' : List ℕ} → Taking k marks queue marks' queue'
+    → k < length marks' → k < length queue' → Taking (k + 1) marks queue (set marks' k 0) (set queue' k k)
+taking-more {k} {marks' = marks'} {queue' = queue'} T h l = record {
+  off = λ p b. at-set (_≡ 0) marks' k p 0 h (λ q. refl) (λ q. T .off p (omega (arith, q)));
+  listed = λ p b. at-set (_≡ p) queue' k p k l sym (λ q. T .listed p (omega (arith, q)));
+  marks-rest = beyond-more 0 (T .marks-rest) h;
+  queue-rest = beyond-more k (T .queue-rest) l;
+}
+
+-- ## All pixels taken
+
+module _ {n : ℕ} {marks queue marks' queue' : List ℕ} (T : Taking n marks queue marks' queue')
+    (room : n ≤ length queue) where
+  -- the queue lists a set that has all n pixels
+  lists-all : (S : ℕ → Bool) → ((p : ℕ) → p < n → S p ≡ true) → Enumerates queue' n n S
+  lists-all S has = record {
+    fits = omega (arith, T .queue-rest .size);
+    below = λ k l. omega (arith, T .listed k l);
+    inside = λ k l. ap S (T .listed k l) ∙ has k l;
+    distinct = λ j k l h e. absurd (omega (arith, T .listed j (omega arith), T .listed k h));
+    every = λ p h e. record { index = p; below = h; holds = T .listed p h };
+  }
+
+  -- and its marks are 0, where it has no others
+  all-off : (S : ℕ → Bool) → ((p : ℕ) → p < n → S p ≡ true) → ((p : ℕ) → n ≤ p → S p ≡ false)
+      → (p : ℕ) → at marks' p ≡ cond (S p) 0 (at marks p)
+  all-off S has none p = elim (less-or-not p n) [
+    | inl h ↦ rw (has p h) (T .off p h)
+    | inr h ↦ rw (none p h) (T .marks-rest .rest p h)
+  ]
+
+  pub plane-taken : (w : ℕ) → 1 ≤ w → PlaneTaken (four w) n marks queue marks' queue' n
+  plane-taken w wide code all =
+      let component = plane-region w n code marks wide all in
+      let pixels = lists-all (region (four w) n marks code 0) component in
+      record {
+        size = entries-size pixels;
+        enumerates = pixels;
+        marks-are = all-off (region (four w) n marks code 0) component (region-past (four w) n code marks 0);
+        rest = T .queue-rest .rest;
+        marks-length = T .marks-rest .size;
+        queue-length = T .queue-rest .size;
+      }
