@@ -21,11 +21,12 @@ use Rattle.planes.proofs.Tests.{or-right, or-false, same-test, less-or-not}
 use Rattle.planes.proofs.Stores.{at-set}
 use Rattle.planes.proofs.Neighbours.{filled}
 use Rattle.planes.proofs.Enumerations.{among-at, among-place, entries-size}
+use Rattle.components.specs.Rows.{Width}
 use Rattle.components.specs.Regions.{alike, region}
 use Rattle.components.specs.Floods.{inRow, rowEnd, Shut, Joined, Beyond, Taken, none, one, Reached, Spread}
 use Rattle.components.specs.Floods.{Room, Floodable, Flooded}
 use Rattle.components.proofs.Regions.{alike-of, alike-to, alike-near, alike-on, region-below, region-linked}
-use Rattle.components.proofs.Rows.{row-end-le}
+use Rattle.components.proofs.Rows.{row-end-le, width-of}
 use Rattle.components.proofs.Taken.{room-for, room-less, room-of}
 use Rattle.components.proofs.Taken.{taken-kept, taken-room, taken-was, taken-map}
 
@@ -147,14 +148,15 @@ nothing-yet near n code start marks queue = record {
   queue-length = refl;
 }
 
-module _ {near : Near} {marks queue : List ℕ} {w h code start : ℕ}
-    (rows-near : (u v : ℕ) → inRow w u v ≡ true → near u v ≡ true) (F : Floodable marks queue w h code start) where
+module _ {near : Near} {marks queue : List ℕ} {w h inverse code start : ℕ}
+    (rows-near : (u v : ℕ) → inRow w u v ≡ true → near u v ≡ true)
+    (F : Floodable marks queue w h inverse code start) where
   ends : rowEnd w start ≤ w * h
   ends = row-end-le w (w * h) start (F .size .wide) (mul-mod-right w h) (F .inside)
 
   -- what `reach` requires of the first pixel
-  pub may-begin : (1 ≤ w) × Room marks queue (rowEnd w start) code 0
-  may-begin = (F .size .wide, room-less (room-of F) (rowEnd w start) ends)
+  pub may-begin : Width w inverse × Room marks queue (rowEnd w start) code 0
+  may-begin = (width-of (F .size) (F .inverse-is), room-less (room-of F) (rowEnd w start) ends)
 
   -- a chain leads to what is joined to `start` in its row
   first-chain : (x : ℕ) → Joined (inRow w) (rowEnd w start) marks code start x

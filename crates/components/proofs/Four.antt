@@ -1,5 +1,5 @@
 -- What `spread` reaches are those of the four neighbours of its pixel that are in other rows; those in its row have not
--- the code. Another neighbourhood changes this file and `spread` alone. Assumes nothing.
+-- the code. Another neighbourhood changes this file, `Whole` and `spread` alone. Assumes nothing.
 use Prim.Native.Nat.{ℕ, _+_, _*_, _/_, _%_, _≤_, _<_}
 use mathlib.Core.Path.{_≡_, refl, sym, ap, subst, _∙_}
 use mathlib.Core.Logic.{inl, inr}
@@ -11,6 +11,7 @@ use Rattle.planes.specs.Lists.{at}
 use Rattle.planes.specs.Neighbours.{four}
 use Rattle.planes.proofs.Tests.{less-or-not}
 use Rattle.planes.proofs.Neighbours.{down-of, right-of, up-of, four-sym, sides}
+use Rattle.components.specs.Rows.{Width}
 use Rattle.components.specs.Floods.{inRow, rowEnd, Above, Below, Reached, Spreadable, Spread, Room, Floodable}
 use Rattle.components.proofs.Rows.{row-bounds, in-row, in-row-next, in-row-sym}
 use Rattle.components.proofs.Taken.{taken-was}
@@ -45,8 +46,8 @@ module _ (w : ℕ) (wide : 1 ≤ w) where
 
 -- ## The first run
 
-module _ {marks queue : List ℕ} {w h code start : ℕ} (F : Floodable marks queue w h code start) where
-  pub four-may-begin : (1 ≤ w) × Room marks queue (rowEnd w start) code 0
+module _ {marks queue : List ℕ} {w h inverse code start : ℕ} (F : Floodable marks queue w h inverse code start) where
+  pub four-may-begin : Width w inverse × Room marks queue (rowEnd w start) code 0
   four-may-begin = may-begin {near = four w} (row-four w (F .size .wide)) F
 
   pub four-begin : {tail' : ℕ} {marks' queue' : List ℕ} → Reached w code start marks queue 0 marks' queue' tail'
@@ -55,50 +56,50 @@ module _ {marks queue : List ℕ} {w h code start : ℕ} (F : Floodable marks qu
 
 -- ## The two rows beside
 
-module _ {marks queue : List ℕ} {w n code p tail : ℕ} (S : Spreadable marks queue w n code p tail) where
+module _ {marks queue : List ℕ} {w n inverse code p tail : ℕ} (S : Spreadable marks queue w n inverse code p tail) where
   pub pixel-lt : p < 1048576
   pixel-lt = omega (arith, S .inside, S .room .few)
 
   side-above : {q : ℕ} → Above w p q → Side (four w) n p q
   side-above {q} f = elim (less-or-not p w) [
     | inl l ↦ record { below = omega (arith, S .inside, f .0 l); beside = inl (f .0 l) }
-    | inr l ↦ record { below = omega (arith, S .inside, f .1 l); beside = inr (up-of w p q (S .wide) (f .1 l)) }
+    | inr l ↦ record { below = omega (arith, S .inside, f .1 l); beside = inr (up-of w p q (S .width .wide) (f .1 l)) }
   ]
 
   side-below : {q : ℕ} → Below w n p q → Side (four w) n p q
   side-below f = elim (less-or-not (p + w) n) [
-    | inl l ↦ record { below = omega (arith, f .1 l); beside = inr (rw (f .1 l) (down-of w p (S .wide))) }
+    | inl l ↦ record { below = omega (arith, f .1 l); beside = inr (rw (f .1 l) (down-of w p (S .width .wide))) }
     | inr l ↦ record { below = omega (arith, S .inside, f .0 l); beside = inl (f .0 l) }
   ]
 
   -- what `reach` requires, for the pixel above and then for the one below
-  pub may-above : {a : ℕ} → Above w p a → (1 ≤ w) × Room marks queue (rowEnd w a) code tail
-  may-above A = may-reach (row-four w (S .wide)) S none-yet (side-above A)
+  pub may-above : {a : ℕ} → Above w p a → Width w inverse × Room marks queue (rowEnd w a) code tail
+  may-above A = may-reach (row-four w (S .width .wide)) S none-yet (side-above A)
 
   module _ {a t₁ : ℕ} {m₁ q₁ : List ℕ} (A : Above w p a) (v₁ : Reached w code a marks queue tail m₁ q₁ t₁) where
     after-above : Reaches (four w) w n code p marks queue tail m₁ q₁ t₁
     after-above =
-        next-reach (row-four w (S .wide)) S none-yet (side-above A) v₁
+        next-reach (row-four w (S .width .wide)) S none-yet (side-above A) v₁
 
-    pub may-below : {b : ℕ} → Below w n p b → (1 ≤ w) × Room m₁ q₁ (rowEnd w b) code t₁
-    may-below B = may-reach (row-four w (S .wide)) S after-above (side-below B)
+    pub may-below : {b : ℕ} → Below w n p b → Width w inverse × Room m₁ q₁ (rowEnd w b) code t₁
+    may-below B = may-reach (row-four w (S .width .wide)) S after-above (side-below B)
 
     module _ {b t₂ : ℕ} {m₂ q₂ : List ℕ} (B : Below w n p b) (v₂ : Reached w code b m₁ q₁ t₁ m₂ q₂ t₂) where
       after-below : Reaches (four w) w n code p marks queue tail m₂ q₂ t₂
       after-below =
-          next-reach (row-four w (S .wide)) S after-above (side-below B) v₂
+          next-reach (row-four w (S .width .wide)) S after-above (side-below B) v₂
 
       later : (x : ℕ) → (at m₁ x ≡ code → ⊥) → at m₂ x ≡ code → ⊥
-      later = still-off (row-four w (S .wide)) S after-above (side-below B) v₂
+      later = still-off (row-four w (S .width .wide)) S after-above (side-below B) v₂
 
       was : (x : ℕ) → at m₂ x ≡ code → at marks x ≡ code
       was = taken-was (S .room) (after-below .taken)
 
       -- no neighbour of p is left
       closed : (q : ℕ) → q < n → four w p q ≡ true → at m₂ q ≡ code → ⊥
-      closed q h e d = elim (sides w p (S .wide) q e) [
-        | inl (inl (f, l)) ↦ S .shut q (rw f (four-right w (S .wide) p l)) (was q d)
-        | inl (inr (f, l)) ↦ S .shut q (four-left w (S .wide) p q l f) (was q d)
+      closed q h e d = elim (sides w p (S .width .wide) q e) [
+        | inl (inl (f, l)) ↦ S .shut q (rw f (four-right w (S .width .wide) p l)) (was q d)
+        | inl (inr (f, l)) ↦ S .shut q (four-left w (S .width .wide) p q l f) (was q d)
         | inr (inl f) ↦ v₂ .off (sym (ap (at m₂) (below-is f)) ∙ d)
         | inr (inr f) ↦ later a (v₁ .off) (sym (ap (at m₂) (above-is f)) ∙ d)
       ]

@@ -1,15 +1,20 @@
--- Rows of a plane as stretches of its pixels, and facts of every pixel of a stretch. Assumes nothing.
+-- Rows of a plane as stretches of its pixels, the row of a pixel by the inverse of the width, and facts of every pixel
+-- of a stretch. Assumes nothing.
 use Prim.Native.Nat.{ℕ, _+_, _-_, _*_, _/_, _%_, _≤_, _<_}
 use mathlib.Core.Path.{_≡_, sym, ap, ap₂, subst, _∙_}
 use mathlib.Core.Logic.{_⊎_, ⊎-elim, inl, inr}
 use mathlib.Core.Bool.{true, _&&_}
-use native.Mathlib.Nat.{eq-or-lt-of-le, div-add-mod', mod-lt, mul-le-mul-right, mul-comm, add-mul, one-mul}
+use native.Mathlib.Nat.{eq-or-lt-of-le, div-add-mod', div-le-self, mod-lt, mul-le-mul, mul-le-mul-right, mul-comm}
+use native.Mathlib.Nat.{add-mul, one-mul}
 use native.Mathlib.Omega.{arith}
 use lib.Arith.{digits-div}
 use lib.Dec.{eqb}
 use borrow.Author.Tests.{eqb-true, eq-eqb}
 use Rattle.planes.specs.Neighbours.{apart}
+use Rattle.planes.specs.Refusals.{greatestPixels, Sized}
 use Rattle.planes.proofs.Tests.{or-cases, or-left, or-comm, and-left, and-right, and-both, eqb-sym, less-or-not}
+use Rattle.planes.proofs.Quotients.{by-inverse}
+use Rattle.components.specs.Rows.{inverseOf, Width}
 use Rattle.components.specs.Floods.{inRow, rowEnd}
 
 -- ## Row y of a plane of w columns and h rows is the w pixels from y * w on
@@ -66,6 +71,27 @@ module _ (w : ℕ) where
   in-row-next y p q l h e =
       let row : p / w ≡ q / w = row-of y p l (omega arith) ∙ sym (row-of y q (omega arith) h) in
       and-both (eq-eqb (p / w) (q / w) row) (or-left (eqb (p + 1) q) (eqb (q + 1) p) (eq-eqb (p + 1) q (sym e)))
+
+-- ## The row of a pixel by the inverse of the width
+
+pub inverse-le : (w : ℕ) → inverseOf w ≤ 4294967297
+unfolding inverseOf
+inverse-le w = omega (arith, div-le-self 4294967296 w)
+
+pub width-of : {w h limit inverse : ℕ} → Sized w h limit → inverse ≡ inverseOf w → Width w inverse
+width-of S e = record { wide = S .wide; narrow = S .narrow; inverse-is = e }
+
+module _ {w inverse : ℕ} (W : Width w inverse) (q : ℕ) (few : q < greatestPixels) where
+  pub product-le : q * inverse ≤ 1048576 * 4294967297
+  product-le = mul-le-mul {n₂ = 1048576} {m₂ = 4294967297} (omega arith) (rw (W .inverse-is) (inverse-le w))
+
+  -- a pixel is below 2 ^ 20 and the width at most 2 ^ 12
+  small : q * w < 4294967296
+  small = omega (arith, mul-le-mul {n₁ = q} {n₂ = 1048575} (omega arith) (W .narrow))
+
+  pub row-by-inverse : q * inverse / 4294967296 ≡ q / w
+  unfolding inverseOf
+  row-by-inverse = by-inverse 4294967296 w inverse q (W .wide) (W .inverse-is) small
 
 -- ## Facts of a stretch
 

@@ -10,6 +10,7 @@ use native.Mathlib.Omega.{arith}
 use Rattle.planes.specs.Lists.{at}
 use Rattle.planes.specs.Neighbours.{Near, here}
 use Rattle.planes.proofs.Tests.{less-or-not}
+use Rattle.components.specs.Rows.{Width}
 use Rattle.components.specs.Floods.{inRow, rowEnd, Shut, Joined, Beyond, Taken, none, Reached, Room, Spreadable}
 use Rattle.components.proofs.Regions.{alike-on}
 use Rattle.components.proofs.Rows.{row-end-le}
@@ -30,16 +31,16 @@ pub none-yet : {near : Near} {w n code p tail : ℕ} {marks queue : List ℕ}
     → Reaches near w n code p marks queue tail marks queue tail
 none-yet = record { taken = none; rows = λ k a b. absurd (omega arith) }
 
-module _ {near : Near} {w n code p tail : ℕ} {marks queue : List ℕ}
+module _ {near : Near} {w n inverse code p tail : ℕ} {marks queue : List ℕ}
     (rows-near : (u v : ℕ) → inRow w u v ≡ true → near u v ≡ true)
-    (P : Spreadable marks queue w n code p tail) where
+    (P : Spreadable marks queue w n inverse code p tail) where
   ends : (q : ℕ) → q < n → rowEnd w q ≤ n
-  ends q h = row-end-le w n q (P .wide) (P .whole) h
+  ends q h = row-end-le w n q (P .width .wide) (P .whole) h
 
   -- what `reach` requires
   pub may-reach : {q tail' : ℕ} {marks' queue' : List ℕ} → Reaches near w n code p marks queue tail marks' queue' tail'
-      → Side near n p q → (1 ≤ w) × Room marks' queue' (rowEnd w q) code tail'
-  may-reach {q} K S = (P .wide, room-less (taken-room (P .room) (K .taken)) (rowEnd w q) (ends q (S .below)))
+      → Side near n p q → Width w inverse × Room marks' queue' (rowEnd w q) code tail'
+  may-reach {q} K S = (P .width, room-less (taken-room (P .room) (K .taken)) (rowEnd w q) (ends q (S .below)))
 
   module _ {q tail' tail'' : ℕ} {marks' queue' marks'' queue'' : List ℕ}
       (K : Reaches near w n code p marks queue tail marks' queue' tail') (S : Side near n p q)

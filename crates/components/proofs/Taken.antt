@@ -74,9 +74,9 @@ module _ {marks queue : List ℕ} {n code tail : ℕ} (R : Room marks queue n co
   }
 
 -- a queue with an entry for each pixel has room
-pub room-of : {marks queue : List ℕ} {w h code start : ℕ} → Floodable marks queue w h code start
+pub room-of : {marks queue : List ℕ} {w h inverse code start : ℕ} → Floodable marks queue w h inverse code start
     → Room marks queue (w * h) code 0
-room-of {marks} {queue} {w} {h} {code} f = record {
+room-of {marks} {queue} {w} {h} {code = code} f = record {
   few = f .size .few;
   real = f .real;
   covered = f .covered;

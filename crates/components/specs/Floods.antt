@@ -20,6 +20,7 @@ use Rattle.planes.specs.Lists.{at, from, count}
 use Rattle.planes.specs.Neighbours.{Near, apart, Chain}
 use Rattle.planes.specs.Enumerations.{Enumerates}
 use Rattle.planes.specs.Refusals.{greatestPixels, Sized}
+use Rattle.components.specs.Rows.{inverseOf, Width}
 use Rattle.components.specs.Regions.{alike, region}
 
 -- ## Neighbours
@@ -115,9 +116,8 @@ pub record Room (marks queue : List ℕ) (n code tail : ℕ) : Type 0 where
   pub spare : tail + count (coded marks code) (from 0 n) ≤ length queue
 
 -- a taken pixel p of a plane of whole rows, beside which none of its row has the code, and room for what is next to it
-pub record Spreadable (marks queue : List ℕ) (w n code p tail : ℕ) : Type 0 where
-  pub wide : 1 ≤ w
-  pub narrow : w ≤ 4096
+pub record Spreadable (marks queue : List ℕ) (w n inverse code p tail : ℕ) : Type 0 where
+  pub width : Width w inverse
   pub whole : n % w ≡ 0
   pub inside : p < n
   pub off : at marks p ≡ code → ⊥
@@ -126,9 +126,10 @@ pub record Spreadable (marks queue : List ℕ) (w n code p tail : ℕ) : Type 0 
 
 -- ## A flood
 
--- a plane of w columns and h rows, marks and a queue for it, and a pixel that has the code
-pub record Floodable (marks queue : List ℕ) (w h code start : ℕ) : Type 0 where
+-- a plane of w columns and h rows, the inverse of its width, marks and a queue for it, and a pixel that has the code
+pub record Floodable (marks queue : List ℕ) (w h inverse code start : ℕ) : Type 0 where
   pub size : Sized w h greatestPixels
+  pub inverse-is : inverse ≡ inverseOf w
   pub covered : w * h ≤ length marks
   pub spare : w * h ≤ length queue
   pub real : 1 ≤ code

@@ -1,6 +1,6 @@
 -- The search for the next pixel that has a code. Definitions only.
 --
---   Searchable   marks of a plane whose size is not refused
+--   Searchable   marks of a plane whose size is not refused, the inverse of its width, and a pixel of it
 --   None         no pixel of a stretch has the code
 --   Tells        a test tells whether a pixel of a stretch has the code
 --   Skipped      pixels were passed, none of which has the code
@@ -13,13 +13,16 @@ use mathlib.Core.List.{List}
 use lib.ListN.{length}
 use Rattle.planes.specs.Lists.{at}
 use Rattle.planes.specs.Refusals.{greatestPixels, Sized}
+use Rattle.components.specs.Rows.{inverseOf}
 use Rattle.components.specs.declared.Found.{Found}
 use Rattle.components.specs.declared.Found.the-variants.{At, Nothing}
 
--- a plane of w columns and h rows, with a mark for each pixel
-pub record Searchable (marks : List ℕ) (w h : ℕ) : Type 0 where
+-- a plane of w columns and h rows, with a mark for each pixel, the inverse of its width, and a pixel of it
+pub record Searchable (marks : List ℕ) (w h inverse from : ℕ) : Type 0 where
   pub size : Sized w h greatestPixels
   pub covered : w * h ≤ length marks
+  pub inverse-is : inverse ≡ inverseOf w
+  pub inside : from < w * h
 
 -- no pixel from `low` on and before `high` has the code
 abbrev pub None : List ℕ → ℕ → ℕ → ℕ → Type 0

@@ -1,15 +1,21 @@
 // Components of the pixels whose marks have one code: the search for the next such pixel and the flood of its
 // component.
 //
+// inverse      the inverse of a width, which the other two are given
 // next_pixel   the first pixel from one on, in reading order, that has the code
 // flood        takes the component of a pixel: its marks become 0, and its pixels are the first entries of the queue
 // take_plane   the same for a plane whose pixels all have one code, which is one component: nothing is searched
 //
+// The row of a pixel is found by multiplication with the inverse, in place of a division by the width.
+//
 // A pixel is taken with its run: the pixels of its row that have the code and follow one another. Which pixels of other
 // rows are neighbours is known to `spread` alone.
-ghost use Prim.Native.Nat.{_+_, _*_, _≤_, _<_};
+ghost use Prim.Native.Nat.{_+_, _*_, _/_, _≤_, _<_};
+ghost use mathlib.Core.Path.{_≡_};
 ghost use lib.ListN.{length};
 ghost use Rattle.planes.specs.Neighbours.{four};
+ghost use Rattle.planes.specs.Refusals.{greatestPixels};
+ghost use Rattle.components.specs.Rows.{inverseOf, Width};
 ghost use Rattle.components.specs.Search.{Searchable, Tells, Skipped, NextPixel};
 ghost use Rattle.components.specs.Floods.{rowEnd, Above, Below, RunStart, RunTaken, Reached};
 ghost use Rattle.components.specs.Floods.{Room, Spreadable, Spread, Floodable, Flooded};
@@ -19,6 +25,22 @@ ghost use Rattle.components.specs.Floods.{Takeable, PlaneTaken};
 pub enum Found {
     At(usize),
     Nothing,
+}
+
+// The inverse of the width w: the least number whose product with w is more than 2 ^ 32.
+pub fn inverse(w: usize) -> u64
+    requires { ⌜ 1 ≤ w ⌝ }
+    ensures { λ r. ⌜ r ≡ inverseOf w ⌝ }
+{
+    4294967296 / w as u64 + 1
+}
+
+// The row of the pixel q, in rows of w pixels, by the inverse of w.
+fn row_of(q: usize, w: usize, inverse: u64) -> usize
+    requires { ⌜ Width w inverse × (q < greatestPixels) ⌝ }
+    ensures { λ r. ⌜ r ≡ q / w ⌝ }
+{
+    (q as u64 * inverse / 4294967296) as usize
 }
 
 // Whether one of the 64 marks from `at` on has the code.
@@ -53,14 +75,15 @@ fn skip(marks: &[u8], at: usize, end: usize, code: u8) -> usize
 }
 
 // The first pixel that has the code, in reading order from the pixel `from` on.
-pub fn next_pixel(marks: &[u8], w: usize, h: usize, code: u8, from: usize) -> Found
-    requires { ⌜ Searchable (now marks) w h ⌝ }
+pub fn next_pixel(marks: &[u8], w: usize, h: usize, inverse: u64, code: u8, from: usize) -> Found
+    requires { ⌜ Searchable (now marks) w h inverse from ⌝ }
     ensures { λ r. ⌜ NextPixel (now (marks .entry)) code from (w * h) r ⌝ }
 {
     let n = w * h;
     let mut at = n;
-    let mut first = from % w;
-    'search: for y in from / w..h {
+    let top = row_of(from, w, inverse);
+    let mut first = from - top * w;
+    'search: for y in top..h {
         let row = y * w;
         for x in skip(marks, row + first, row + w, code) - row..w {
             let p = row + x;
@@ -121,15 +144,23 @@ fn take_run(
 }
 
 // Takes the pixel q, if it has the code, with the run of its row. The new tail.
-fn reach(marks: &mut [u8], queue: &mut [u32], w: usize, code: u8, q: usize, tail: usize) -> usize
-    requires { ⌜ (1 ≤ w) × Room (now marks) (now queue) (rowEnd w q) code tail ⌝ }
+fn reach(
+    marks: &mut [u8],
+    queue: &mut [u32],
+    w: usize,
+    inverse: u64,
+    code: u8,
+    q: usize,
+    tail: usize,
+) -> usize
+    requires { ⌜ Width w inverse × Room (now marks) (now queue) (rowEnd w q) code tail ⌝ }
     ensures { λ r. ⌜ Reached w code q (now (marks .entry)) (now (queue .entry)) tail (now (marks .exit))
         (now (queue .exit)) r ⌝ }
 {
     if marks[q] != code {
         return tail;
     }
-    let row = q - q % w;
+    let row = row_of(q, w, inverse) * w;
     let first = run_start(marks, code, row, q);
     take_run(marks, queue, code, first, row + w, tail)
 }
@@ -155,16 +186,17 @@ fn spread(
     queue: &mut [u32],
     w: usize,
     n: usize,
+    inverse: u64,
     code: u8,
     p: usize,
     tail: usize,
 ) -> usize
-    requires { ⌜ Spreadable (now marks) (now queue) w n code p tail ⌝ }
+    requires { ⌜ Spreadable (now marks) (now queue) w n inverse code p tail ⌝ }
     ensures { λ r. ⌜ Spread (four w) w n code p (now (marks .entry)) (now (queue .entry)) tail (now (marks .exit))
         (now (queue .exit)) r ⌝ }
 {
-    let next = reach(marks, queue, w, code, above(p, w), tail);
-    reach(marks, queue, w, code, below(p, w, n), next)
+    let next = reach(marks, queue, w, inverse, code, above(p, w), tail);
+    reach(marks, queue, w, inverse, code, below(p, w, n), next)
 }
 
 // Takes the component of the pixel `start` among those that have the code, breadth first. The number of its pixels.
@@ -173,20 +205,21 @@ pub fn flood(
     queue: &mut [u32],
     w: usize,
     h: usize,
+    inverse: u64,
     code: u8,
     start: usize,
 ) -> usize
-    requires { ⌜ Floodable (now marks) (now queue) w h code start ⌝ }
+    requires { ⌜ Floodable (now marks) (now queue) w h inverse code start ⌝ }
     ensures { λ r. ⌜ Flooded (four w) (w * h) code start (now (marks .entry)) (now (queue .entry)) (now (marks .exit))
         (now (queue .exit)) r ⌝ }
 {
     let n = w * h;
-    let mut tail = reach(marks, queue, w, code, start, 0);
+    let mut tail = reach(marks, queue, w, inverse, code, start, 0);
     let mut head = 0;
     while head < tail {
         let p = queue[head] as usize;
         head += 1;
-        tail = spread(marks, queue, w, n, code, p, tail);
+        tail = spread(marks, queue, w, n, inverse, code, p, tail);
     }
     tail
 }

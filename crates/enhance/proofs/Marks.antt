@@ -17,13 +17,15 @@ use Rattle.planes.specs.Neighbours.{Near, four}
 use Rattle.planes.proofs.Tests.{decide, eq-or-not, less-or-not, and-left, and-right}
 use Rattle.planes.proofs.Links.{link-near}
 use Rattle.planes.proofs.Neighbours.{four-sym}
+use Rattle.components.specs.Search.{None}
 use Rattle.model.specs.declared.Pass.{Pass}
 use Rattle.model.specs.Passes.{within, inside, values, newTone, passed}
 use Rattle.model.proofs.Components.{out-tone, linked-values}
 use Rattle.model.proofs.Order.{in-of, in-to, passed-at}
 use Rattle.model.proofs.Apart.{Alike, inside-alike, values-alike, section-stays}
-use Rattle.passes.specs.Sections.{number, inert, Marked, Coded, Section, Treated}
+use Rattle.passes.specs.Sections.{number, inert, On, Clear, Marked, Coded, Section, Treated, Treats}
 use Rattle.passes.specs.declared.Next.{Next}
+use Rattle.passes.specs.declared.Treatment.{Treatment}
 use Rattle.passes.proofs.Inert.{Part, part-within, was-within, inside-part, inert-part}
 use Rattle.enhance.specs.declared.Settings.{Settings}
 use Rattle.enhance.specs.Recursion.{Wide, passOn, Ready, Away, NextIs, Numbered, Due, Halves, Apart}
@@ -108,9 +110,9 @@ next-not {more} {code = code} {u = u} N h = elim (decide more) [
 ]
 
 -- a section that is due can be treated
-pub due-section : {w h a b code span : ℕ} {t : Settings} {u : Next} {plane marks queue : List ℕ}
-    → Ready w h (length plane) (length marks) (length queue) t → Due w h a b code span t plane marks
-    → (u .low ≡ code → ⊥) × (u .high ≡ code → ⊥) → Section plane marks queue w h code (passOn t a b) u
+pub due-section : {w h a b code span : ℕ} {due : Bool} {t : Settings} {u : Next} {plane marks queue : List ℕ}
+    → Ready w h (length plane) (length marks) (length queue) t → Due w h a b code span due t plane marks
+    → (u .low ≡ code → ⊥) × (u .high ≡ code → ⊥) → Section plane marks queue w h code due (passOn t a b) u
 due-section R D f = record {
   lent = R .lent;
   order = numbered-order (D .numbered);
@@ -118,6 +120,7 @@ due-section R D f = record {
   low = f .0;
   high = f .1;
   coded = D .coded;
+  found = D .found;
 }
 
 -- ## A part of a treated section
@@ -157,6 +160,11 @@ module _ (near : Near) (symm : (i j : ℕ) → near i j ≡ near j i) (s t : Pas
         go true true d f = absurd (omega (arith, sym (by-mark p h true true d f) ∙ e, real))
         go true false d f = (eqb-true _ _ d, (f, sym (by-mark p h true false d f) ∙ e))
         go false y d f = absurd (fresh p h (sym (by-mark p h false y d f) ∙ e))
+
+    -- where the treatment gave none the part's number, no pixel has it
+    pub part-none : ((p : ℕ) → p < n → at marks p ≡ code → still p ≡ false → number u (at q p) ≡ code' → ⊥)
+        → None marks' code' 0 n
+    part-none unmet p _ h e = let c = had-code p h e in unmet p h (c .0) (c .1 .0) (c .1 .1)
 
     gets-code : (p : ℕ) → p < n → at marks p ≡ code → still p ≡ false → within t (at q p) ≡ true → at marks' p ≡ code'
     gets-code p h e f d =
@@ -274,7 +282,9 @@ module _ (w : ℕ) {n code r : ℕ} {s : Pass} {u : Next} {plane marks queue pla
       (K : Coded (four w) n code s plane marks)
       (are : (p : ℕ) → p < n → (at marks p ≡ code) ⊎ Away code span (at marks p))
       (middle : u .mid ≡ (s .a + s .b) / 2) (z : (u .low ≡ code + 1) × (u .high ≡ code + 1 + (span - 1) / 2))
-      (t : Settings) (area : s .area ≤ t .area) (rule : t .rule ≡ s .rule) where
+      (t : Settings) (area : s .area ≤ t .area) (rule : t .rule ≡ s .rule) {lows highs : Bool}
+      (unmet : (side : Bool) → Clear side lows highs → (p : ℕ) → p < n → at marks p ≡ code
+      → inert s (values (four w) s plane p) ≡ false → On u side (at plane' p) → ⊥) where
     abbrev mid : ℕ
     mid = (s .a + s .b) / 2
 
@@ -300,16 +310,35 @@ module _ (w : ℕ) {n code r : ℕ} {s : Pass} {u : Next} {plane marks queue pla
         subst (λ (q : List ℕ). Coded (four w) n x s' q marks') (sym (T .plane-is))
         (part-coded (four w) (four-sym w) s s' P ab plane n code x marks marks' u whole K real numbered-by f picks)
 
+    -- no pixel has its number where the flag of its side is false
+    none-part : (s' : Pass) → Part s s' → (x : ℕ) → 1 ≤ x → ((p : ℕ) → p < n → at marks p ≡ x → ⊥)
+        → ((v : ℕ) → within s v ≡ true → (number u v ≡ x → within s' v ≡ true) × (within s' v ≡ true → number u v ≡ x))
+        → (side : Bool) → ((v : ℕ) → number u v ≡ x → On u side v) → Clear side lows highs → None marks' x 0 n
+    none-part s' P x real f picks side on c =
+        part-none (four w) (four-sym w) s s' P ab plane n code x marks marks' u whole K real numbered-by f picks
+        (λ p l e i k. unmet side c p l e i
+        (on (at plane' p) (ap (λ (q : List ℕ). number u (at q p)) (T .plane-is) ∙ k)))
+
     by-value : (v : ℕ) (x : Bool) → leb v (u .mid) ≡ x → number u v ≡ cond x (u .low) (u .high)
     by-value v x e = ap (λ (y : Bool). cond y (u .low) (u .high)) e
+
+    low-on : (v : ℕ) → number u v ≡ code + 1 → On u true v
+    low-on v e = elim (decide (leb v (u .mid))) [
+      | inl d ↦ d
+      | inr d ↦ absurd (omega (arith, sym (by-value v false d) ∙ e, z .1, half-some N))
+    ]
+
+    high-on : (v : ℕ) → number u v ≡ code + 1 + (span - 1) / 2 → On u false v
+    high-on v e = elim (decide (leb v (u .mid))) [
+      | inl d ↦ absurd (omega (arith, sym (by-value v true d) ∙ e, z .0, half-some N))
+      | inr d ↦ d
+    ]
 
     low-picks : (v : ℕ) → within s v ≡ true → (number u v ≡ code + 1 → within (passOn t (s .a) mid) v ≡ true)
         × (within (passOn t (s .a) mid) v ≡ true → number u v ≡ code + 1)
     low-picks v i = (
-      λ e. elim (decide (leb v (u .mid))) [
-        | inl d ↦ in-to (passOn t (s .a) mid) v (in-of s v i .0) (omega (arith, leb-true v (u .mid) d, middle))
-        | inr d ↦ absurd (omega (arith, sym (by-value v false d) ∙ e, z .1, half-some N))
-      ],
+      λ e. in-to (passOn t (s .a) mid) v (in-of s v i .0)
+          (omega (arith, leb-true v (u .mid) (low-on v e), middle)),
       λ e. let d = in-of (passOn t (s .a) mid) v e in
           by-value v true (le-leb v (u .mid) (omega (arith, d, middle))) ∙ z .0,
     )
@@ -318,10 +347,8 @@ module _ (w : ℕ) {n code r : ℕ} {s : Pass} {u : Next} {plane marks queue pla
         → (number u v ≡ code + 1 + (span - 1) / 2 → within (passOn t (mid + 1) (s .b)) v ≡ true)
         × (within (passOn t (mid + 1) (s .b)) v ≡ true → number u v ≡ code + 1 + (span - 1) / 2)
     high-picks v i = (
-      λ e. elim (decide (leb v (u .mid))) [
-        | inl d ↦ absurd (omega (arith, sym (by-value v true d) ∙ e, z .0, half-some N))
-        | inr d ↦ in-to (passOn t (mid + 1) (s .b)) v (omega (arith, leb-false v (u .mid) d, middle)) (in-of s v i .1)
-      ],
+      λ e. in-to (passOn t (mid + 1) (s .b)) v (omega (arith, leb-false v (u .mid) (high-on v e), middle))
+          (in-of s v i .1),
       λ e. let d = in-of (passOn t (mid + 1) (s .b)) v e in
           by-value v false (lt-leb v (u .mid) (omega (arith, d, middle))) ∙ z .1,
     )
@@ -340,20 +367,33 @@ module _ (w : ℕ) {n code r : ℕ} {s : Pass} {u : Next} {plane marks queue pla
       ]))) a)
     ]
 
-    pub halves-of : {h : ℕ} → n ≡ w * h → last ≡ t .last → Halves w h (s .a) (s .b) code span t plane' marks'
+    low-part : Part s (passOn t (s .a) mid)
+    low-part = record { low = omega arith; high = omega (arith, ab); area = area; rule = rule }
+
+    high-part : Part s (passOn t (mid + 1) (s .b))
+    high-part = record { low = omega (arith, ab); high = omega arith; area = area; rule = rule }
+
+    low-fresh : (p : ℕ) → p < n → at marks p ≡ code + 1 → ⊥
+    low-fresh = fresh (code + 1) (omega arith) (omega (arith, twice N, half-some N))
+
+    high-fresh : (p : ℕ) → p < n → at marks p ≡ code + 1 + (span - 1) / 2 → ⊥
+    high-fresh = fresh (code + 1 + (span - 1) / 2) (omega arith) (omega (arith, twice N, half-some N))
+
+    pub halves-of : {h : ℕ} → n ≡ w * h → last ≡ t .last
+        → Halves w h (s .a) (s .b) code span lows highs t plane' marks'
     halves-of {h} size same = record {
       d = d;
       numbered = subst (λ (x : ℕ). Numbered x (s .a) (s .b) (suc d) code span) same N;
       low = subst (λ (m : ℕ). Coded (four w) m (code + 1) (passOn t (s .a) mid) plane' marks') size
-          (coded-part (passOn t (s .a) mid)
-          (record { low = omega arith; high = omega (arith, ab); area = area; rule = rule })
-          (code + 1) (omega arith) (fresh (code + 1) (omega arith) (omega (arith, twice N, half-some N))) low-picks);
+          (coded-part (passOn t (s .a) mid) low-part (code + 1) (omega arith) low-fresh low-picks);
       high = subst (λ (m : ℕ). Coded (four w) m (code + 1 + (span - 1) / 2) (passOn t (mid + 1) (s .b)) plane' marks') size
-          (coded-part (passOn t (mid + 1) (s .b))
-          (record { low = omega (arith, ab); high = omega arith; area = area; rule = rule })
-          (code + 1 + (span - 1) / 2) (omega arith)
-          (fresh (code + 1 + (span - 1) / 2) (omega arith) (omega (arith, twice N, half-some N))) high-picks);
+          (coded-part (passOn t (mid + 1) (s .b)) high-part (code + 1 + (span - 1) / 2) (omega arith) high-fresh high-picks);
       marks-are = λ p l. marks-after p (omega arith);
+      low-found = λ e. subst (None marks' (code + 1) 0) size
+          (none-part (passOn t (s .a) mid) low-part (code + 1) (omega arith) low-fresh low-picks true low-on e);
+      high-found = λ e. subst (None marks' (code + 1 + (span - 1) / 2) 0) size
+          (none-part (passOn t (mid + 1) (s .b)) high-part (code + 1 + (span - 1) / 2) (omega arith) high-fresh high-picks
+          false high-on e);
     }
 
 -- ## The halves, one after the other
@@ -372,8 +412,8 @@ coded-alike {near} {n} {code} {s} {plane} {plane'} whole A same K = record {
       ap (inert s) (values-alike near s plane plane' A p (omega arith) d) ∙ K .others p h d (λ c. f (same p h .0 c));
 }
 
-module _ {w h a b code span : ℕ} {t : Settings} {plane marks : List ℕ}
-    (H : Halves w h a b code span t plane marks) where
+module _ {w h a b code span : ℕ} {lows highs : Bool} {t : Settings} {plane marks : List ℕ}
+    (H : Halves w h a b code span lows highs t plane marks) where
   abbrev half : ℕ
   half = (span - 1) / 2
 
@@ -388,7 +428,7 @@ module _ {w h a b code span : ℕ} {t : Settings} {plane marks : List ℕ}
   high-away x (inl i) = inl (omega arith)
   high-away x (inr i) = inr (omega (arith, twice (H .numbered)))
 
-  pub due-low : Due w h a middle (code + 1) half t plane marks
+  pub due-low : Due w h a middle (code + 1) half lows t plane marks
   due-low = record {
     d = H .d;
     numbered = low-numbered (H .numbered);
@@ -398,6 +438,7 @@ module _ {w h a b code span : ℕ} {t : Settings} {plane marks : List ℕ}
       | inl (inr e) ↦ inr (inr (omega (arith, e)))
       | inr e ↦ inr (low-away (at marks p) e)
     ];
+    found = H .low-found;
   }
 
   -- the lower half is done
@@ -442,12 +483,13 @@ module _ {w h a b code span : ℕ} {t : Settings} {plane marks : List ℕ}
       same = λ p l e. A .outside p (omega arith) (inr (omega (arith, in-of (passOn t (middle + 1) b) (at plane p) e)));
     }
 
-    pub due-high : Due w h (middle + 1) b (code + 1 + half) half t plane₁ marks₁
+    pub due-high : Due w h (middle + 1) b (code + 1 + half) half highs t plane₁ marks₁
     due-high = record {
       d = H .d;
       numbered = high-numbered (H .numbered);
       coded = coded-alike whole high-alike same-high (H .high);
       marks-are = after-low;
+      found = λ e p i l c. H .high-found e p i l (same-high p l .1 c);
     }
 
     -- and the upper half
@@ -528,20 +570,21 @@ root-marks span {s = s} {plane} {marks} {marks'} M p l = elim (decide (within s 
 
 -- ## The halves of a section that was due
 
-module _ {w h a b code span r : ℕ} {s : Pass} {t : Settings} {u : Next}
-    {plane marks queue plane' marks' queue' : List ℕ}
+module _ {w h a b code span : ℕ} {s : Pass} {t : Settings} {u : Next}
+    {plane marks queue plane' marks' queue' : List ℕ} {r : Treatment}
     (low : s .a ≡ a) (high : s .b ≡ b) (whole : length plane ≡ w * h)
-    (T : Treated (four w) (w * h) code s u plane marks queue plane' marks' queue' r)
+    (T : Treats (four w) (w * h) code s u plane marks queue plane' marks' queue' r)
     (K : Coded (four w) (w * h) code s plane marks)
     (are : (p : ℕ) → p < w * h → (at marks p ≡ code) ⊎ Away code span (at marks p))
     (middle : u .mid ≡ (a + b) / 2) (z : (u .low ≡ code + 1) × (u .high ≡ code + 1 + (span - 1) / 2))
     (area : s .area ≤ t .area) (rule : t .rule ≡ s .rule) where
-  pub next-halves : (d : ℕ) → 0 < d → Numbered (t .last) a b d code span → Halves w h a b code span t plane' marks'
+  pub next-halves : (d : ℕ) → 0 < d → Numbered (t .last) a b d code span
+      → Halves w h a b code span (r .low) (r .high) t plane' marks'
   next-halves zero i N = absurd (omega arith)
   next-halves (suc d) i N =
-      subst (λ (x : ℕ). Halves w h x b code span t plane' marks') low
-      (subst (λ (y : ℕ). Halves w h (s .a) y code span t plane' marks') high
-      (halves-of w (omega (arith, low, high, numbered-order N)) whole T
+      subst (λ (x : ℕ). Halves w h x b code span (r .low) (r .high) t plane' marks') low
+      (subst (λ (y : ℕ). Halves w h (s .a) y code span (r .low) (r .high) t plane' marks') high
+      (halves-of w (omega (arith, low, high, numbered-order N)) whole (T .treated)
       (subst (λ (x : ℕ). Numbered (t .last) x (s .b) (suc d) code span) (sym low)
       (subst (λ (y : ℕ). Numbered (t .last) a y (suc d) code span) (sym high) N))
-      K are (middle ∙ ap₂ (λ (x y : ℕ). (x + y) / 2) (sym low) (sym high)) z t area rule refl refl))
+      K are (middle ∙ ap₂ (λ (x y : ℕ). (x + y) / 2) (sym low) (sym high)) z t area rule (T .none) refl refl))

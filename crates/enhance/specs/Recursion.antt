@@ -19,6 +19,7 @@ use mathlib.Core.List.{List, _++_}
 use lib.ListN.{length}
 use Rattle.planes.specs.Lists.{at, Beyond}
 use Rattle.planes.specs.Neighbours.{four}
+use Rattle.components.specs.Search.{None}
 use Rattle.model.specs.declared.Pass.{Pass}
 use Rattle.model.specs.Calls.{Lent}
 use Rattle.model.specs.Runs.{run, runCount}
@@ -71,21 +72,25 @@ pub record Numbered (last a b d code span : ℕ) : Type 0 where
   pub real : 1 ≤ code
   pub fits : code + span ≤ 256
 
--- the section's pixels have its number, but for inert components, and no pixel has another one of its branch
-pub record Due (w h a b code span : ℕ) (t : Settings) (plane marks : List ℕ) : Type 0 where
+-- the section's pixels have its number, but for inert components, and no pixel has another one of its branch; where the
+-- section is not due, no pixel has its number either
+pub record Due (w h a b code span : ℕ) (due : Bool) (t : Settings) (plane marks : List ℕ) : Type 0 where
   pub d : ℕ
   pub numbered : Numbered (t .last) a b d code span
   pub coded : Coded (four w) (w * h) code (passOn t a b) plane marks
   pub marks-are : (p : ℕ) → p < w * h → (at marks p ≡ code) ⊎ Away code span (at marks p)
+  pub found : due ≡ false → None marks code 0 (w * h)
 
 -- the same of both halves of a section
-pub record Halves (w h a b code span : ℕ) (t : Settings) (plane marks : List ℕ) : Type 0 where
+pub record Halves (w h a b code span : ℕ) (lows highs : Bool) (t : Settings) (plane marks : List ℕ) : Type 0 where
   pub d : ℕ
   pub numbered : Numbered (t .last) a b (suc d) code span
   pub low : Coded (four w) (w * h) (code + 1) (passOn t a ((a + b) / 2)) plane marks
   pub high : Coded (four w) (w * h) (code + 1 + (span - 1) / 2) (passOn t ((a + b) / 2 + 1) b) plane marks
   pub marks-are : (p : ℕ) → p < w * h
       → ((at marks p ≡ code + 1) ⊎ (at marks p ≡ code + 1 + (span - 1) / 2)) ⊎ Away code span (at marks p)
+  pub low-found : lows ≡ false → None marks (code + 1) 0 (w * h)
+  pub high-found : highs ≡ false → None marks (code + 1 + (span - 1) / 2) 0 (w * h)
 
 -- ## What a branch leaves
 

@@ -89,7 +89,8 @@ fn next_of(more: bool, mid: u8, code: u8, span: u8) -> Next
 }
 
 // Algorithm 2: treats the section [a, b], whose pixels are marked with the code, and then its halves. The sections of the
-// branch have the `span` numbers from the code on. How many components were retoned.
+// branch have the `span` numbers from the code on. No pixel has the code unless the section is due. How many components
+// were retoned.
 fn equalise(
     plane: &mut [u8],
     marks: &mut [u8],
@@ -100,10 +101,11 @@ fn equalise(
     b: u8,
     code: u8,
     span: u8,
+    due: bool,
     settings: Settings,
 ) -> u32
     requires { ⌜ Ready w h (length (now plane)) (length (now marks)) (length (now queue)) settings
-        × Due w h a b code span settings (now plane) (now marks) ⌝ }
+        × Due w h a b code span due settings (now plane) (now marks) ⌝ }
     ensures { λ r. ⌜ Equalised w h a b code span settings (now (plane .entry)) (now (marks .entry))
         (now (queue .entry)) (now (plane .exit)) (now (marks .exit)) (now (queue .exit)) r ⌝ }
 {
@@ -113,24 +115,40 @@ fn equalise(
     let mid = ((a as u16 + b as u16) / 2) as u8;
     let more = deeper(a, b, last);
     let next = next_of(more, mid, code, span);
-    let count = passes::treat_section(
+    let t = passes::treat_section(
         plane,
         marks,
         queue,
         w,
         h,
         code,
+        due,
         Pass { a, b, area, rule },
         next,
     );
+    let count = t.count;
     if more {
-        let below = split(plane, marks, queue, w, h, a, b, code, span, settings);
+        let below = split(
+            plane,
+            marks,
+            queue,
+            w,
+            h,
+            a,
+            b,
+            code,
+            span,
+            t.low,
+            t.high,
+            settings,
+        );
         return count + below;
     }
     count
 }
 
 // Algorithm 3: the halves of the section [a, b], split at floor((a + b) / 2), whose pixels are marked with their numbers.
+// No pixel has a half's number unless that half is due.
 fn split(
     plane: &mut [u8],
     marks: &mut [u8],
@@ -141,17 +159,31 @@ fn split(
     b: u8,
     code: u8,
     span: u8,
+    low: bool,
+    high: bool,
     settings: Settings,
 ) -> u32
     requires { ⌜ Ready w h (length (now plane)) (length (now marks)) (length (now queue)) settings
-        × Halves w h a b code span settings (now plane) (now marks) ⌝ }
+        × Halves w h a b code span low high settings (now plane) (now marks) ⌝ }
     ensures { λ r. ⌜ Halved w h a b code span settings (now (plane .entry)) (now (marks .entry))
         (now (queue .entry)) (now (plane .exit)) (now (marks .exit)) (now (queue .exit)) r ⌝ }
 {
     let mid = ((a as u16 + b as u16) / 2) as u8;
     let half = (span - 1) / 2;
-    let low = equalise(plane, marks, queue, w, h, a, mid, code + 1, half, settings);
-    let high = equalise(
+    let lower = equalise(
+        plane,
+        marks,
+        queue,
+        w,
+        h,
+        a,
+        mid,
+        code + 1,
+        half,
+        low,
+        settings,
+    );
+    let upper = equalise(
         plane,
         marks,
         queue,
@@ -161,9 +193,10 @@ fn split(
         b,
         code + 1 + half,
         half,
+        high,
         settings,
     );
-    low + high
+    lower + upper
 }
 
 // How many sections there are on the levels 0 to `last`.
@@ -212,9 +245,23 @@ fn run_levels(
         rule,
     };
     passes::mark_section(plane, marks, n, whole);
-    let count = passes::treat_section(plane, marks, queue, w, h, 1, whole, next);
+    let t = passes::treat_plane(plane, marks, queue, w, h, whole, next);
+    let count = t.count;
     if more {
-        let below = split(plane, marks, queue, w, h, 0, 255, 1, span, settings);
+        let below = split(
+            plane,
+            marks,
+            queue,
+            w,
+            h,
+            0,
+            255,
+            1,
+            span,
+            t.low,
+            t.high,
+            settings,
+        );
         return count + below;
     }
     count

@@ -2,7 +2,7 @@
 -- model; so any sequence of calls gives the model's answers and state. Assumes nothing.
 use Prim.Native.Nat.{ℕ, zero, suc, _*_, _≤_, _<_}
 use mathlib.Core.Path.{_≡_, refl, sym, ap, ap₂, _∙_}
-use mathlib.Core.Bool.{Bool, true, false, cond, _&&_}
+use mathlib.Core.Bool.{Bool, true, false, cond, _&&_, true≢false}
 use mathlib.Core.List.{List, [], _∷_, _++_, append-assoc, append-nil}
 use native.Mathlib.Omega.{arith}
 use lib.ListN.{length}
@@ -15,6 +15,7 @@ use Rattle.model.specs.declared.Answer.{Answer}
 use Rattle.model.specs.declared.Answer.the-variants.{Refused, Done}
 use Rattle.model.specs.Passes.{within, inside, passed, passCount}
 use Rattle.model.specs.Calls.{Lent, answered, planeAfter, Call, State, start, call, chain}
+use Rattle.model.proofs.Order.{in-to}
 use Rattle.passes.specs.Sections.{Marked, Coded, Section, Treated}
 use Rattle.passes.specs.Calls.{callOn, refusalOf, Over, PassOutcome, Sequence, none, more}
 use Rattle.passes.specs.declared.Next.{Next}
@@ -43,10 +44,17 @@ marked-coded {near} {n} {s} {plane} {marks} {marks'} M = record {
         go true d = d
         go false d = absurd (omega (arith, sym e ∙ M .drawn p h ∙ ap (λ (t : Bool). cond t 1 0) d))
 
+-- in the section of all values, every pixel has it
+pub marked-whole : {n : ℕ} {s : Pass} {plane marks marks' : List ℕ} → s .a ≡ 0 → s .b ≡ 255
+    → Marked s plane marks marks' n → (p : ℕ) → p < n → at marks' p ≡ 1
+marked-whole {s = s} {plane} low high M p h =
+    M .drawn p h ∙ ap (λ (t : Bool). cond t 1 0)
+    (in-to s (at plane p) (omega (arith, low)) (omega (arith, high, M .bytes p h)))
+
 -- what the treatment requires of it, with next marks that differ from 1
 pub marked-section : {w h : ℕ} {s : Pass} {t : Next} {plane marks marks' queue : List ℕ}
     → Lent w h (length plane) (length marks) (length queue) → s .a ≤ s .b → Marked s plane marks marks' (w * h)
-    → (t .low ≡ 1 → ⊥) × (t .high ≡ 1 → ⊥) → Section plane marks' queue w h 1 s t
+    → (t .low ≡ 1 → ⊥) × (t .high ≡ 1 → ⊥) → Section plane marks' queue w h 1 true s t
 marked-section {w} {h} L ab M f = record {
   lent = record {
     size = L .size;
@@ -59,6 +67,7 @@ marked-section {w} {h} L ab M f = record {
   low = f .0;
   high = f .1;
   coded = marked-coded M;
+  found = λ e. absurd (true≢false e);
 }
 
 -- a marked section that was treated had the pass

@@ -1,7 +1,7 @@
 pub mod Inert
 pub mod Regions
 pub mod Sweep
-pub mod Passing
 pub mod Steps
+pub mod Passing
 pub mod Calls
 pub mod Examples

@@ -4,7 +4,7 @@
 use Prim.Native.Nat.{ℕ, suc, _+_, _*_, _≤_, _<_}
 use mathlib.Core.Path.{_≡_, refl, sym, ap, ap₂, subst, _∙_}
 use mathlib.Core.Logic.{inl, inr}
-use mathlib.Core.Bool.{Bool, true, false, cond, _&&_, _||_, true≢false}
+use mathlib.Core.Bool.{Bool, true, false, cond, _&&_, _||_, true≢false, false≢true}
 use mathlib.Core.List.{List, map}
 use native.Mathlib.Numerals.{add-one}
 use native.Mathlib.Omega.{arith}
@@ -30,9 +30,11 @@ use Rattle.model.specs.declared.Pass.{Pass}
 use Rattle.model.specs.Passes.{within, values, changes, retone, newTone, passed, counted, passCount}
 use Rattle.model.proofs.Components.{in-tone, out-tone, still-tone}
 use Rattle.model.proofs.Order.{in-of, length-passed, passed-at}
-use Rattle.passes.specs.Sections.{number, inert, Listed, Done, Coded, Section, Treated}
+use Rattle.passes.specs.Sections.{number, inert, On, Clear, Listed, Done, Coded, Section, Treated, Treats}
 use Rattle.passes.specs.declared.Next.{Next}
+use Rattle.passes.specs.declared.Treatment.{Treatment}
 use Rattle.passes.proofs.Inert.{inert-still}
+use Rattle.passes.proofs.Steps.{clear-both}
 use Rattle.passes.proofs.Regions.{region-values, same-region, counted-leads}
 use Rattle.passes.proofs.Sweep.{Sweeping, sweep-begin, none-leads, ahead, sweep-end, beyond}
 use Rattle.passes.proofs.Sweep.{had, mine-is, mine-left, mine-coded, it-leads, take-it}
@@ -57,32 +59,36 @@ later near s t plane p = cond (inert s (values near s plane p)) 0 (number t (new
 --   swept                  what became of the marks
 --   plane-are              what became of the plane
 --   size                   m components were counted
+--   none                   where a side's flag is false, none of their pixels is on that side
 --   size-is .. queue-rest  lengths, and the queue from n on, are as they were
 pub record Passing (near : Near) (n code : ℕ) (s : Pass) (t : Next)
-    (plane₀ marks₀ queue₀ plane marks queue : List ℕ) (low m : ℕ) : Type 0 where
+    (plane₀ marks₀ queue₀ plane marks queue : List ℕ) (low m : ℕ) (lows highs : Bool) : Type 0 where
   pub gone : ℕ → Bool
   pub swept : Sweeping near n code marks₀ marks gone (later near s t plane₀) low
   pub plane-are : (p : ℕ) → p < n → at plane p ≡ cond (gone p) (newTone near s plane₀ p) (at plane₀ p)
   pub size : m ≡ count (counted near s plane₀) (from 0 low)
+  pub none : (side : Bool) → Clear side lows highs → (p : ℕ) → gone p ≡ true
+      → inert s (values near s plane₀ p) ≡ false → On t side (newTone near s plane₀ p) → ⊥
   pub size-is : length plane ≡ length plane₀
   pub marks-size : length marks ≡ length marks₀
   pub queue-rest : Beyond n queue₀ queue
 
 pub pass-begin : (near : Near) (n code : ℕ) (s : Pass) (t : Next) (plane marks queue : List ℕ)
-    → Passing near n code s t plane marks queue plane marks queue 0 0
+    → Passing near n code s t plane marks queue plane marks queue 0 0 false false
 pass-begin near n code s t plane marks queue = record {
   gone = λ p. false;
   swept = sweep-begin near n code marks (later near s t plane);
   plane-are = λ p h. refl;
   size = refl;
+  none = λ side c p e. absurd (false≢true e);
   size-is = refl;
   marks-size = refl;
   queue-rest = beyond-refl n queue;
 }
 
 module _ {near : Near} {n code : ℕ} {s : Pass} {t : Next} {plane₀ marks₀ queue₀ plane marks queue : List ℕ} {low m : ℕ}
-    (D : Treatable near n code s t plane₀ marks₀)
-    (W : Passing near n code s t plane₀ marks₀ queue₀ plane marks queue low m) where
+    {lows highs : Bool} (D : Treatable near n code s t plane₀ marks₀)
+    (W : Passing near n code s t plane₀ marks₀ queue₀ plane marks queue low m lows highs) where
   -- no next mark is the code
   real : (p : ℕ) → later near s t plane₀ p ≡ code → ⊥
   real p = go (inert s (values near s plane₀ p))
@@ -97,7 +103,7 @@ module _ {near : Near} {n code : ℕ} {s : Pass} {t : Next} {plane₀ marks₀ q
 
   -- the search goes on
   pub go-on : (to : ℕ) → low ≤ to → to ≤ n → None marks code low to
-      → Passing near n code s t plane₀ marks₀ queue₀ plane marks queue to m
+      → Passing near n code s t plane₀ marks₀ queue₀ plane marks queue to m lows highs
   go-on to h k f = record {
     gone = W .gone;
     swept = ahead (D .symm) real (W .swept) to h k f;
@@ -105,6 +111,7 @@ module _ {near : Near} {n code : ℕ} {s : Pass} {t : Next} {plane₀ marks₀ q
     size = W .size ∙ sym (count-over (counted near s plane₀) low to h (λ p l r.
         counted-leads near (D .symm) n code s plane₀ marks₀ (D .whole) (D .coded) p (omega arith)
         ∙ ap (_&& changes s (values near s plane₀ p)) (none-leads (D .symm) real (W .swept) to k f p l r)));
+    none = W .none;
     size-is = W .size-is;
     marks-size = W .marks-size;
     queue-rest = W .queue-rest;
@@ -185,7 +192,7 @@ module _ {near : Near} {n code : ℕ} {s : Pass} {t : Next} {plane₀ marks₀ q
     }
 
     -- it is treated
-    module _ {plane' marks″ : List ℕ} {r : ℕ} (R : Done s t vs plane marks' queue' plane' marks″ k r) where
+    module _ {plane' marks″ : List ℕ} {r : Treatment} (R : Done s t vs plane marks' queue' plane' marks″ k r) where
       same-vs : (p : ℕ) → p < n → Mine p ≡ true → vs ≡ values near s plane₀ p
       same-vs p l d = same-region near (D .symm) n code s plane₀ marks₀ (D .whole) (D .coded) low p h l low-coded d
 
@@ -210,14 +217,14 @@ module _ {near : Near} {n code : ℕ} {s : Pass} {t : Next} {plane₀ marks₀ q
             (ap (W .gone p ||_) d ∙ or-false (W .gone p)))
       ]
 
-      one-more : m + r ≡ count (counted near s plane₀) (from 0 (low + 1))
+      one-more : m + r .count ≡ count (counted near s plane₀) (from 0 (low + 1))
       one-more =
           let t : counted near s plane₀ low ≡ changes s vs =
           counted-leads near (D .symm) n code s plane₀ marks₀ (D .whole) (D .coded) low h
           ∙ ap (_&& changes s vs) (it-leads (D .symm) real (W .swept) h e) in
-          let c : _≡_ {A = ℕ} (cond (counted near s plane₀ low) 1 0) r =
+          let c : _≡_ {A = ℕ} (cond (counted near s plane₀ low) 1 0) (r .count) =
           ap (λ (t : Bool). cond t 1 0) t ∙ sym (R .toned .answer) in
-          let sum : m + r ≡ count (counted near s plane₀) (from 0 (suc low)) =
+          let sum : m + r .count ≡ count (counted near s plane₀) (from 0 (suc low)) =
           omega (arith, c, W .size, count-upto (counted near s plane₀) low) in
           sum ∙ ap (λ (z : ℕ). count (counted near s plane₀) (from 0 z)) (sym (add-one low))
 
@@ -240,19 +247,41 @@ module _ {near : Near} {n code : ℕ} {s : Pass} {t : Next} {plane₀ marks₀ q
             ∙ sym (ap (λ (u : Bool). cond u (later near s t plane₀ p) (at marks p)) d)
       ]
 
-      pub at-most-one : r ≤ 1
+      pub at-most-one : r .count ≤ 1
       at-most-one = go (changes s vs) (R .toned .answer)
         where
-          go : (u : Bool) → r ≡ cond u 1 0 → r ≤ 1
+          go : (u : Bool) → r .count ≡ cond u 1 0 → r .count ≤ 1
           go true q = omega arith
           go false q = omega arith
 
-      pub take-one : Passing near n code s t plane₀ marks₀ queue₀ plane' marks″ queue' (low + 1) (m + r)
+      -- which sides its pixels are on
+      its-sides : (side : Bool) → Clear side (r .low) (r .high) → (p : ℕ) → Mine p ≡ true
+          → inert s (values near s plane₀ p) ≡ false → On t side (newTone near s plane₀ p) → ⊥
+      its-sides side c p d f o =
+          let l : p < n = region-below near n code marks₀ low p d in
+          let i = E .every p l (mine-is (D .symm) real (W .swept) h e p ∙ d) in
+          let at-p : at plane' (at queue' (i .index)) ≡ newTone near s plane₀ p =
+          ap (at plane') (i .holds) ∙ new-value p l d in
+          R .none side c (ap (inert s) (same-vs p l d) ∙ f) (i .index) (i .below)
+          (subst (On t side) (sym at-p) o)
+
+      sides : (side : Bool) → Clear side (lows || r .low) (highs || r .high) → (p : ℕ) → (W .gone p || Mine p) ≡ true
+          → inert s (values near s plane₀ p) ≡ false → On t side (newTone near s plane₀ p) → ⊥
+      sides side c p g f o =
+          let both = clear-both side lows highs (r .low) (r .high) c in
+          elim (decide (Mine p)) [
+            | inl d ↦ its-sides side (both .1) p d f o
+            | inr d ↦ W .none side (both .0) p (sym (ap (W .gone p ||_) d ∙ or-false (W .gone p)) ∙ g) f o
+          ]
+
+      pub take-one : Passing near n code s t plane₀ marks₀ queue₀ plane' marks″ queue' (low + 1) (m + r .count)
+          (lows || r .low) (highs || r .high)
       take-one = record {
         gone = λ p. W .gone p || Mine p;
         swept = take-it (D .symm) real (W .swept) h e new-marks;
         plane-are = planes;
         size = one-more;
+        none = sides;
         size-is = R .toned .size ∙ W .size-is;
         marks-size = R .size ∙ F .marks-length ∙ W .marks-size;
         queue-rest = record {
@@ -282,9 +311,9 @@ module _ {near : Near} {n code : ℕ} {s : Pass} {t : Next} {plane₀ marks₀ q
         by-gone : (u : Bool) → W .gone p ≡ u → at plane p ≡ cond u (newTone near s plane₀ p) (at plane₀ p)
         by-gone u d = W .plane-are p h ∙ ap (λ (u : Bool). cond u (newTone near s plane₀ p) (at plane₀ p)) d
 
-    pub pass-end : Treated near n code s t plane₀ marks₀ queue₀ plane marks queue m
+    treated : Treated near n code s t plane₀ marks₀ queue₀ plane marks queue m
     unfolding passCount
-    pass-end = record {
+    treated = record {
       plane-is = ext-getD 0 plane (passed near s plane₀) (W .size-is ∙ sym (length-passed near (D .symm) s plane₀))
           (λ i h. let l : i < n = omega (arith, D .whole, W .size-is) in
           plane-at i l ∙ sym (passed-at near (D .symm) s plane₀ i (omega (arith, D .whole))));
@@ -301,9 +330,46 @@ module _ {near : Near} {n code : ℕ} {s : Pass} {t : Next} {plane₀ marks₀ q
       queue-rest = W .queue-rest;
     }
 
+    pub pass-end : (r : Treatment) → r .count ≡ m → r .low ≡ lows → r .high ≡ highs
+        → Treats near n code s t plane₀ marks₀ queue₀ plane marks queue r
+    pass-end r z l g = record {
+      treated = subst (Treated near n code s t plane₀ marks₀ queue₀ plane marks queue) (sym z) treated;
+      none = λ side c p h e f o. W .none side (sym (ap₂ (λ (x y : Bool). cond side x y) l g) ∙ c) p
+          (last p h ∙ eq-eqb _ _ e) f (subst (On t side) (plane-at p h) o);
+    }
+
+-- nothing is done yet, and where the section is not due, nothing is to be done
+pub pass-start : {near : Near} {n code : ℕ} {s : Pass} {t : Next} {plane marks : List ℕ} (queue : List ℕ)
+    → Treatable near n code s t plane marks → (due : Bool) (low : ℕ) → low ≡ cond due 0 n
+    → (due ≡ false → None marks code 0 n) → Passing near n code s t plane marks queue plane marks queue low 0 false false
+pass-start {near} {n} {code} {s} {t} {plane} {marks} queue D true low e f =
+    subst (λ (k : ℕ). Passing near n code s t plane marks queue plane marks queue k 0 false false) (sym e)
+    (pass-begin near n code s t plane marks queue)
+pass-start {near} {n} {code} {s} {t} {plane} {marks} queue D false low e f =
+    subst (λ (k : ℕ). Passing near n code s t plane marks queue plane marks queue k 0 false false) (sym e)
+    (go-on D (pass-begin near n code s t plane marks queue) n (omega arith) (omega arith) (f refl))
+
+-- a plane that is one component is done once that is treated
+module _ {near : Near} {n code : ℕ} {s : Pass} {t : Next} {plane marks queue marks' queue' : List ℕ} {k : ℕ}
+    (D : Treatable near n code s t plane marks) (h : 0 < n) (e : at marks 0 ≡ code)
+    (all : (p : ℕ) → p < n → region near n marks code 0 p ≡ true)
+    (F : Flooded near n code 0 marks queue marks' queue' k) where
+  abbrev begun : Passing near n code s t plane marks queue plane marks queue 0 0 false false
+  begun = pass-begin near n code s t plane marks queue
+
+  pub one-component : {plane' marks″ : List ℕ} {r : Treatment}
+      → Done s t (values near s plane 0) plane marks' queue' plane' marks″ k r
+      → Treats near n code s t plane marks queue plane' marks″ queue' r
+  one-component {marks″ = marks″} {r} R =
+      let none : None marks″ code 1 n = λ p _ l d.
+      real D begun p (sym (new-marks D begun h e F R p
+      ∙ ap (λ (u : Bool). cond u (later near s t plane p) (at marks p)) (all p l)) ∙ d) in
+      let W = go-on D (take-one D begun h e F R) n (omega arith) (omega arith) none in
+      pass-end D W (omega arith) r (omega arith) refl refl
+
 -- what the treatment requires, for four-neighbours
-pub treatable : {plane marks queue : List ℕ} {w h code : ℕ} {s : Pass} {t : Next}
-    → Section plane marks queue w h code s t → Treatable (four w) (w * h) code s t plane marks
+pub treatable : {plane marks queue : List ℕ} {w h code : ℕ} {due : Bool} {s : Pass} {t : Next}
+    → Section plane marks queue w h code due s t → Treatable (four w) (w * h) code s t plane marks
 treatable {w = w} {code = code} {t = t} P = record {
   symm = four-sym w;
   real = P .real;

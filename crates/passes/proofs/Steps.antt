@@ -1,36 +1,43 @@
--- Single steps of the treatment: a pixel is marked, a pixel gets its next mark, the values of a component are one or
--- not, a component is retoned. Assumes nothing.
+-- Single steps of the treatment: a pixel is marked, a pixel gets its new value and its next mark, the values of a
+-- component are one or not, a component is retoned. Assumes nothing.
 use Prim.Native.Nat.{ℕ, zero, suc, _+_, _≤_, _<_}
-use mathlib.Core.Path.{_≡_, refl, sym, ap, _∙_}
+use mathlib.Core.Path.{_≡_, refl, sym, ap, subst, _∙_}
 use mathlib.Core.Logic.{inl, inr}
-use mathlib.Core.Bool.{Bool, true, false, cond, not, _&&_, _||_}
+use mathlib.Core.Bool.{Bool, true, false, cond, not, _&&_, _||_, true≢false}
 use mathlib.Core.List.{List, [], _∷_, map}
 use native.Mathlib.Nat.{eq-or-lt-of-le, min-eq-left, not-suc-le-zero, le-of-suc-le-suc}
 use native.Mathlib.Omega.{arith}
 use lib.ListN.{length, set, take, length-set, length-map, length-take}
 use lib.Seq.{getD-take}
 use lib.Dec.{leb, ltb}
-use borrow.Author.Tests.{le-leb, eq-eqb, ne-eqb, lt-ltb, le-ltb, ltb-false}
+use borrow.Author.Tests.{le-leb, leb-false, eq-eqb, ne-eqb, lt-ltb, le-ltb, ltb-false}
 use Rattle.planes.specs.Lists.{at, every}
 use Rattle.planes.proofs.Tests.{or-left, or-none, and-both, and-false}
 use Rattle.planes.proofs.Lists.{beyond-refl}
 use Rattle.planes.proofs.Stores.{at-set}
 use Rattle.tones.specs.Tones.{kept, tone}
-use Rattle.tones.specs.Histograms.{values, Alike, Retoned}
+use Rattle.tones.specs.Histograms.{values, Alike, ToneTable}
 use Rattle.model.specs.declared.Pass.{Pass}
 use Rattle.model.specs.Passes.{within, changes, retone}
-use Rattle.passes.specs.Sections.{number, oneValue, lone, inert, Marked, Renumbered, Toned, Done}
+use Rattle.passes.specs.Sections.{number, oneValue, lone, inert, On, Clear, Marked, Painted, Toned, Done}
 use Rattle.passes.specs.declared.Next.{Next}
+use Rattle.passes.specs.declared.Treatment.{Treatment}
 use Rattle.passes.proofs.Inert.{inert-still, inert-alike}
 
 -- ## Marks
 
 pub marked-none : (s : Pass) (plane marks : List ℕ) → Marked s plane marks marks 0
-marked-none s plane marks = record { drawn = λ p h. absurd (omega arith); rest = beyond-refl 0 marks }
+marked-none s plane marks = record {
+  bytes = λ p h. absurd (omega arith);
+  drawn = λ p h. absurd (omega arith);
+  rest = beyond-refl 0 marks;
+}
 
 pub marked-more : {s : Pass} {k v : ℕ} {plane marks marks' : List ℕ} → Marked s plane marks marks' k → k < length marks'
-    → v ≡ cond (within s (at plane k)) 1 0 → Marked s plane marks (set marks' k v) (k + 1)
-marked-more {s} {k} {v} {plane} {marks} {marks'} M h e = record {
+    → at plane k < 256 → v ≡ cond (within s (at plane k)) 1 0 → Marked s plane marks (set marks' k v) (k + 1)
+marked-more {s} {k} {v} {plane} {marks} {marks'} M h b e = record {
+  bytes = λ p l. let l' : p ≤ k = omega arith in
+      elim (eq-or-lt-of-le l') [ inl q ↦ rw q b | inr q ↦ M .bytes p q ];
   drawn = λ p l. at-set (λ (x : ℕ). x ≡ cond (within s (at plane p)) 1 0) marks' k p v h
       (λ q. e ∙ ap (λ (j : ℕ). cond (within s (at plane j)) 1 0) (sym q))
       (λ q. M .drawn p (omega (arith, q)));
@@ -41,22 +48,68 @@ marked-more {s} {k} {v} {plane} {marks} {marks'} M h e = record {
   };
 }
 
-pub renumbered-none : (t : Next) (plane queue marks : List ℕ) → Renumbered t plane queue marks marks 0
-renumbered-none t plane queue marks =
-    record { size = refl; drawn = λ i h. absurd (omega arith); stays = λ p f. refl }
+-- ## Painting
 
-pub renumbered-more : {t : Next} {plane queue marks marks' : List ℕ} {i v : ℕ} → Renumbered t plane queue marks marks' i
-    → at queue i < length marks' → v ≡ number t (at plane (at queue i))
-    → Renumbered t plane queue marks (set marks' (at queue i) v) (i + 1)
-renumbered-more {t} {plane} {queue} {marks} {marks'} {i} {v} R h e = record {
-  size = simp length-set (R .size);
-  drawn = λ j l. at-set (λ (x : ℕ). x ≡ number t (at plane (at queue j))) marks' (at queue i) (at queue j) v h
-      (λ q. e ∙ ap (λ (p : ℕ). number t (at plane p)) (sym q))
-      (λ q. let l' : j ≤ i = omega arith in
-      elim (eq-or-lt-of-le l') [ inl d ↦ absurd (q (ap (at queue) d)) | inr d ↦ R .drawn j d ]);
-  stays = λ p f. at-set (λ (x : ℕ). x ≡ at marks p) marks' (at queue i) p v h
-      (λ q. absurd (f i (omega arith) (sym q))) (λ q. R .stays p (λ j l. f j (omega arith)));
+pub painted-none : (f : ℕ → ℕ) (t : Next) (plane marks queue : List ℕ)
+    → Painted f t plane marks queue plane marks 0 false false
+painted-none f t plane marks queue = record {
+  size = refl;
+  marks-size = refl;
+  drawn = λ i h. absurd (omega arith);
+  numbered = λ i h. absurd (omega arith);
+  stays = λ p f. (refl, refl);
+  none = λ side e i h. absurd (omega arith);
 }
+
+-- the flags of one value
+sides-of : (t : Next) (v : ℕ) (side : Bool) → Clear side (leb v (t .mid)) (ltb (t .mid) v) → On t side v → ⊥
+sides-of t v true e o = true≢false (sym o ∙ e)
+sides-of t v false e o = let h = leb-false v (t .mid) o in let k = ltb-false (t .mid) v e in omega (arith, h, k)
+
+-- a flag that is false was and is so
+pub clear-both : (side low high low' high' : Bool) → Clear side (low || low') (high || high')
+    → Clear side low high × Clear side low' high'
+clear-both true low high low' high' e = or-none low low' e
+clear-both false low high low' high' e = or-none high high' e
+
+pub painted-more : {f : ℕ → ℕ} {t : Next} {plane marks queue plane' marks' : List ℕ} {i v x : ℕ} {low high : Bool}
+    → Painted f t plane marks queue plane' marks' i low high → at queue i < length plane → at queue i < length marks
+    → ((j : ℕ) → j < i → at queue j ≡ at queue i → ⊥) → v ≡ f (at plane' (at queue i)) → x ≡ number t v
+    → Painted f t plane marks queue (set plane' (at queue i) v) (set marks' (at queue i) x) (i + 1)
+    (low || leb v (t .mid)) (high || ltb (t .mid) v)
+painted-more {f} {t} {plane} {marks} {queue} {plane'} {marks'} {i} {v} {x} {low} {high} P h k once e d = record {
+  size = simp length-set (P .size);
+  marks-size = simp length-set (P .marks-size);
+  drawn = λ j l. at-set (λ (y : ℕ). y ≡ f (at plane (at queue j))) plane' (at queue i) (at queue j) v h'
+      (λ q. new j q) (λ q. P .drawn j (before j l q));
+  numbered = λ j l. at-set (λ (y : ℕ). y ≡ number t (f (at plane (at queue j)))) marks' (at queue i) (at queue j) x k'
+      (λ q. d ∙ ap (number t) (new j q)) (λ q. P .numbered j (before j l q));
+  stays = λ p g. let s = P .stays p (λ j l. g j (omega arith)) in (
+    at-set (λ (y : ℕ). y ≡ at plane p) plane' (at queue i) p v h' (λ q. absurd (g i (omega arith) (sym q))) (λ q. s .0),
+    at-set (λ (y : ℕ). y ≡ at marks p) marks' (at queue i) p x k' (λ q. absurd (g i (omega arith) (sym q))) (λ q. s .1),
+  );
+  none = λ side c j l o. let both = clear-both side low high _ _ c in
+      elim (eq-or-lt-of-le (le-of-lt-add j l)) [
+        | inl q ↦ sides-of t v side (both .1) (subst (On t side) (sym (new j (ap (at queue) q))) o)
+        | inr q ↦ P .none side (both .0) j q o
+      ];
+}
+  where
+    h' : at queue i < length plane'
+    h' = omega (arith, h, P .size)
+
+    k' : at queue i < length marks'
+    k' = omega (arith, k, P .marks-size)
+
+    -- the pixel has its first value until its turn comes
+    new : (j : ℕ) → at queue j ≡ at queue i → v ≡ f (at plane (at queue j))
+    new j q = e ∙ ap f (P .stays (at queue i) once .0) ∙ ap (λ (p : ℕ). f (at plane p)) (sym q)
+
+    le-of-lt-add : (j : ℕ) → j < i + 1 → j ≤ i
+    le-of-lt-add j l = omega arith
+
+    before : (j : ℕ) → j < i + 1 → (at queue j ≡ at queue i → ⊥) → j < i
+    before j l q = elim (eq-or-lt-of-le (le-of-lt-add j l)) [ inl d ↦ absurd (q (ap (at queue) d)) | inr d ↦ d ]
 
 -- ## Values of the queue's pixels
 
@@ -116,41 +169,51 @@ module _ (s : Pass) (vs : List ℕ) {m : ℕ} (size : length vs ≡ m) where
   unfolding changes
   large h = ap (_&& not (kept (s .rule) (s .a) (s .b) vs)) (ap (leb (s .area)) size ∙ le-leb (s .area) m h)
 
-  -- a component of the least area that got the rule
-  pub toned : {plane queue plane' : List ℕ} {r : Bool} {x : ℕ} → s .area ≤ m
-      → Retoned (s .rule) (s .a) (s .b) vs plane queue plane' m r → x ≡ cond r 1 0 → Toned s vs plane queue plane' m x
+  -- a component of the least area that has the values of the rule's table
+  toned : {plane marks queue plane' marks' table : List ℕ} {t : Next} {low high c : Bool} {x : ℕ} → s .area ≤ m
+      → ToneTable (s .rule) (s .a) (s .b) vs plane queue table m c
+      → Painted (at table) t plane marks queue plane' marks' m low high → x ≡ cond c 1 0
+      → Toned s vs plane queue plane' m x
   unfolding retone
-  toned {plane} {queue} h R e = record {
-    answer = e ∙ ap (λ (t : Bool). cond t 1 0) (R .answer ∙ sym (large h));
-    size = R .size;
-    drawn = λ i l. R .drawn i l ∙ cond-not (kept (s .rule) (s .a) (s .b) vs) _ _
+  toned {plane} {queue = queue} h T P e = record {
+    answer = e ∙ ap (λ (t : Bool). cond t 1 0) (T .answer ∙ sym (large h));
+    size = P .size;
+    drawn = λ i l. P .drawn i l ∙ T .entry i l ∙ cond-not (kept (s .rule) (s .a) (s .b) vs) _ _
         ∙ ap (λ (t : Bool). cond t (tone (s .rule) (s .a) (s .b) vs (at plane (at queue i))) (at plane (at queue i)))
         (sym (large h));
-    stays = R .stays;
+    stays = λ p f. P .stays p f .0;
   }
 
 module _ (s : Pass) (t : Next) {vs ws : List ℕ} (A : Alike vs ws) where
   -- an inert component is left as it is
-  pub left-alone : {plane marks queue : List ℕ} {m : ℕ} → inert s ws ≡ true
-      → Done s t vs plane marks queue plane marks m 0
+  pub left-alone : {plane marks queue : List ℕ} {m : ℕ} (r : Treatment) → r .count ≡ 0 → inert s ws ≡ true
+      → Done s t vs plane marks queue plane marks m r
   unfolding retone
-  left-alone e =
+  left-alone r z e =
       let inert-too : inert s vs ≡ true = inert-alike s vs ws A ∙ e in
       let still : changes s vs ≡ false = inert-still s vs inert-too in
       record {
-        toned = record { answer = rw still; size = refl; drawn = λ i l. rw still; stays = λ p f. refl };
+        toned = record { answer = z ∙ rw still; size = refl; drawn = λ i l. rw still; stays = λ p f. refl };
         size = refl;
         drawn = λ i l. rw inert-too;
         stays = λ p f. refl;
+        none = λ side c f. absurd (true≢false (sym inert-too ∙ f));
       }
 
   -- another gets its tones and its next marks
-  pub done : {plane marks queue plane' marks' : List ℕ} {m r : ℕ} → inert s ws ≡ false
-      → Toned s vs plane queue plane' m r
-      → Renumbered t plane' queue marks marks' m → Done s t vs plane marks queue plane' marks' m r
-  done e T R =
+  pub done : {plane marks queue plane' marks' table : List ℕ} {m : ℕ} {c : Bool} (r : Treatment)
+      → length vs ≡ m → s .area ≤ m → inert s ws ≡ false → ToneTable (s .rule) (s .a) (s .b) vs plane queue table m c
+      → Painted (at table) t plane marks queue plane' marks' m (r .low) (r .high) → r .count ≡ cond c 1 0
+      → Done s t vs plane marks queue plane' marks' m r
+  done r size h e T P z =
       let not-inert : inert s vs ≡ false = inert-alike s vs ws A ∙ e in
-      record { toned = T; size = R .size; drawn = λ i l. rw not-inert (R .drawn i l); stays = R .stays }
+      record {
+        toned = toned s vs size h T P z;
+        size = P .marks-size;
+        drawn = λ i l. rw not-inert (P .numbered i l ∙ ap (number t) (sym (P .drawn i l)));
+        stays = λ p f. P .stays p f .1;
+        none = λ side c _ i l o. P .none side c i l (subst (On t side) (P .drawn i l) o);
+      }
 
 -- ## Whether a component is inert
 

@@ -4,12 +4,14 @@
 --   number      the next mark of a pixel, by its value
 --   inert       a component that neither the pass nor any later one on a part of its section changes
 --   Marked      a section's pixels are marked with 1
---   Renumbered  listed pixels have their next marks
+--   On, Clear   the side of the middle that a value is on, and that no pixel is on a side
+--   Painted     listed pixels have new values, and their next marks
 --   Toned       what becomes of the values of one component
 --   Done        what becomes of one component, marks and all
 --   Coded       the section's pixels have the code, but for inert components
 --   Section     what the treatment requires
---   Treated     what it does
+--   Treated     what it does to plane, marks and queue
+--   Treats      the same, and what it tells of the sides of the middle
 use Prim.Native.Nat.{ℕ, _*_, _≤_, _<_}
 use mathlib.Core.Path.{_≡_}
 use mathlib.Core.Bool.{Bool, true, false, cond, _||_}
@@ -23,12 +25,16 @@ use Rattle.tones.specs.declared.Rule.the-variants.{Plain, Limited}
 use Rattle.model.specs.declared.Pass.{Pass}
 use Rattle.model.specs.Passes.{within, inside, values, changes, retone, passed, passCount}
 use Rattle.model.specs.Calls.{Lent}
+use Rattle.components.specs.Search.{None}
 use Rattle.passes.specs.declared.Next.{Next}
+use Rattle.passes.specs.declared.Treatment.{Treatment}
 
 -- ## Marks
 
--- of the first k pixels, those of the section are marked with 1 and the others with 0; the other marks are as they were
+-- of the first k pixels, whose values are bytes, those of the section are marked with 1 and the others with 0; the other
+-- marks are as they were
 pub record Marked (s : Pass) (plane marks marks' : List ℕ) (k : ℕ) : Type 0 where
+  pub bytes : (p : ℕ) → p < k → at plane p < 256
   pub drawn : (p : ℕ) → p < k → at marks' p ≡ cond (within s (at plane p)) 1 0
   pub rest : Beyond k marks marks'
 
@@ -46,11 +52,27 @@ pub record Listed (marks plane queue : List ℕ) (m : ℕ) : Type 0 where
   pub pixels : Pixels plane queue m
   pub marked : (i : ℕ) → i < m → at queue i < length marks
 
--- the queue's first m pixels have their next marks, and the other marks are as they were
-pub record Renumbered (t : Next) (plane queue marks marks' : List ℕ) (m : ℕ) : Type 0 where
-  pub size : length marks' ≡ length marks
-  pub drawn : (i : ℕ) → i < m → at marks' (at queue i) ≡ number t (at plane (at queue i))
-  pub stays : (p : ℕ) → ((i : ℕ) → i < m → at queue i ≡ p → ⊥) → at marks' p ≡ at marks p
+-- ## Sides of the middle
+
+-- v is on a side of the middle: true for the values up to it, false for those above
+abbrev pub On : Next → Bool → ℕ → Type 0
+On t side v = leb v (t .mid) ≡ side
+
+-- the flags of the sides say that none of some pixels is on this one
+abbrev pub Clear : Bool → Bool → Bool → Type 0
+Clear side low high = cond side low high ≡ false
+
+-- the queue's first m pixels have the values of f and their next marks, and the flags tell of the sides that these
+-- values are on; all other pixels are as they were
+pub record Painted (f : ℕ → ℕ) (t : Next) (plane marks queue plane' marks' : List ℕ) (m : ℕ) (low high : Bool)
+    : Type 0 where
+  pub size : length plane' ≡ length plane
+  pub marks-size : length marks' ≡ length marks
+  pub drawn : (i : ℕ) → i < m → at plane' (at queue i) ≡ f (at plane (at queue i))
+  pub numbered : (i : ℕ) → i < m → at marks' (at queue i) ≡ number t (f (at plane (at queue i)))
+  pub stays : (p : ℕ) → ((i : ℕ) → i < m → at queue i ≡ p → ⊥)
+      → (at plane' p ≡ at plane p) × (at marks' p ≡ at marks p)
+  pub none : (side : Bool) → Clear side low high → (i : ℕ) → i < m → On t side (f (at plane (at queue i))) → ⊥
 
 -- ## One component
 
@@ -75,12 +97,15 @@ pub record Toned (s : Pass) (vs plane queue plane' : List ℕ) (m r : ℕ) : Typ
   pub stays : (p : ℕ) → ((i : ℕ) → i < m → at queue i ≡ p → ⊥) → at plane' p ≡ at plane p
 
 -- the same, and its pixels have their next marks, unless it is inert
-pub record Done (s : Pass) (t : Next) (vs plane marks queue plane' marks' : List ℕ) (m r : ℕ) : Type 0 where
-  pub toned : Toned s vs plane queue plane' m r
+pub record Done (s : Pass) (t : Next) (vs plane marks queue plane' marks' : List ℕ) (m : ℕ) (r : Treatment)
+    : Type 0 where
+  pub toned : Toned s vs plane queue plane' m (r .count)
   pub size : length marks' ≡ length marks
   pub drawn : (i : ℕ) → i < m
       → at marks' (at queue i) ≡ cond (inert s vs) (at marks (at queue i)) (number t (at plane' (at queue i)))
   pub stays : (p : ℕ) → ((i : ℕ) → i < m → at queue i ≡ p → ⊥) → at marks' p ≡ at marks p
+  pub none : (side : Bool) → Clear side (r .low) (r .high) → inert s vs ≡ false
+      → (i : ℕ) → i < m → On t side (at plane' (at queue i)) → ⊥
 
 -- ## A section
 
@@ -91,14 +116,16 @@ pub record Coded (near : Near) (n code : ℕ) (s : Pass) (plane marks : List ℕ
   pub others : (p : ℕ) → p < n → within s (at plane p) ≡ true → (at marks p ≡ code → ⊥)
       → inert s (values near s plane p) ≡ true
 
--- a plane of w columns and h rows, with room for it; a section whose pixels have the code; next marks other than that
-pub record Section (plane marks queue : List ℕ) (w h code : ℕ) (s : Pass) (t : Next) : Type 0 where
+-- a plane of w columns and h rows, with room for it; a section whose pixels have the code, and none has it unless it is
+-- due; next marks other than that
+pub record Section (plane marks queue : List ℕ) (w h code : ℕ) (due : Bool) (s : Pass) (t : Next) : Type 0 where
   pub lent : Lent w h (length plane) (length marks) (length queue)
   pub order : s .a ≤ s .b
   pub real : 1 ≤ code
   pub low : t .low ≡ code → ⊥
   pub high : t .high ≡ code → ⊥
   pub coded : Coded (four w) (w * h) code s plane marks
+  pub found : due ≡ false → None marks code 0 (w * h)
 
 -- the plane and the count of the pass; the pixels that had the code have their next marks by their new values, but
 -- those of inert components have 0; all other marks, and the queue from n on, are as they were
@@ -111,3 +138,10 @@ pub record Treated (near : Near) (n code : ℕ) (s : Pass) (t : Next) (plane mar
       (cond (inert s (values near s plane p)) 0 (number t (at plane' p))) (at marks p)
   pub marks-rest : Beyond n marks marks'
   pub queue-rest : Beyond n queue queue'
+
+-- the same, and where a side's flag is false, no pixel that had the code has its next mark by a value on that side
+pub record Treats (near : Near) (n code : ℕ) (s : Pass) (t : Next) (plane marks queue plane' marks' queue' : List ℕ)
+    (r : Treatment) : Type 0 where
+  pub treated : Treated near n code s t plane marks queue plane' marks' queue' (r .count)
+  pub none : (side : Bool) → Clear side (r .low) (r .high) → (p : ℕ) → p < n → at marks p ≡ code
+      → inert s (values near s plane p) ≡ false → On t side (at plane' p) → ⊥

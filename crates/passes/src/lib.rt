@@ -4,18 +4,20 @@
 // treat           the same for a pass and memory that are known to be accepted
 // mark_section    marks a section's pixels
 // treat_section   retones the components of the pixels that have a code, and gives them their next marks
+// treat_plane     the same for a plane whose pixels all have the code
 // lent_refusal    refusals 1 to 4 for the plane's size and the lengths that are lent, or 0
 ghost use mathlib.Core.Path.{_≡_};
-ghost use mathlib.Core.Bool.{cond};
+ghost use mathlib.Core.Bool.{true, false, cond};
 ghost use mathlib.Core.List.{List};
-ghost use Prim.Native.Nat.{ℕ, _*_, _≤_};
+ghost use Prim.Native.Nat.{ℕ, _*_, _≤_, _<_};
 ghost use lib.ListN.{length};
+ghost use Rattle.planes.specs.Lists.{at};
 ghost use Rattle.planes.specs.Neighbours.{four};
-ghost use Rattle.tones.specs.Histograms.{values, Component, Alike};
+ghost use Rattle.tones.specs.Histograms.{values, Component, Distinct, Alike};
 ghost use Rattle.model.specs.Passes.{within};
 ghost use Rattle.model.specs.Calls.{lentRefusal, passRefusal, Lent};
-ghost use Rattle.passes.specs.Sections.{number, oneValue, inert, Pixels, Listed, Marked, Renumbered};
-ghost use Rattle.passes.specs.Sections.{Toned, Done, Section, Treated};
+ghost use Rattle.passes.specs.Sections.{number, oneValue, inert, Pixels, Listed, Marked, Painted};
+ghost use Rattle.passes.specs.Sections.{Toned, Done, Section, Treats};
 ghost use Rattle.passes.specs.Calls.{callOn, Over, PassOutcome};
 use components::Found;
 use model::Answer;
@@ -27,6 +29,20 @@ pub struct Next {
     pub mid: u8,
     pub low: u8,
     pub high: u8,
+}
+
+// Whether pixels have a value up to the middle, and above it. A flag that is false says that none has.
+struct Sides {
+    low: bool,
+    high: bool,
+}
+
+// How many components were retoned, and whether next marks were given for values up to the middle, and above it. A flag
+// that is false says that none was.
+pub struct Treatment {
+    pub count: u32,
+    pub low: bool,
+    pub high: bool,
 }
 
 // 1 for a value in [a, b], else 0.
@@ -65,19 +81,33 @@ fn next_mark(v: u8, next: Next) -> u8
     next.low
 }
 
-// Gives the queue's first m pixels their next marks.
-fn renumber(marks: &mut [u8], plane: &[u8], queue: &[u32], m: usize, next: Next)
-    requires { ⌜ Listed (now marks) (now plane) (now queue) m ⌝ }
-    ensures { λ r. ⌜ Renumbered next (now (plane .entry)) (now (queue .entry))
-        (now (marks .entry)) (now (marks .exit)) m ⌝ }
+// Gives the queue's first m pixels the table's values and their next marks. Which sides of the middle the values are on.
+fn paint(
+    plane: &mut [u8],
+    marks: &mut [u8],
+    queue: &[u32],
+    m: usize,
+    table: &[u8; 256],
+    next: Next,
+) -> Sides
+    requires { ⌜ Listed (now marks) (now plane) (now queue) m × Distinct (now queue) m ⌝ }
+    ensures { λ r. ⌜ Painted (at (now (table .entry))) next (now (plane .entry)) (now (marks .entry))
+        (now (queue .entry)) (now (plane .exit)) (now (marks .exit)) m (r .low) (r .high) ⌝ }
 {
+    let mut low = false;
+    let mut high = false;
     let mut i = 0;
     while i < m {
         let p = queue[i] as usize;
-        let v = plane[p];
+        let old = plane[p];
+        let v = table[old as usize];
+        plane[p] = v;
         marks[p] = next_mark(v, next);
+        low |= v <= next.mid;
+        high |= next.mid < v;
         i += 1;
     }
+    Sides { low, high }
 }
 
 // Whether the queue's first m pixels all have one value.
@@ -115,22 +145,17 @@ fn is_inert(plane: &[u8], queue: &[u32], m: usize, pass: Pass) -> bool
     }
 }
 
-// Gives the component of the queue's first m pixels, which has the least area, the rule. 1 where it is retoned, else 0.
-fn retone_component(plane: &mut [u8], queue: &[u32], m: usize, pass: Pass) -> u32
-    requires { ⌜ Component (now plane) (now queue) m (pass .a) (pass .b) × (pass .area ≤ m) ⌝ }
-    ensures { λ r. ⌜ ((vs : List ℕ) → Alike vs (values (now (plane .entry)) (now (queue .entry)) m)
-        → Toned pass vs (now (plane .entry)) (now (queue .entry)) (now (plane .exit)) m r) ⌝ }
+// 1 where a component is retoned, else 0.
+fn one_if(retoned: bool) -> u32
+    ensures { λ r. ⌜ r ≡ cond retoned 1 0 ⌝ }
 {
-    let rule = pass.rule;
-    let a = pass.a;
-    let b = pass.b;
-    if tones::retone(plane, queue, m, rule, a, b) {
+    if retoned {
         return 1;
     }
     0
 }
 
-// Treats the component of the queue's first m pixels: its rule, and its next marks. 1 where it is retoned, else 0.
+// Treats the component of the queue's first m pixels: its rule, and its next marks. Counts and table are working memory.
 fn treat_component(
     plane: &mut [u8],
     marks: &mut [u8],
@@ -138,7 +163,9 @@ fn treat_component(
     m: usize,
     pass: Pass,
     next: Next,
-) -> u32
+    counts: &mut [u32; 256],
+    table: &mut [u8; 256],
+) -> Treatment
     requires { ⌜ Component (now plane) (now queue) m (pass .a) (pass .b)
         × Listed (now marks) (now plane) (now queue) m ⌝ }
     ensures { λ r. ⌜ ((vs : List ℕ) → Alike vs (values (now (plane .entry)) (now (queue .entry)) m)
@@ -146,14 +173,32 @@ fn treat_component(
         (now (plane .exit)) (now (marks .exit)) m r) ⌝ }
 {
     if is_inert(plane, queue, m, pass) {
-        return 0;
+        return Treatment {
+            count: 0,
+            low: false,
+            high: false,
+        };
     }
-    let retoned = retone_component(plane, queue, m, pass);
-    renumber(marks, plane, queue, m, next);
-    retoned
+    let rule = pass.rule;
+    let a = pass.a;
+    let b = pass.b;
+    let retoned = tones::tone_table(plane, queue, m, rule, a, b, counts, table);
+    let sides = paint(plane, marks, queue, m, table, next);
+    Treatment {
+        count: one_if(retoned),
+        low: sides.low,
+        high: sides.high,
+    }
 }
 
-// Treats the components of the pixels that have the code. How many were retoned.
+// The first pixel that may have the code: 0 where the section is due, else n.
+fn first_due(due: bool, n: usize) -> usize
+    ensures { λ r. ⌜ r ≡ cond due 0 n ⌝ }
+{
+    if due { 0 } else { n }
+}
+
+// Treats the components of the pixels that have the code. None has it unless it is due.
 pub fn treat_section(
     plane: &mut [u8],
     marks: &mut [u8],
@@ -161,23 +206,41 @@ pub fn treat_section(
     w: usize,
     h: usize,
     code: u8,
+    due: bool,
     pass: Pass,
     next: Next,
-) -> u32
-    requires { ⌜ Section (now plane) (now marks) (now queue) w h code pass next ⌝ }
-    ensures { λ r. ⌜ Treated (four w) (w * h) code pass next
+) -> Treatment
+    requires { ⌜ Section (now plane) (now marks) (now queue) w h code due pass next ⌝ }
+    ensures { λ r. ⌜ Treats (four w) (w * h) code pass next
         (now (plane .entry)) (now (marks .entry)) (now (queue .entry))
         (now (plane .exit)) (now (marks .exit)) (now (queue .exit)) r ⌝ }
 {
     let n = w * h;
+    let inverse = components::inverse(w);
+    let mut counts = [0u32; 256];
+    let mut table = [0u8; 256];
     let mut count = 0;
-    let mut from = 0;
+    let mut low = false;
+    let mut high = false;
+    let mut from = first_due(due, n);
     while from < n {
-        let found = components::next_pixel(marks, w, h, code, from);
+        let found = components::next_pixel(marks, w, h, inverse, code, from);
         match found {
             Found::At(p) => {
-                let m = components::flood(marks, queue, w, h, code, p);
-                count += treat_component(plane, marks, queue, m, pass, next);
+                let m = components::flood(marks, queue, w, h, inverse, code, p);
+                let t = treat_component(
+                    plane,
+                    marks,
+                    queue,
+                    m,
+                    pass,
+                    next,
+                    &mut counts,
+                    &mut table,
+                );
+                count += t.count;
+                low |= t.low;
+                high |= t.high;
                 from = p + 1;
             }
             Found::Nothing => {
@@ -185,7 +248,29 @@ pub fn treat_section(
             }
         }
     }
-    count
+    Treatment { count, low, high }
+}
+
+// The same for a plane whose pixels all have the code 1: it is one component.
+pub fn treat_plane(
+    plane: &mut [u8],
+    marks: &mut [u8],
+    queue: &mut [u32],
+    w: usize,
+    h: usize,
+    pass: Pass,
+    next: Next,
+) -> Treatment
+    requires { ⌜ Section (now plane) (now marks) (now queue) w h 1 true pass next
+        × ((p : ℕ) → p < w * h → at (now marks) p ≡ 1) ⌝ }
+    ensures { λ r. ⌜ Treats (four w) (w * h) 1 pass next
+        (now (plane .entry)) (now (marks .entry)) (now (queue .entry))
+        (now (plane .exit)) (now (marks .exit)) (now (queue .exit)) r ⌝ }
+{
+    let mut counts = [0u32; 256];
+    let mut table = [0u8; 256];
+    let m = components::take_plane(marks, queue, w, h);
+    treat_component(plane, marks, queue, m, pass, next, &mut counts, &mut table)
 }
 
 // A pass over a plane with room for it. How many components were retoned.
@@ -209,7 +294,8 @@ pub fn treat(
         low: 0,
         high: 0,
     };
-    treat_section(plane, marks, queue, w, h, 1, pass, gone)
+    let t = treat_section(plane, marks, queue, w, h, 1, true, pass, gone);
+    t.count
 }
 
 // 1 to 4 for the plane's size and the lengths that are lent, or 0.

@@ -1,5 +1,5 @@
 -- What counts say of every list of values that has them: how many values it has, its least and its greatest value, its
--- tones and whether they are kept back. Assumes nothing.
+-- tones and whether they are kept back; and so of a component and its table. Assumes nothing.
 use Prim.Native.Nat.{ℕ, _+_, _-_, _*_, _≤_, _<_, min}
 use mathlib.Core.Path.{_≡_, refl, sym, ap, ap₂, _∙_}
 use mathlib.Core.Logic.{⊎-elim}
@@ -16,11 +16,11 @@ use Rattle.planes.proofs.Enumerations.{count-indexes}
 use Rattle.planes.proofs.Tests.{less-or-not}
 use Rattle.tones.specs.Tones.{sumTo, scaled, greatest, least, spread, plainTone, clipped, limitedTone, tone}
 use Rattle.tones.specs.Tones.{keptBy, kept}
-use Rattle.tones.specs.Histograms.{values, Component, Listed, Alike, Painted, Retoned}
+use Rattle.tones.specs.Histograms.{values, Component, Listed, Alike, ToneTables}
 use Rattle.tones.specs.Histograms.{Tally, Histogram, Counted, Lowest, Highest, Refilled, Sums, limitedBy}
-use Rattle.tones.specs.Histograms.{ClippedSums, Tabled}
+use Rattle.tones.specs.Histograms.{ClippedSums, Tabled, Ruled, Filled}
 use Rattle.tones.specs.declared.Rule.{Rule}
-use Rattle.tones.specs.declared.Rule.the-variants.{Plain}
+use Rattle.tones.specs.declared.Rule.the-variants.{Plain, Limited}
 use Rattle.tones.proofs.Sums.{sum-le, sum-same, sum-thousand, sumTo-mono, sumTo-last}
 use Rattle.tones.proofs.Sound.{plain-rises}
 use Rattle.tones.proofs.Values.{In, in-inside, inside-all, inside-sum, spread-map}
@@ -163,15 +163,10 @@ clipped-of k m {a} {b} {most} {counts} {clips} {sums} c e clip s = record {
       rw (to v av vb, to b (c .order) (omega arith), size);
 }
 
--- a table filled by the sums of the clipped counts
-pub limited-tabled : {k m a b : ℕ} {counts sums table table' : List ℕ} → ClippedSums k m a b counts sums
-    → Refilled (limitedBy sums m a b) a (b + 1) table table' → Tabled (limitedTone k a b) a b counts table'
-limited-tabled c t = record { exact = λ vs h v av vb. t .new v av (omega arith) ∙ c .exact vs h v av vb }
-
 -- ## Components
 
 module _ {plane queue counts : List ℕ} {m a b : ℕ} (k : Component plane queue m a b)
-    (t : Tally (values plane queue m) counts) (byte : b < 256) where
+    (t : Tally a b (values plane queue m) counts) where
   -- a value that no pixel of the component has does not occur
   absent : (v : ℕ) → ((i : ℕ) → i < m → v ≡ at plane (at queue i) → ⊥) → count (eqb v) (values plane queue m) ≡ 0
   absent v none =
@@ -183,7 +178,7 @@ module _ {plane queue counts : List ℕ} {m a b : ℕ} (k : Component plane queu
   -- the counts are those of every list that has the component's values
   pub histogram-of : {vs : List ℕ} → Alike vs (values plane queue m) → Histogram a b vs counts
   histogram-of s = record {
-    entry = λ v av vb. t .entry v (omega arith) ∙ sym (s .same v);
+    entry = λ v av vb. t .entry v av vb ∙ sym (s .same v);
     inside = record {
       low = λ v va. s .same v ∙ absent v (λ i im e. omega (arith, k .within i im));
       high = λ v bv. s .same v ∙ absent v (λ i im e. omega (arith, k .within i im));
@@ -206,22 +201,43 @@ module _ {plane queue counts : List ℕ} {m a b : ℕ} (k : Component plane queu
 pub listed-of : {plane queue : List ℕ} {m a b : ℕ} → Component plane queue m a b → Listed plane queue m
 listed-of k = record { few = k .few; room = k .room; pixels = k .pixels }
 
--- a component that is kept back, by the answer r of a test
-pub retoned-kept : {rule : Rule} {a b m : ℕ} {r : Bool} {plane queue vs : List ℕ} → r ≡ kept rule a b vs → r ≡ true
-    → Retoned rule a b vs plane queue plane m false
-retoned-kept {rule} {a} {b} {vs = vs} k e =
-    let kept-back : kept rule a b vs ≡ true = sym k ∙ e in
-    record { answer = rw kept-back; size = refl; drawn = λ i h. rw kept-back; stays = λ p h. refl }
+-- ## Tables
 
--- a component whose pixels have their tones
-pub retoned-painted : {rule : Rule} {a b m : ℕ} {r : Bool} {f : ℕ → ℕ} {plane queue plane' vs : List ℕ}
-    → r ≡ kept rule a b vs → r ≡ false → ((v : ℕ) → a ≤ v → v ≤ b → f v ≡ tone rule a b vs v)
-    → Component plane queue m a b → Painted f plane queue plane' m → Retoned rule a b vs plane queue plane' m true
-retoned-painted {rule} {a} {b} {vs = vs} k e f c p =
-    let not-kept : kept rule a b vs ≡ false = sym k ∙ e in
+-- the values themselves, where a test with the answer r keeps them
+pub ruled-kept : {rule : Rule} {a b : ℕ} {r : Bool} {counts l table : List ℕ}
+    → ((vs : List ℕ) → Histogram a b vs counts → r ≡ kept rule a b vs) → r ≡ true
+    → Refilled (λ v. v) a (b + 1) l table → Ruled rule a b counts table false
+ruled-kept {rule} {a} {b} k e same =
+    let kept-back : (vs : List ℕ) → Histogram a b vs _ → kept rule a b vs ≡ true = λ vs h. sym (k vs h) ∙ e in
     record {
-      answer = rw not-kept;
-      size = p .size;
-      drawn = λ i h. rw not-kept (p .drawn i h ∙ f _ (c .within i h .0) (c .within i h .1));
-      stays = p .stays;
+      answer = λ vs h. rw (kept-back vs h);
+      exact = λ vs h v av vb. rw (kept-back vs h) (same .new v av (omega arith));
     }
+
+-- the tones, where it does not
+pub ruled-toned : {rule : Rule} {a b : ℕ} {r : Bool} {counts table : List ℕ}
+    → ((vs : List ℕ) → Histogram a b vs counts → r ≡ kept rule a b vs) → r ≡ false
+    → Tabled (tone rule a b) a b counts table → Ruled rule a b counts table true
+ruled-toned {rule} {a} {b} k e t =
+    let not-kept : (vs : List ℕ) → Histogram a b vs _ → kept rule a b vs ≡ false = λ vs h. sym (k vs h) ∙ e in
+    record {
+      answer = λ vs h. rw (not-kept vs h);
+      exact = λ vs h v av vb. rw (not-kept vs h) (t .exact vs h v av vb);
+    }
+
+module _ {plane queue counts table : List ℕ} {m a b : ℕ} (k : Component plane queue m a b)
+    (t : Tally a b (values plane queue m) counts) where
+  -- a rule's table for the counts is one for the component
+  pub tables-of : {rule : Rule} {r : Bool} → Ruled rule a b counts table r
+      → ToneTables rule a b plane queue table m r
+  tables-of u vs s =
+      let h = histogram-of k t s in
+      record { answer = u .answer vs h; entry = λ i im. u .exact vs h _ (k .within i im .0) (k .within i im .1) }
+
+  -- the limited rule's entries at the component's values
+  pub limited-tables : {c : ℕ} {sums : List ℕ} → ClippedSums c m a b counts sums
+      → Filled (limitedBy sums m a b) plane queue table m → ToneTables (Limited c) a b plane queue table m true
+  unfolding tone kept
+  limited-tables u f vs s =
+      let exact = u .exact vs (histogram-of k t s) in
+      record { answer = refl; entry = λ i im. f .entry i im ∙ exact _ (k .within i im .0) (k .within i im .1) }

@@ -1,5 +1,5 @@
--- What stores leave: entries filled one after another, sums made in place, counts, and painted pixels. The invariant of
--- each loop has a law for where it begins and one for a turn. Assumes nothing.
+-- What stores leave: entries filled one after another, sums made in place, counts, and entries at the values of listed
+-- pixels. The invariant of each loop has a law for where it begins and one for a turn. Assumes nothing.
 use Prim.Native.Nat.{ℕ, _+_, _-_, _≤_, _<_}
 use mathlib.Core.Path.{_≡_, refl, sym, ap, _∙_}
 use mathlib.Core.Logic.{⊎-elim}
@@ -8,7 +8,7 @@ use mathlib.Core.List.{List, [], _∷_, _++_, map-append}
 use native.Mathlib.Nat.{min-le-left}
 use native.Mathlib.Omega.{arith}
 use native.Mathlib.Numerals.{add-one}
-use lib.ListN.{length, set, take, replicate, length-set, length-map, length-take, length-replicate, getD-replicate}
+use lib.ListN.{length, set, take, length-set, length-map, length-take}
 use lib.Seq.{getD-set-other, take-suc}
 use lib.Dec.{eqb}
 use borrow.Author.Tests.{eq-eqb, ne-eqb}
@@ -17,7 +17,7 @@ use Rattle.planes.proofs.Counts.{count-le, count-snoc}
 use Rattle.planes.proofs.Stores.{at-set}
 use Rattle.planes.proofs.Tests.{eq-or-not}
 use Rattle.tones.specs.Tones.{sumTo}
-use Rattle.tones.specs.Histograms.{values, Distinct, Tally, Refilled, Painted}
+use Rattle.tones.specs.Histograms.{values, Component, Tally, Refilled, Filled}
 use Rattle.tones.proofs.Sums.{sumTo-first, sumTo-next}
 
 -- ## Entries filled one after another
@@ -64,69 +64,66 @@ one-more f vs x e = omega (arith, count-snoc f vs x ∙ ap (λ t. cond t 1 0 + c
 no-more : (f : ℕ → Bool) (vs : List ℕ) (x : ℕ) → f x ≡ false → count f (vs ++ (x ∷ [])) ≡ count f vs
 no-more f vs x e = omega (arith, count-snoc f vs x ∙ ap (λ t. cond t 1 0 + count f vs) e)
 
-grow : {vs counts : List ℕ} (x : ℕ) → Tally vs counts → x < 256
-    → Tally (vs ++ (x ∷ [])) (set counts x (at counts x + 1))
-grow {vs} {counts} x h small = record {
+grow : {a b : ℕ} {vs counts : List ℕ} (x : ℕ) → Tally a b vs counts → a ≤ x → x ≤ b → x < 256
+    → Tally a b (vs ++ (x ∷ [])) (set counts x (at counts x + 1))
+grow {a} {b} {vs} {counts} x h ax xb small = record {
   size = simp length-set (h .size);
-  entry = λ v lt. at-set (λ n. n ≡ count (eqb v) (vs ++ (x ∷ []))) counts x v (at counts x + 1) (omega (arith, h .size))
+  entry = λ v av vb. at-set (λ n. n ≡ count (eqb v) (vs ++ (x ∷ []))) counts x v (at counts x + 1)
+      (omega (arith, h .size))
       (λ (s : v ≡ x). omega (
         arith,
-        h .entry x small,
+        h .entry x ax xb,
         ap (λ u. count (eqb u) vs) s,
         one-more (eqb v) vs x (eq-eqb v x s),
       ))
-      (λ o. omega (arith, h .entry v lt, no-more (eqb v) vs x (ne-eqb v x o)));
+      (λ o. omega (arith, h .entry v av vb, no-more (eqb v) vs x (ne-eqb v x o)));
 }
 
-pub tally-none : (plane queue : List ℕ) {counts : List ℕ} → counts ≡ replicate 256 0
-    → Tally (values plane queue 0) counts
-tally-none plane queue {counts} e = record {
-  size = ap length e ∙ length-replicate {A = ℕ} 256 0;
-  entry = λ v lt. ap (λ l. at l v) e ∙ getD-replicate 256 v 0 0 lt;
+pub tally-none : {a b : ℕ} (plane queue : List ℕ) {l counts : List ℕ} → Refilled (λ v. 0) a (b + 1) l counts
+    → length l ≡ 256 → Tally a b (values plane queue 0) counts
+tally-none plane queue h size = record {
+  size = h .size ∙ size;
+  entry = λ v av vb. h .new v av (omega arith);
 }
 
-pub tally-more : (plane queue : List ℕ) (i : ℕ) {counts : List ℕ} → Tally (values plane queue i) counts
-    → i < length queue → at plane (at queue i) < 256
-    → Tally (values plane queue (i + 1)) (set counts (at plane (at queue i)) (at counts (at plane (at queue i)) + 1))
-tally-more plane queue i h lt small =
+pub tally-more : (plane queue : List ℕ) (i : ℕ) {a b : ℕ} {counts : List ℕ} → Tally a b (values plane queue i) counts
+    → i < length queue → a ≤ at plane (at queue i) → at plane (at queue i) ≤ b → at plane (at queue i) < 256
+    → Tally a b (values plane queue (i + 1))
+    (set counts (at plane (at queue i)) (at counts (at plane (at queue i)) + 1))
+tally-more plane queue i h lt low high small =
     let next : values plane queue (i + 1) ≡ values plane queue i ++ (at plane (at queue i) ∷ [])
     = rw (add-one, take-suc queue i 0 lt, map-append) in
-    rw next (grow (at plane (at queue i)) h small)
+    rw next (grow (at plane (at queue i)) h low high small)
 
 -- no value occurs more often than there are entries
-pub tally-le : (plane queue : List ℕ) (i v : ℕ) {counts : List ℕ} → Tally (values plane queue i) counts → v < 256
-    → at counts v ≤ i
-tally-le plane queue i v h lt = omega (
+pub tally-le : (plane queue : List ℕ) (i v : ℕ) {a b : ℕ} {counts : List ℕ} → Tally a b (values plane queue i) counts
+    → a ≤ v → v ≤ b → at counts v ≤ i
+tally-le plane queue i v h av vb = omega (
   arith,
-  h .entry v lt,
+  h .entry v av vb,
   count-le (eqb v) (values plane queue i),
   length-map (take i queue) (at plane),
   length-take i queue,
   min-le-left i (length queue),
 )
 
--- ## Painting
+-- ## Entries at the values of listed pixels
 
-pub painted-none : {f : ℕ → ℕ} (plane queue : List ℕ) → Painted f plane queue plane 0
-painted-none plane queue = record { size = refl; drawn = λ i h. absurd (omega arith); stays = λ p h. refl }
+pub filled-none : {f : ℕ → ℕ} (plane queue table : List ℕ) → Filled f plane queue table 0
+filled-none plane queue table = record { entry = λ i h. absurd (omega arith) }
 
--- the pixel of the queue's next entry still has its old value
-pub painted-old : {f : ℕ → ℕ} {plane queue plane' : List ℕ} {m i : ℕ} → Painted f plane queue plane' i
-    → Distinct queue m → i < m → at plane' (at queue i) ≡ at plane (at queue i)
-painted-old h d lt = h .stays _ (λ j ji e. d j _ ji lt e)
+pub filled-more : {f : ℕ → ℕ} {plane queue table : List ℕ} {i x : ℕ} → Filled f plane queue table i
+    → at plane (at queue i) < length table → x ≡ f (at plane (at queue i))
+    → Filled f plane queue (set table (at plane (at queue i)) x) (i + 1)
+filled-more {f} {plane} {queue} {table} {i} {x} h room eq =
+    let value : ℕ → ℕ = λ j. at plane (at queue j) in
+    record {
+      entry = λ j ji. at-set (λ n. n ≡ f (value j)) table (value i) (value j) x room
+          (λ (e : value j ≡ value i). eq ∙ ap f (sym e))
+          (λ o. ⊎-elim (λ (e : j ≡ i). absurd (o (ap value e))) (λ n. h .entry j (omega arith)) (eq-or-not j i));
+    }
 
-pub painted-more : {f : ℕ → ℕ} {plane queue plane' : List ℕ} {m i x : ℕ} → Painted f plane queue plane' i
-    → Distinct queue m → i < m → at queue i < length plane → x ≡ f (at plane' (at queue i))
-    → Painted f plane queue (set plane' (at queue i) x) (i + 1)
-painted-more {f} {plane} {queue} {plane'} {m} {i} {x} h d lt inside eq = record {
-  size = simp length-set (h .size);
-  drawn = λ j ji. at-set (λ n. n ≡ f (at plane (at queue j))) plane' (at queue i) (at queue j) x
-      (omega (arith, h .size))
-      (λ (e : at queue j ≡ at queue i). eq ∙ ap f (painted-old h d lt ∙ ap (at plane) (sym e)))
-      (λ o. ⊎-elim
-      (λ (e : j ≡ i). absurd (o (ap (at queue) e)))
-      (λ n. h .drawn j (omega arith))
-      (eq-or-not j i));
-  stays = λ p none. getD-set-other plane' (at queue i) p x 0 (λ e. none i (omega arith) (sym e))
-      ∙ h .stays p (λ j ji. none j (omega arith));
-}
+-- entries of all values of [a, b] are entries of the listed pixels' values
+pub filled-all : {f : ℕ → ℕ} {plane queue l table : List ℕ} {m a b : ℕ} → Component plane queue m a b
+    → Refilled f a (b + 1) l table → Filled f plane queue table m
+filled-all c h = record { entry = λ i im. h .new _ (c .within i im .0) (omega (arith, c .within i im .1)) }

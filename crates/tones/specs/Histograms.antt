@@ -1,23 +1,25 @@
--- Components as the first entries of a queue, their counts, and what becomes of a plane. Definitions only.
+-- Components as the first entries of a queue, their counts, and their tables of tones. Definitions only.
 --
 -- For callers:
---   values            the values of a component's pixels, in the queue's order
---   Component         the queue's first m entries are pixels of the plane, each once, with values in [a, b]
---   Alike             two lists have the same values, perhaps in another order
---   Retoned, Retones  what a tone rule makes of a component, by a list of its values, and by every such list
+--   values                  the values of a component's pixels, in the queue's order
+--   Distinct                no two of the queue's first m entries are the same
+--   Component               the queue's first m entries are pixels of the plane, each once, with values in [a, b]
+--   Listed                  the queue's first m entries are pixels of the plane
+--   Alike                   two lists have the same values, perhaps in another order
+--   ToneTable, ToneTables   a rule's table for a component, by a list of its values, and by every such list
 -- For the functions within:
---   Listed, Distinct  the queue's first m entries are pixels of the plane; no two are the same
---   Tally             256 counts, one for each value
---   Inside            all values of a list lie in [a, b]
---   Histogram         the counts of [a, b], by the list of values
---   Counted           the counts of [a, b] of some m pixels
---   Lowest, Highest   the least and the greatest value that occurs
---   Refilled          an array with new entries from a on, and what they are
---   Sums              sums that never fall
---   limitedBy         the limited rule's tone, by the sums of the clipped counts
---   Tabled            a table of tones, by every list of values that has the counts
---   ClippedSums       the sums of the clipped counts, by every list of values that has the counts
---   Painted           the listed pixels have new values, and the others are as they were
+--   Tally                   256 counts, and those of [a, b] are a list's
+--   Inside                  all values of a list lie in [a, b]
+--   Histogram               the counts of [a, b], by the list of values
+--   Counted                 the counts of [a, b] of some m pixels
+--   Lowest, Highest         the least and the greatest value that occurs
+--   Refilled                an array with new entries from a on, and what they are
+--   Sums                    sums that never fall
+--   limitedBy               the limited rule's tone, by the sums of the clipped counts
+--   Tabled                  a table of tones, by every list of values that has the counts
+--   Ruled                   a rule's table, by every list of values that has the counts
+--   ClippedSums             the sums of the clipped counts, by every list of values that has the counts
+--   Filled                  a table with new entries at the values of the listed pixels
 use Prim.Native.Nat.{ℕ, _+_, _-_, _*_, _≤_, _<_}
 use mathlib.Core.Path.{_≡_}
 use mathlib.Core.Bool.{Bool, not, cond}
@@ -58,10 +60,10 @@ pub record Listed (plane queue : List ℕ) (m : ℕ) : Type 0 where
 
 -- ## Counts
 
--- of 256 entries, each is the count of its value
-pub record Tally (vs counts : List ℕ) : Type 0 where
+-- of 256 entries, each of [a, b] is the count of its value
+pub record Tally (a b : ℕ) (vs counts : List ℕ) : Type 0 where
   pub size : length counts ≡ 256
-  pub entry : (v : ℕ) → v < 256 → at counts v ≡ count (eqb v) vs
+  pub entry : (v : ℕ) → a ≤ v → v ≤ b → at counts v ≡ count (eqb v) vs
 
 pub record Inside (a b : ℕ) (vs : List ℕ) : Type 0 where
   pub low : (v : ℕ) → v < a → count (eqb v) vs ≡ 0
@@ -125,23 +127,27 @@ pub record ClippedSums (k m a b : ℕ) (counts sums : List ℕ) : Type 0 where
   pub exact : (vs : List ℕ) → Histogram a b vs counts → (v : ℕ) → a ≤ v → v ≤ b
       → limitedBy sums m a b v ≡ limitedTone k a b vs v
 
--- ## Planes
+-- ## Tables
 
-pub record Painted (f : ℕ → ℕ) (plane queue plane' : List ℕ) (m : ℕ) : Type 0 where
-  pub size : length plane' ≡ length plane
-  pub drawn : (i : ℕ) → i < m → at plane' (at queue i) ≡ f (at plane (at queue i))
-  pub stays : (p : ℕ) → ((i : ℕ) → i < m → at queue i ≡ p → ⊥) → at plane' p ≡ at plane p
+-- at the value of each of the queue's first m pixels, the entry is that of f
+pub record Filled (f : ℕ → ℕ) (plane queue table : List ℕ) (m : ℕ) : Type 0 where
+  pub entry : (i : ℕ) → i < m → at table (at plane (at queue i)) ≡ f (at plane (at queue i))
 
--- a component whose values are vs: r says that it was not kept back; its pixels have their tones, or their old values
--- if it was; all other pixels are as they were
-pub record Retoned (rule : Rule) (a b : ℕ) (vs plane queue plane' : List ℕ) (m : ℕ) (r : Bool) : Type 0 where
+-- for every list of values that has these counts: r says that it is not kept back; the entries of [a, b] are the tones
+-- of the values there, or the values themselves if it is
+pub record Ruled (rule : Rule) (a b : ℕ) (counts table : List ℕ) (r : Bool) : Type 0 where
+  pub answer : (vs : List ℕ) → Histogram a b vs counts → r ≡ not (kept rule a b vs)
+  pub exact : (vs : List ℕ) → Histogram a b vs counts → (v : ℕ) → a ≤ v → v ≤ b
+      → at table v ≡ cond (kept rule a b vs) v (tone rule a b vs v)
+
+-- a component whose values are vs: r says that it is not kept back; at each of its values the table has the value's
+-- tone, or the value itself if it is
+pub record ToneTable (rule : Rule) (a b : ℕ) (vs plane queue table : List ℕ) (m : ℕ) (r : Bool) : Type 0 where
   pub answer : r ≡ not (kept rule a b vs)
-  pub size : length plane' ≡ length plane
-  pub drawn : (i : ℕ) → i < m → at plane' (at queue i)
+  pub entry : (i : ℕ) → i < m → at table (at plane (at queue i))
       ≡ cond (kept rule a b vs) (at plane (at queue i)) (tone rule a b vs (at plane (at queue i)))
-  pub stays : (p : ℕ) → ((i : ℕ) → i < m → at queue i ≡ p → ⊥) → at plane' p ≡ at plane p
 
 -- the same for every list of the component's values
-abbrev pub Retones : Rule → ℕ → ℕ → List ℕ → List ℕ → List ℕ → ℕ → Bool → Type 0
-Retones rule a b plane queue plane' m r =
-    (vs : List ℕ) → Alike vs (values plane queue m) → Retoned rule a b vs plane queue plane' m r
+abbrev pub ToneTables : Rule → ℕ → ℕ → List ℕ → List ℕ → List ℕ → ℕ → Bool → Type 0
+ToneTables rule a b plane queue table m r =
+    (vs : List ℕ) → Alike vs (values plane queue m) → ToneTable rule a b vs plane queue table m r

@@ -1,27 +1,28 @@
-// The tone rules, on a component whose pixels the first m entries of a queue name. Only `retone` and `Rule` are public.
+// The tone rules, on a component whose pixels the first m entries of a queue name. Only `tone_table` and `Rule` are
+// public.
 //
-//   retone                                 gives a component a rule, and says whether it was retoned
-//   retone_plain, retone_limited           the same for each rule, from the counts
-//   histogram                              counts the values
+//   tone_table                             a component's table of tones, and whether it is retoned
+//   plain_tones, limited_tones             the same for each rule, from the counts
+//   clear, histogram                       count the values
 //   sum_up, clip_of, clip, sum_clipped     sums of counts and of clipped counts, in place
 //   lowest, highest, keeps, plain_keeps    the test that keeps the old values
 //   nearest, scale, next_tone              one tone, with the one rounding of both rules
-//   limited_tone, fill_plain, fill_limited, plain_table, limited_table    tables of tones
-//   paint, paint_limited                   new values for the listed pixels
+//   limited_tone, fill_same, fill_plain, plain_table, fill_limited, fill_listed    entries of the table
 //
-// Counts, sums and table are kept to the entries of [a, b]: a component costs time in its pixels and in b - a + 1.
-// The plain rule's table divides once for each value that occurs, the limited rule once for each value or each pixel,
-// whichever are fewer.
+// Counts and table are lent, with any content, and only their entries of [a, b] are read or written: a component costs
+// time in its pixels and in b - a + 1. The plain rule's table divides once for each value that occurs, the limited rule
+// once for each value or each pixel, whichever are fewer. What clears or fills takes a slice, for an array that is lent
+// as a slice is known to have all its entries.
 ghost use mathlib.Core.Path.{_≡_};
 ghost use mathlib.Core.List.{List};
 ghost use Prim.Native.Nat.{ℕ, _+_, _-_, _*_, _^_, _≤_, _<_, min};
-ghost use lib.ListN.{length, replicate};
+ghost use lib.ListN.{length};
 ghost use Rattle.planes.specs.Lists.{at};
 ghost use Rattle.planes.specs.Rounding.{rounded};
-ghost use Rattle.tones.specs.Tones.{sumTo, scaled, plainTone, limitedTone, keptBy, kept};
-ghost use Rattle.tones.specs.Histograms.{values, Listed, Distinct, Component, Painted, Retones};
+ghost use Rattle.tones.specs.Tones.{sumTo, scaled, plainTone, keptBy, kept};
+ghost use Rattle.tones.specs.Histograms.{values, Component, ToneTables};
 ghost use Rattle.tones.specs.Histograms.{Tally, Histogram, Counted, Lowest, Highest, Refilled, Sums};
-ghost use Rattle.tones.specs.Histograms.{limitedBy, ClippedSums, Tabled};
+ghost use Rattle.tones.specs.Histograms.{limitedBy, ClippedSums, Tabled, Ruled, Filled};
 
 // A tone rule: plain, which keeps the old values where the spread grows or shrinks too much, in hundredths; or limited,
 // which clips the counts at k thousandths of the pixels.
@@ -30,11 +31,25 @@ pub enum Rule {
     Limited { k: u16 },
 }
 
-// Counts the values of the pixels that the queue's first m entries name.
-fn histogram(plane: &[u8], queue: &[u32], m: usize, counts: &mut [u32; 256])
-    requires { ⌜ Listed (now plane) (now queue) m × (now counts ≡ replicate 256 0) ⌝ }
-    ensures { λ r. ⌜ Tally (values (now (plane .entry)) (now (queue .entry)) m) (now (counts .exit)) ⌝ }
+// Zeroes the counts of the values of [a, b].
+fn clear(counts: &mut [u32], a: u8, b: u8)
+    requires { ⌜ (a ≤ b) × (b < length (now counts)) ⌝ }
+    ensures { λ r. ⌜ Refilled (λ v. 0) a (b + 1) (now (counts .entry)) (now (counts .exit)) ⌝ }
 {
+    let last = b as usize;
+    let mut v = a as usize;
+    while v <= last {
+        counts[v] = 0;
+        v += 1;
+    }
+}
+
+// Counts the values of a component, which are of [a, b].
+fn histogram(plane: &[u8], queue: &[u32], m: usize, counts: &mut [u32; 256], a: u8, b: u8)
+    requires { ⌜ Component (now plane) (now queue) m a b ⌝ }
+    ensures { λ r. ⌜ Tally a b (values (now (plane .entry)) (now (queue .entry)) m) (now (counts .exit)) ⌝ }
+{
+    clear(counts, a, b);
     let mut i = 0;
     while i < m {
         let p = queue[i] as usize;
@@ -119,9 +134,22 @@ fn next_tone(a: u8, b: u8, last: u32, tone: u8, x: u32, m: usize) -> u8
     scale(a, b, x as u64, m as u64)
 }
 
+// The values of [a, b] themselves.
+fn fill_same(table: &mut [u8], a: u8, b: u8)
+    requires { ⌜ (a ≤ b) × (b < length (now table)) ⌝ }
+    ensures { λ r. ⌜ Refilled (λ v. v) a (b + 1) (now (table .entry)) (now (table .exit)) ⌝ }
+{
+    let end = b as usize + 1;
+    let mut v = a as usize;
+    while v < end {
+        table[v] = v as u8;
+        v += 1;
+    }
+}
+
 // The tones of the values of [a, b] by the sums of their counts.
-fn fill_plain(sums: &[u32; 256], table: &mut [u8; 256], m: usize, a: u8, b: u8)
-    requires { ⌜ Sums (now sums) m m a b × (length (now table) ≡ 256) ⌝ }
+fn fill_plain(sums: &[u32; 256], table: &mut [u8], m: usize, a: u8, b: u8)
+    requires { ⌜ Sums (now sums) m m a b × (b < length (now table)) ⌝ }
     ensures { λ r. ⌜ Refilled (λ v. scaled a b (at (now (sums .entry)) v) m) a (b + 1)
         (now (table .entry)) (now (table .exit)) ⌝ }
 {
@@ -140,7 +168,7 @@ fn fill_plain(sums: &[u32; 256], table: &mut [u8; 256], m: usize, a: u8, b: u8)
 
 // The plain rule's tone of each value of [a, b]; the counts become their sums.
 fn plain_table(counts: &mut [u32; 256], table: &mut [u8; 256], m: usize, a: u8, b: u8)
-    requires { ⌜ Counted (now counts) m a b × (length (now table) ≡ 256) ⌝ }
+    requires { ⌜ Counted (now counts) m a b ⌝ }
     ensures { λ r. ⌜ Tabled (plainTone a b) a b (now (counts .entry)) (now (table .exit)) ⌝ }
 {
     sum_up(counts, a, b);
@@ -211,8 +239,8 @@ fn limited_tone(sums: &[u32; 256], m: usize, a: u8, b: u8, v: usize) -> u8
 }
 
 // The tones of the values of [a, b] by the sums of the clipped counts.
-fn fill_limited(sums: &[u32; 256], table: &mut [u8; 256], m: usize, a: u8, b: u8)
-    requires { ⌜ Sums (now sums) (1000 * m) m a b × (length (now table) ≡ 256) ⌝ }
+fn fill_limited(sums: &[u32; 256], table: &mut [u8], m: usize, a: u8, b: u8)
+    requires { ⌜ Sums (now sums) (1000 * m) m a b × (b < length (now table)) ⌝ }
     ensures { λ r. ⌜ Refilled (limitedBy (now (sums .entry)) m a b) a (b + 1)
         (now (table .entry)) (now (table .exit)) ⌝ }
 {
@@ -221,6 +249,30 @@ fn fill_limited(sums: &[u32; 256], table: &mut [u8; 256], m: usize, a: u8, b: u8
     while v < end {
         table[v] = limited_tone(sums, m, a, b, v);
         v += 1;
+    }
+}
+
+// The tones of the values of the queue's first m pixels by the sums of the clipped counts.
+fn fill_listed(
+    plane: &[u8],
+    queue: &[u32],
+    m: usize,
+    sums: &[u32; 256],
+    table: &mut [u8],
+    a: u8,
+    b: u8,
+)
+    requires { ⌜ Component (now plane) (now queue) m a b
+        × (Sums (now sums) (1000 * m) m a b × (b < length (now table))) ⌝ }
+    ensures { λ r. ⌜ Filled (limitedBy (now (sums .entry)) m a b)
+        (now (plane .entry)) (now (queue .entry)) (now (table .exit)) m ⌝ }
+{
+    let mut i = 0;
+    while i < m {
+        let p = queue[i] as usize;
+        let value = plane[p] as usize;
+        table[value] = limited_tone(sums, m, a, b, value);
+        i += 1;
     }
 }
 
@@ -242,105 +294,72 @@ fn sum_clipped(counts: &mut [u32; 256], m: usize, a: u8, b: u8, k: u16)
     sum_up(counts, a, b);
 }
 
-// The limited rule's tone of each value of [a, b]; the counts become sums of clipped counts.
-fn limited_table(counts: &mut [u32; 256], table: &mut [u8; 256], m: usize, a: u8, b: u8, k: u16)
-    requires { ⌜ Counted (now counts) m a b × (length (now table) ≡ 256) ⌝ }
-    ensures { λ r. ⌜ Tabled (limitedTone k a b) a b (now (counts .entry)) (now (table .exit)) ⌝ }
-{
-    sum_clipped(counts, m, a, b, k);
-    fill_limited(counts, table, m, a, b);
-}
-
-// Gives the pixels that the queue's first m entries name the table's tones.
-fn paint(plane: &mut [u8], queue: &[u32], m: usize, table: &[u8; 256])
-    requires { ⌜ Listed (now plane) (now queue) m × Distinct (now queue) m ⌝ }
-    ensures { λ r. ⌜ Painted (at (now (table .entry)))
-        (now (plane .entry)) (now (queue .entry)) (now (plane .exit)) m ⌝ }
-{
-    let mut i = 0;
-    while i < m {
-        let p = queue[i] as usize;
-        let v = plane[p] as usize;
-        plane[p] = table[v];
-        i += 1;
-    }
-}
-
-// Gives the pixels that the queue's first m entries name the limited rule's tones, each by a division of its own.
-fn paint_limited(plane: &mut [u8], queue: &[u32], m: usize, sums: &[u32; 256], a: u8, b: u8)
-    requires { ⌜ Component (now plane) (now queue) m a b × Sums (now sums) (1000 * m) m a b ⌝ }
-    ensures { λ r. ⌜ Painted (limitedBy (now (sums .entry)) m a b)
-        (now (plane .entry)) (now (queue .entry)) (now (plane .exit)) m ⌝ }
-{
-    let mut i = 0;
-    while i < m {
-        let p = queue[i] as usize;
-        let v = plane[p] as usize;
-        plane[p] = limited_tone(sums, m, a, b, v);
-        i += 1;
-    }
-}
-
-// Gives a component the plain rule; whether it was retoned.
-fn retone_plain(
-    plane: &mut [u8],
-    queue: &[u32],
-    m: usize,
+// The table of the plain rule; whether the component is retoned.
+fn plain_tones(
     counts: &mut [u32; 256],
+    table: &mut [u8; 256],
+    m: usize,
     low: u16,
     high: u16,
     a: u8,
     b: u8,
 ) -> bool
-    requires { ⌜ Component (now plane) (now queue) m a b × Tally (values (now plane) (now queue) m) (now counts) ⌝ }
-    ensures { λ r. ⌜ Retones (Rule.Plain low high) a b
-        (now (plane .entry)) (now (queue .entry)) (now (plane .exit)) m r ⌝ }
+    requires { ⌜ Counted (now counts) m a b ⌝ }
+    ensures { λ r. ⌜ Ruled (Rule.Plain low high) a b (now (counts .entry)) (now (table .exit)) r ⌝ }
 {
     if plain_keeps(counts, m, low, high, a, b) {
+        fill_same(table, a, b);
         return false;
     }
-    let mut table = [0u8; 256];
-    plain_table(counts, &mut table, m, a, b);
-    paint(plane, queue, m, &table);
+    plain_table(counts, table, m, a, b);
     true
 }
 
-// Gives a component the limited rule, which keeps nothing back.
-fn retone_limited(
-    plane: &mut [u8],
+// The table of the limited rule; whether the component is retoned, which it always is.
+fn limited_tones(
+    plane: &[u8],
     queue: &[u32],
     m: usize,
     counts: &mut [u32; 256],
+    table: &mut [u8; 256],
     k: u16,
     a: u8,
     b: u8,
 ) -> bool
-    requires { ⌜ Component (now plane) (now queue) m a b × Tally (values (now plane) (now queue) m) (now counts) ⌝ }
-    ensures { λ r. ⌜ Retones (Rule.Limited k) a b
-        (now (plane .entry)) (now (queue .entry)) (now (plane .exit)) m r ⌝ }
+    requires { ⌜ Component (now plane) (now queue) m a b
+        × Tally a b (values (now plane) (now queue) m) (now counts) ⌝ }
+    ensures { λ r. ⌜ ToneTables (Rule.Limited k) a b
+        (now (plane .entry)) (now (queue .entry)) (now (table .exit)) m r ⌝ }
 {
+    sum_clipped(counts, m, a, b, k);
     let d = (b - a) as usize;
     if m <= d {
-        sum_clipped(counts, m, a, b, k);
-        paint_limited(plane, queue, m, counts, a, b);
+        fill_listed(plane, queue, m, counts, table, a, b);
         return true;
     }
-    let mut table = [0u8; 256];
-    limited_table(counts, &mut table, m, a, b, k);
-    paint(plane, queue, m, &table);
+    fill_limited(counts, table, m, a, b);
     true
 }
 
-// Gives the component of the queue's first m pixels the rule; whether it was retoned, and so not kept back.
-pub fn retone(plane: &mut [u8], queue: &[u32], m: usize, rule: Rule, a: u8, b: u8) -> bool
+// Fills the table's entries at the values of the component of the queue's first m pixels with their new values by the
+// rule; whether it is retoned, and so not kept back. Counts and table may come with any content.
+pub fn tone_table(
+    plane: &[u8],
+    queue: &[u32],
+    m: usize,
+    rule: Rule,
+    a: u8,
+    b: u8,
+    counts: &mut [u32; 256],
+    table: &mut [u8; 256],
+) -> bool
     requires { ⌜ Component (now plane) (now queue) m a b ⌝ }
-    ensures { λ r. ⌜ Retones rule a b
-        (now (plane .entry)) (now (queue .entry)) (now (plane .exit)) m r ⌝ }
+    ensures { λ r. ⌜ ToneTables rule a b
+        (now (plane .entry)) (now (queue .entry)) (now (table .exit)) m r ⌝ }
 {
-    let mut counts = [0u32; 256];
-    histogram(plane, queue, m, &mut counts);
+    histogram(plane, queue, m, counts, a, b);
     match rule {
-        Rule::Plain { low, high } => retone_plain(plane, queue, m, &mut counts, low, high, a, b),
-        Rule::Limited { k } => retone_limited(plane, queue, m, &mut counts, k, a, b),
+        Rule::Plain { low, high } => plain_tones(counts, table, m, low, high, a, b),
+        Rule::Limited { k } => limited_tones(plane, queue, m, counts, table, k, a, b),
     }
 }

@@ -9,20 +9,21 @@ use native.Mathlib.Omega.{arith}
 use borrow.Author.Needs.{needs}
 use lib.ListN.{length}
 use Rattle.planes.specs.Neighbours.{four}
+use Rattle.components.proofs.Rows.{width-of}
 use Rattle.components.proofs.Flooding.{Flooding, head-off, turn, finish}
 use Rattle.components.proofs.Four.{four-may-begin, four-begin}
 use Rattle.components.proofs.flood.Statement.{statement}
 use Rattle.components.proofs.flood.Tie as tie
 
 abbrev Inv-loop : tie.InvT-loop
-Inv-loop marks₀ queue₀ w h code start n tail₀ head₀ marks queue tail head =
+Inv-loop marks₀ queue₀ w h inverse code start n tail₀ head₀ marks queue tail head =
     (length marks ≡ length marks₀)
     × ((length queue ≡ length queue₀)
     × ((marks' queue' : List ℕ) → Flooding (four w) w n code start marks' queue' marks₀ queue₀ head₀ tail₀
     → Flooding (four w) w n code start marks' queue' marks queue head tail))
 
 abbrev μ-loop : tie.MeasureT-loop
-μ-loop marks₀ queue₀ w h code start n tail₀ head₀ marks queue tail head = length queue - head
+μ-loop marks₀ queue₀ w h inverse code start n tail₀ head₀ marks queue tail head = length queue - head
 
 mul-n : tie.Need-mul-n Inv-loop μ-loop
 mul-n c = omega (arith, c .before .before .pre .size .few)
@@ -68,8 +69,7 @@ spread-requires c κs =
     let f = l .loop .inv .1 .1 _ _ (four-begin (s .pre) (v .reach .ensures)) in
     let t = c .before .before .before .loop-test .taken in
     record {
-      wide = s .pre .size .wide;
-      narrow = s .pre .size .narrow;
+      width = width-of (s .pre .size) (s .pre .inverse-is);
       whole = mul-mod-right (s .args .w) (s .args .h);
       inside = f .searched .below _ t;
       off = head-off f t;

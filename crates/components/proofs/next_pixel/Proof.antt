@@ -2,71 +2,81 @@
 -- `from` on and before the present one has the code. Their measures are the rows and the columns that are left. s is
 -- the function's entry, `row` and `column` the turns of the loops. Assumes nothing.
 use Prim.Native.Nat.{_+_, _*_, _-_, _≤_}
-use mathlib.Core.Path.{_≡_}
+use mathlib.Core.Path.{_≡_, ap}
 use mathlib.Core.Logic.{⊎-elim}
-use native.Mathlib.Nat.{div-add-mod', mod-lt}
 use native.Mathlib.Omega.{arith}
 use borrow.Author.Needs.{needs}
 use Rattle.components.specs.Search.{Skipped}
-use Rattle.components.proofs.Rows.{next-row, row-inside, past-rows}
+use Rattle.components.proofs.Rows.{next-row, row-inside, past-rows, row-bounds, width-of}
 use Rattle.components.proofs.Stretches.{skipped-none, skipped-one, skipped-more, skipped-less}
 use Rattle.components.proofs.next_pixel.Statement.{statement}
 use Rattle.components.proofs.next_pixel.Tie as tie
 
 abbrev Inv-loop : tie.InvT-loop
-Inv-loop marks w h code from n at₀ first y row x₀ at x = (at ≡ n) × Skipped marks code from (row + x)
+Inv-loop marks w h inverse code from n at₀ top first y row x₀ at x = (at ≡ n) × Skipped marks code from (row + x)
 
 abbrev μ-loop : tie.MeasureT-loop
-μ-loop marks w h code from n at₀ first y row x₀ at x = w - x
+μ-loop marks w h inverse code from n at₀ top first y row x₀ at x = w - x
 
 abbrev Inv-search : tie.InvT-search
-Inv-search marks w h code from n at₀ first₀ y₀ at first y =
+Inv-search marks w h inverse code from n at₀ top first₀ y₀ at first y =
     (at ≡ n) × ((first ≤ w) × Skipped marks code from (y * w + first))
 
 abbrev μ-search : tie.MeasureT-search
-μ-search marks w h code from n at₀ first₀ y₀ at first y = h - y
+μ-search marks w h inverse code from n at₀ top first₀ y₀ at first y = h - y
 
 mul-n : tie.Need-mul-n Inv-loop μ-loop Inv-search μ-search
 mul-n c = omega (arith, c .before .pre .size .few)
 
-rem-first : tie.Need-rem-first Inv-loop μ-loop Inv-search μ-search
-rem-first c = omega (arith, c .before .pre .size .wide)
+row-of-requires : tie.Need-row-of-requires Inv-loop μ-loop Inv-search μ-search
+row-of-requires c κs =
+    let s = c .before in
+    (width-of (s .pre .size) (s .pre .inverse-is), omega (arith, s .pre .inside, s .pre .size .few))
 
-div-y : tie.Need-div-y Inv-loop μ-loop Inv-search μ-search
-div-y c = omega (arith, c .before .pre .size .wide)
+mul-first : tie.Need-mul-first Inv-loop μ-loop Inv-search μ-search
+mul-first c =
+    let s = c .before .before in
+    let top = ap (_* s .args .w) (c .row-of .ensures) in
+    omega (arith, row-bounds (s .args .w) (s .args .from) (s .pre .size .wide) .0)
+
+sub-first : tie.Need-sub-first Inv-loop μ-loop Inv-search μ-search
+sub-first c =
+    let s = c .before .before in
+    let top = ap (_* s .args .w) (c .row-of .ensures) in
+    omega (arith, row-bounds (s .args .w) (s .args .from) (s .pre .size .wide) .0)
 
 search-holds : tie.Need-search-holds Inv-loop μ-loop Inv-search μ-search
 search-holds c =
-    let s = c .before in
-    let whole = div-add-mod' (s .args .from) (s .args .w) in
-    let column = mod-lt (s .args .from) (s .pre .size .wide) in
-    (search needs, (omega arith, skipped-none _ _ _ _ whole))
+    let s = c .before .before in
+    let top = ap (_* s .args .w) (c .row-of .ensures) in
+    let bounds = row-bounds (s .args .w) (s .args .from) (s .pre .size .wide) in
+    (search needs, (omega arith, skipped-none _ _ _ _ (omega arith)))
 
 mul-row : tie.Need-mul-row Inv-loop μ-loop Inv-search μ-search
 mul-row c =
     let row = c .before in
-    let s = row .before .before in
+    let s = row .before .before .before in
     let inside = row-inside (row .search .y) (s .args .w) (s .args .h) (omega arith) in
     omega (arith, s .pre .size .few)
 
 add-skip : tie.Need-add-skip Inv-loop μ-loop Inv-search μ-search
 add-skip c =
     let row = c .before in
-    let s = row .before .before in
+    let s = row .before .before .before in
     let inside = row-inside (row .search .y) (s .args .w) (s .args .h) (omega arith) in
     omega (arith, s .pre .size .few)
 
 add-skip-2 : tie.Need-add-skip-2 Inv-loop μ-loop Inv-search μ-search
 add-skip-2 c =
     let row = c .before in
-    let s = row .before .before in
+    let s = row .before .before .before in
     let inside = row-inside (row .search .y) (s .args .w) (s .args .h) (omega arith) in
     omega (arith, s .pre .size .few)
 
 skip-requires : tie.Need-skip-requires Inv-loop μ-loop Inv-search μ-search
 skip-requires c κs =
     let row = c .before in
-    let s = row .before .before in
+    let s = row .before .before .before in
     let inside = row-inside (row .search .y) (s .args .w) (s .args .h) (omega arith) in
     omega (arith, s .pre .covered)
 
@@ -82,14 +92,14 @@ loop-holds c =
 add-p : tie.Need-add-p Inv-loop μ-loop Inv-search μ-search
 add-p c =
     let row = c .before .before .before .before in
-    let s = row .before .before in
+    let s = row .before .before .before in
     let inside = row-inside (row .search .y) (s .args .w) (s .args .h) (omega arith) in
     omega (arith, s .pre .size .few)
 
 shared-slice-read-if1 : tie.Need-shared-slice-read-if1 Inv-loop μ-loop Inv-search μ-search
 shared-slice-read-if1 c =
     let row = c .before .before .before .before .before in
-    let s = row .before .before in
+    let s = row .before .before .before in
     let inside = row-inside (row .search .y) (s .args .w) (s .args .h) (omega arith) in
     omega (arith, s .pre .covered)
 
@@ -113,7 +123,7 @@ search-less c = omega arith
 search-again : tie.Need-search-again Inv-loop μ-loop Inv-search μ-search
 search-again c =
     let row = c .before .before .before .before in
-    let s = row .before .before in
+    let s = row .before .before .before in
     let next = next-row (row .search .y) (s .args .w) in
     let passed = row .search .inv .1 .1 .past in
     (search needs, (omega arith, skipped-less _ _ _ _ (omega arith) (omega arith) (c .before .loop .inv .1)))
@@ -121,7 +131,7 @@ search-again c =
 returns : tie.Need-returns Inv-loop μ-loop Inv-search μ-search
 returns c =
     let row = c .before .before in
-    let s = row .before .before in
+    let s = row .before .before .before in
     ⊎-elim (λ left. absurd (omega arith))
     (λ found.
     let inside = row-inside (row .search .y) (s .args .w) (s .args .h) (found .0 .taken) in
@@ -137,7 +147,7 @@ returns c =
 returns-2 : tie.Need-returns-2 Inv-loop μ-loop Inv-search μ-search
 returns-2 c =
     let row = c .before .before in
-    let s = row .before .before in
+    let s = row .before .before .before in
     ⊎-elim
     (λ left p l h.
     let past = past-rows (row .search .y) (s .args .w) (s .args .h) (left .0 .left) in
@@ -156,8 +166,9 @@ next-pixel-spec =
     Inv-search
     μ-search
     mul-n
-    rem-first
-    div-y
+    row-of-requires
+    mul-first
+    sub-first
     search-holds
     mul-row
     add-skip

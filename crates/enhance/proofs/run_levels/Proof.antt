@@ -2,7 +2,7 @@
 use Prim.Native.Nat.{ℕ, zero, suc, _<_}
 use mathlib.Core.Path.{_≡_, refl}
 use native.Mathlib.Omega.{arith}
-use Rattle.passes.proofs.Calls.{marked-coded, marked-section}
+use Rattle.passes.proofs.Calls.{marked-coded, marked-whole, marked-section}
 use Rattle.enhance.proofs.Levels.{still-ready, root-small, root-only, root-halves}
 use Rattle.enhance.proofs.Marks.{next-not, next-halves, root-numbered, root-many, root-marks}
 use borrow.Author.Needs.{needs}
@@ -32,12 +32,13 @@ mark-section-requires c κs =
     let lent = c .before .before .before .before .before .before .before .before .pre .lent in
     (omega (arith, lent .whole), omega (arith, lent .covered))
 
-treat-section-requires : tie.Need-treat-section-requires
-treat-section-requires c κs =
+treat-plane-requires : tie.Need-treat-plane-requires
+treat-plane-requires c κs =
     let m = c .before .before .before .before .before in
     let s = m .before .before .before .before .before .before .before .before .before in
     let X = m .before .before .before .next-of .ensures in
-    marked-section (s .pre .lent) (omega arith) (m .mark-section .ensures) (next-not X (omega arith))
+    let M = m .mark-section .ensures in
+    (marked-section (s .pre .lent) (omega arith) M (next-not X (omega arith)), marked-whole refl refl M)
 
 split-requires : tie.Need-split-requires
 split-requires c κs =
@@ -46,7 +47,7 @@ split-requires c κs =
     let s = m .before .before .before .before .before .before .before .before .before in
     let few = s .pre .lent .size .few in
     let whole = s .pre .lent .whole in
-    let T = v .treat-section .ensures in
+    let T = v .treat-plane .ensures .treated in
     let M = m .mark-section .ensures in
     let X = m .before .before .before .next-of .ensures in
     let span = m .before .before .before .before .before .sections .ensures in
@@ -54,9 +55,9 @@ split-requires c κs =
     let deep = m .before .before .before .before .some .ensures .0 e in
     let N = root-numbered (s .pre .last) (span .0) (span .1) in
     let some-levels : 0 < s .args .settings .last = positive (s .args .settings .last) deep in (
-      still-ready (s .pre) (omega (arith, v .treat-section)) (omega (arith, v .treat-section, m .mark-section))
-          (omega (arith, v .treat-section)),
-      next-halves refl refl whole T (marked-coded M) (root-marks _ M) (X .middle) (X .halves e) (s .pre .area) refl
+      still-ready (s .pre) (omega (arith, v .treat-plane)) (omega (arith, v .treat-plane, m .mark-section))
+          (omega (arith, v .treat-plane)),
+      next-halves refl refl whole (v .treat-plane .ensures) (marked-coded M) (root-marks _ M) (X .middle) (X .halves e) (s .pre .area) refl
           (s .args .settings .last) some-levels N,
     )
 
@@ -68,7 +69,7 @@ add-result c =
     let s = m .before .before .before .before .before .before .before .before .before in
     let few = s .pre .lent .size .few in
     let whole = s .pre .lent .whole in
-    let T = v .treat-section .ensures in
+    let T = v .treat-plane .ensures .treated in
     let M = m .mark-section .ensures in
     let X = m .before .before .before .next-of .ensures in
     let span = m .before .before .before .before .before .sections .ensures in
@@ -92,7 +93,7 @@ returns c =
     let s = m .before .before .before .before .before .before .before .before .before in
     let few = s .pre .lent .size .few in
     let whole = s .pre .lent .whole in
-    let T = v .treat-section .ensures in
+    let T = v .treat-plane .ensures .treated in
     let M = m .mark-section .ensures in
     let X = m .before .before .before .next-of .ensures in
     let span = m .before .before .before .before .before .sections .ensures in
@@ -117,7 +118,7 @@ returns-2 c =
     let s = m .before .before .before .before .before .before .before .before .before in
     let few = s .pre .lent .size .few in
     let whole = s .pre .lent .whole in
-    let T = v .treat-section .ensures in
+    let T = v .treat-plane .ensures .treated in
     let M = m .mark-section .ensures in
     let X = m .before .before .before .next-of .ensures in
     let span = m .before .before .before .before .before .sections .ensures in
@@ -133,7 +134,7 @@ run-levels-spec =
     some-requires
     next-of-requires
     mark-section-requires
-    treat-section-requires
+    treat-plane-requires
     split-requires
     add-result
     same-length

@@ -35,8 +35,11 @@ loop-less c = omega arith
 
 loop-again : tie.Need-loop-again Inv-loop μ-loop
 loop-again c =
-    let l = c .before .before .before in
-    (omega arith, marked-more (l .loop .inv .1) (omega (arith, l .loop .inv .1 .rest .size)) (c .mark-of .ensures))
+    let l = c .before .before .before in (
+      omega arith,
+      marked-more (l .loop .inv .1) (omega (arith, l .loop .inv .1 .rest .size))
+          (omega (arith, c .before .shared-slice-known2 .given (l .loop .p))) (c .mark-of .ensures),
+    )
 
 same-length : tie.Need-same-length Inv-loop μ-loop
 same-length c = c .before .loop .inv .1 .rest .size

@@ -32,7 +32,7 @@ returns : tie.Need-returns
 returns c =
     let treated = c .before .before .before .before .before .before in
     let marked = treated .before .before .before .before .before .before in
-    over (marked .mark-section .ensures) (treated .treat-section .ensures)
+    over (marked .mark-section .ensures) (treated .treat-section .ensures .treated)
 
 pub treat-spec : {M : Type 1} → statement M
 treat-spec =

@@ -1,6 +1,6 @@
 -- `passes::treat_section` meets its contract. The invariant: the components with a pixel before `from` are retoned and
 -- counted, and have their next marks (`Passing`). The measure is what is left of n. Assumes nothing.
-use mathlib.Core.Path.{_≡_, subst}
+use mathlib.Core.Path.{_≡_, refl, subst}
 use Prim.Native.Nat.{ℕ, _-_, _*_, _≤_}
 use mathlib.Core.List.{List}
 use native.Mathlib.Omega.{arith}
@@ -10,7 +10,7 @@ use Rattle.planes.specs.Neighbours.{four}
 use Rattle.components.specs.Search.{Next, NextPixel}
 use Rattle.components.specs.declared.Found.{Found}
 use Rattle.components.specs.declared.Found.the-variants.{At}
-use Rattle.passes.proofs.Passing.{Passing, treatable, pass-begin, size-le, go-on, pass-end}
+use Rattle.passes.proofs.Passing.{Passing, treatable, pass-start, size-le, go-on, pass-end}
 use Rattle.passes.proofs.Passing.{component, alike, listed, at-most-one, take-one}
 use Rattle.passes.proofs.treat_section.Statement.{statement}
 use Rattle.passes.proofs.treat_section.Tie as tie
@@ -21,23 +21,39 @@ next-of : {marks : List ℕ} {code low n p : ℕ} {r : Found} → r ≡ At p →
 next-of {marks} {code} {low} {n} e f = subst (NextPixel marks code low n) e f
 
 abbrev Inv-loop : tie.InvT-loop
-Inv-loop plane₀ marks₀ queue₀ w h code pass next n count₀ from₀ plane marks queue count from =
-    Passing (four w) n code pass next plane₀ marks₀ queue₀ plane marks queue from count
+Inv-loop plane₀ marks₀ queue₀ w h code due pass next n inverse counts₀ table₀ count₀ low₀ high₀ from₀
+    plane marks queue counts table count low high from =
+    Passing (four w) n code pass next plane₀ marks₀ queue₀ plane marks queue from count low high
 
 abbrev μ-loop : tie.MeasureT-loop
-μ-loop plane₀ marks₀ queue₀ w h code pass next n count₀ from₀ plane marks queue count from = n - from
+μ-loop plane₀ marks₀ queue₀ w h code due pass next n inverse counts₀ table₀ count₀ low₀ high₀ from₀
+    plane marks queue counts table count low high from =
+    n - from
 
 mul-n : tie.Need-mul-n Inv-loop μ-loop
 mul-n c = omega (arith, c .before .before .before .pre .lent .size .few)
 
+inverse-requires : tie.Need-inverse-requires Inv-loop μ-loop
+inverse-requires c κs = c .before .before .before .pre .lent .size .wide
+
+first-due-requires : tie.Need-first-due-requires Inv-loop μ-loop
+first-due-requires c κs = search needs
+
 loop-holds : tie.Need-loop-holds Inv-loop μ-loop
-loop-holds c = pass-begin _ _ _ _ _ _ _ _
+loop-holds c =
+    let s = c .before .before .before .before .before in
+    pass-start _ (treatable (s .pre)) _ _ (c .first-due .ensures) (s .pre .found)
 
 next-pixel-requires : tie.Need-next-pixel-requires Inv-loop μ-loop
 next-pixel-requires c κs =
     let l = c .before .before in
-    let s = l .before .before .before .before in
-    record { size = s .pre .lent .size; covered = omega (arith, s .pre .lent .covered, l .loop .inv .marks-size) }
+    let s = l .before .before .before .before .before .before in
+    record {
+      size = s .pre .lent .size;
+      covered = omega (arith, s .pre .lent .covered, l .loop .inv .marks-size);
+      inverse-is = l .before .before .inverse .ensures;
+      inside = c .before .loop-test .taken;
+    }
 
 enum-known-found : tie.Need-enum-known-found Inv-loop μ-loop
 enum-known-found c = search needs
@@ -47,10 +63,11 @@ flood-requires c κs =
     let found = c .before .before .before in
     let searched = found .before .before in
     let l = searched .before .before .before in
-    let s = l .before .before .before .before in
+    let s = l .before .before .before .before .before .before in
     let f = next-of (found .found .given .1) (searched .next-pixel .ensures) in
     record {
       size = s .pre .lent .size;
+      inverse-is = l .before .before .inverse .ensures;
       covered = omega (arith, s .pre .lent .covered, l .loop .inv .marks-size);
       spare = omega (arith, s .pre .lent .spare, l .loop .inv .queue-rest .size);
       real = s .pre .real;
@@ -60,11 +77,11 @@ flood-requires c κs =
 
 treat-component-requires : tie.Need-treat-component-requires Inv-loop μ-loop
 treat-component-requires c κs =
-    let flooded = c .before .before .before .before .before .before .before in
+    let flooded = c .before .before .before .before .before .before .before .before .before in
     let found = flooded .before .before .before .before in
     let searched = found .before .before in
     let l = searched .before .before .before in
-    let s = l .before .before .before .before in
+    let s = l .before .before .before .before .before .before in
     let d = treatable (s .pre) in
     let f = next-of (found .found .given .1) (searched .next-pixel .ensures) in
     let g = go-on d (l .loop .inv) _ (f .past) (omega (arith, f .below)) (f .none) in
@@ -75,12 +92,12 @@ treat-component-requires c κs =
 
 add-count : tie.Need-add-count Inv-loop μ-loop
 add-count c =
-    let treated = c .before .before .before .before in
-    let flooded = treated .before .before .before .before .before .before .before .before in
+    let treated = c .before .before .before .before .before in
+    let flooded = treated .before .before .before .before .before .before .before .before .before .before in
     let found = flooded .before .before .before .before in
     let searched = found .before .before in
     let l = searched .before .before .before in
-    let s = l .before .before .before .before in
+    let s = l .before .before .before .before .before .before in
     let d = treatable (s .pre) in
     let f = next-of (found .found .given .1) (searched .next-pixel .ensures) in
     let g = go-on d (l .loop .inv) _ (f .past) (omega (arith, f .below)) (f .none) in
@@ -90,29 +107,27 @@ add-count c =
 
 add-from : tie.Need-add-from Inv-loop μ-loop
 add-from c =
-    let flooded = c .before .before .before .before .before .before .before .before .before .before .before .before in
-    let found = flooded .before .before .before .before in
+    let found = c .before .before .before .before .before .before .before .before .before .before .before .before .before .before .before .before .before .before .before .before .before in
     let searched = found .before .before in
-    let s = searched .before .before .before .before .before .before .before in
+    let s = searched .before .before .before .before .before .before .before .before .before in
     let f = next-of (found .found .given .1) (searched .next-pixel .ensures) in
     omega (arith, f .below, s .pre .lent .size .few)
 
 loop-less : tie.Need-loop-less Inv-loop μ-loop
 loop-less c =
-    let flooded = c .before .before .before .before .before .before .before .before .before .before .before .before in
-    let found = flooded .before .before .before .before in
+    let found = c .before .before .before .before .before .before .before .before .before .before .before .before .before .before .before .before .before .before .before .before .before in
     let searched = found .before .before in
     let f = next-of (found .found .given .1) (searched .next-pixel .ensures) in
     omega (arith, f .past, f .below)
 
 loop-again : tie.Need-loop-again Inv-loop μ-loop
 loop-again c =
-    let treated = c .before .before .before .before in
-    let flooded = treated .before .before .before .before .before .before .before .before in
+    let treated = c .before .before .before .before .before .before .before in
+    let flooded = treated .before .before .before .before .before .before .before .before .before .before in
     let found = flooded .before .before .before .before in
     let searched = found .before .before in
     let l = searched .before .before .before in
-    let s = l .before .before .before .before in
+    let s = l .before .before .before .before .before .before in
     let d = treatable (s .pre) in
     let f = next-of (found .found .given .1) (searched .next-pixel .ensures) in
     let g = go-on d (l .loop .inv) _ (f .past) (omega (arith, f .below)) (f .none) in
@@ -131,7 +146,7 @@ loop-less-2 c =
 loop-again-2 : tie.Need-loop-again-2 Inv-loop μ-loop
 loop-again-2 c =
     let l = c .before .before .before .before .before in
-    let s = l .before .before .before .before in
+    let s = l .before .before .before .before .before .before in
     let answer = NextPixel (l .loop .marks) (s .args .code) (l .loop .from) (s .args .w * s .args .h) in
     let f = subst answer (c .enum-told .given .1) (c .before .before .next-pixel .ensures) in
     go-on (treatable (s .pre)) (l .loop .inv) _ (l .loop .inv .swept .order) (omega arith) f
@@ -148,7 +163,7 @@ same-length-3 c = c .before .loop .inv .queue-rest .size
 returns : tie.Need-returns Inv-loop μ-loop
 returns c =
     let l = c .before in
-    pass-end (treatable (l .before .before .before .before .pre)) (l .loop .inv) (c .loop-test .left)
+    pass-end (treatable (l .before .before .before .before .before .before .pre)) (l .loop .inv) (c .loop-test .left) _ refl refl refl
 
 pub treat-section-spec : {M : Type 1} → statement M
 treat-section-spec =
@@ -157,6 +172,8 @@ treat-section-spec =
     Inv-loop
     μ-loop
     mul-n
+    inverse-requires
+    first-due-requires
     loop-holds
     next-pixel-requires
     enum-known-found

@@ -21,10 +21,10 @@ loop-holds : tie.Need-loop-holds Inv-loop μ-loop
 loop-holds c = (omega arith, (omega arith, refilled-none _))
 
 limited-tone-requires : tie.Need-limited-tone-requires Inv-loop μ-loop
-limited-tone-requires c κs = (c .before .before .pre .0, (omega arith, omega arith))
+limited-tone-requires c κs = (c .before .before .before .pre .0, (omega arith, omega arith))
 
-element-write-table : tie.Need-element-write-table Inv-loop μ-loop
-element-write-table c = omega arith
+slice-write-table : tie.Need-slice-write-table Inv-loop μ-loop
+slice-write-table c = omega (arith, c .before .before .loop .inv .1 .1 .size)
 
 add-v : tie.Need-add-v Inv-loop μ-loop
 add-v c = omega arith
@@ -37,9 +37,12 @@ loop-again c =
     let inv = c .before .before .loop .inv in
     (omega arith, (omega arith, refilled-more (inv .1 .1) (inv .0) (omega arith) (c .limited-tone .ensures)))
 
+same-length : tie.Need-same-length Inv-loop μ-loop
+same-length c = c .before .loop .inv .1 .1 .size
+
 returns : tie.Need-returns Inv-loop μ-loop
 returns c =
-    let end : c .before .loop .v ≡ c .before .before .args .b + 1 = omega arith in
+    let end : c .before .loop .v ≡ c .before .before .before .args .b + 1 = omega arith in
     rw end at (c .before .loop .inv .1 .1)
 
 pub fill-limited-spec : {M : Type 1} → statement M
@@ -51,8 +54,9 @@ fill-limited-spec =
     add-end
     loop-holds
     limited-tone-requires
-    element-write-table
+    slice-write-table
     add-v
     loop-less
     loop-again
+    same-length
     returns)

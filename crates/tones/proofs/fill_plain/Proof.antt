@@ -24,7 +24,8 @@ add-end c = omega arith
 
 loop-holds : tie.Need-loop-holds Inv-loop μ-loop
 loop-holds c =
-    let none = scaled-none (c .args .a) (c .args .b) (c .args .m) (c .pre .0 .some) in
+    let a = c .before .args in
+    let none = scaled-none (a .a) (a .b) (a .m) (c .before .pre .0 .some) in
     (omega arith, ((omega arith, none), refilled-none _))
 
 mul-x : tie.Need-mul-x Inv-loop μ-loop
@@ -35,19 +36,19 @@ element-copy-out-x c = omega arith
 
 -- in a turn, the sum at v is no more than m
 sum-le : (c : tie.In-loop Inv-loop μ-loop) →
-    at (c .before .before .args .sums .now) (c .before .loop .v) ≤ c .before .before .args .m
+    at (c .before .before .before .args .sums .now) (c .before .loop .v) ≤ c .before .before .before .args .m
 sum-le c =
-    let pre = c .before .before .pre .0 in
+    let pre = c .before .before .before .pre .0 in
     omega (arith, pre .rises (c .before .loop .v) (omega arith) (omega arith), pre .top)
 
 next-tone-requires : tie.Need-next-tone-requires Inv-loop μ-loop
 next-tone-requires c κs =
-    let pre = c .before .before .before .pre .0 in
+    let pre = c .before .before .before .before .pre .0 in
     let s = c .before .before .loop in
     ((pre .order, (omega (arith, sum-le (c .before)), (pre .some, pre .few))), s .inv .1 .0 .1)
 
-element-write-table : tie.Need-element-write-table Inv-loop μ-loop
-element-write-table c = omega arith
+slice-write-table : tie.Need-slice-write-table Inv-loop μ-loop
+slice-write-table c = omega (arith, c .before .before .before .loop .inv .1 .1 .size)
 
 add-v : tie.Need-add-v Inv-loop μ-loop
 add-v c = omega arith
@@ -61,9 +62,12 @@ loop-again c =
     let tone = c .next-tone .ensures in
     (omega arith, ((sum-le (c .before .before), tone), refilled-more (inv .1 .1) (inv .0 .0) (omega arith) tone))
 
+same-length : tie.Need-same-length Inv-loop μ-loop
+same-length c = c .before .loop .inv .1 .1 .size
+
 returns : tie.Need-returns Inv-loop μ-loop
 returns c =
-    let end : c .before .loop .v ≡ c .before .before .args .b + 1 = omega arith in
+    let end : c .before .loop .v ≡ c .before .before .before .args .b + 1 = omega arith in
     rw end at (c .before .loop .inv .1 .1)
 
 pub fill-plain-spec : {M : Type 1} → statement M
@@ -77,8 +81,9 @@ fill-plain-spec =
     mul-x
     element-copy-out-x
     next-tone-requires
-    element-write-table
+    slice-write-table
     add-v
     loop-less
     loop-again
+    same-length
     returns)

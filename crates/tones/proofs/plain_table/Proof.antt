@@ -1,6 +1,7 @@
 -- `tones::plain_table` meets its contract: the sums of the counts give the tones. Assumes nothing.
 use Rattle.tones.proofs.Histograms.{sums-of, plain-tabled}
 use borrow.Author.Needs.{needs}
+use native.Mathlib.Omega.{arith}
 use Rattle.tones.proofs.plain_table.Statement.{statement}
 use Rattle.tones.proofs.plain_table.Tie as tie
 
@@ -9,13 +10,12 @@ sum-up-requires c κs = search needs
 
 fill-plain-requires : tie.Need-fill-plain-requires
 fill-plain-requires c κs =
-    let pre = c .before .before .before .before .pre in
-    (sums-of (pre .0) (c .before .before .sum-up .ensures), pre .1)
+    (sums-of (c .before .before .before .before .pre) (c .before .before .sum-up .ensures), omega arith)
 
 returns : tie.Need-returns
 returns c =
-    let pre = c .before .before .before .before .before .pre .0 in
-    plain-tabled pre (c .before .before .before .sum-up .ensures) (c .fill-plain .ensures)
+    let counted = c .before .before .before .before .before .pre in
+    plain-tabled counted (c .before .before .before .sum-up .ensures) (c .fill-plain .ensures)
 
 pub plain-table-spec : {M : Type 1} → statement M
 plain-table-spec = tie.close (tie.spec sum-up-requires fill-plain-requires returns)

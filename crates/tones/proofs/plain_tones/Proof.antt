@@ -1,0 +1,32 @@
+-- `tones::plain_tones` meets its contract: the test says whether the rule keeps the values, and the table has the
+-- values or their tones. Assumes nothing.
+use Rattle.tones.specs.Tones.{tone}
+use Rattle.tones.proofs.Histograms.{ruled-kept, ruled-toned}
+use borrow.Author.Needs.{needs}
+use Rattle.tones.proofs.plain_tones.Statement.{statement}
+use Rattle.tones.proofs.plain_tones.Tie as tie
+
+plain-keeps-requires : tie.Need-plain-keeps-requires
+plain-keeps-requires c κs = search needs
+
+fill-same-requires : tie.Need-fill-same-requires
+fill-same-requires c κs = search needs
+
+returns : tie.Need-returns
+returns c =
+    let test = c .before .before in
+    ruled-kept (test .before .plain-keeps .ensures) (test .if1 .taken) (c .fill-same .ensures)
+
+plain-table-requires : tie.Need-plain-table-requires
+plain-table-requires c κs = search needs
+
+returns-2 : tie.Need-returns-2
+unfolding tone
+returns-2 c =
+    let test = c .before .before .before in
+    ruled-toned (test .before .plain-keeps .ensures) (test .if1 .left) (c .plain-table .ensures)
+
+pub plain-tones-spec : {M : Type 1} → statement M
+plain-tones-spec =
+    tie.close
+    (tie.spec plain-keeps-requires fill-same-requires returns plain-table-requires returns-2)
