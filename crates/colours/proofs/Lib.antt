@@ -1,4 +1,5 @@
 pub mod Frames
+pub mod Quotients
 pub mod Scales
 pub mod Calls
 pub mod Overwrite

@@ -9,7 +9,7 @@ use borrow.Author.Tests.{eq-eqb, ne-eqb, le-leb, lt-leb}
 use Rattle.planes.specs.Lists.{at}
 use Rattle.planes.specs.Rounding.{rounded}
 use Rattle.colours.specs.Frames.{pixelIntensity, greatestChannel, newChannel, recolour}
-use Rattle.colours.specs.Steps.{Scales}
+use Rattle.colours.specs.Steps.{Scales, Inverses, Quotient}
 use Rattle.colours.proofs.Frames.{recolour-at, channel-below}
 
 -- I = 0: 0
@@ -49,11 +49,17 @@ scales-by-greatest I M J some small h =
     go zero h = absurd (omega (arith, mul-zero J))
     go (suc M) h = omega arith
 
--- the product of the scale of pixel i with the channel at index k, rounded, fits a byte
-pub scales-fit : (frame : List ℕ) (i k : ℕ) {J times over : ℕ}
-    → Scales (pixelIntensity frame i) (greatestChannel frame i) J times over → k / 3 ≡ i
-    → (at frame k * times ≤ 255 * over) × ((1 ≤ over) × (over ≤ 255))
-scales-fit frame i k s e = (s .byte (at frame k) (channel-below frame i k e), (s .some, s .small))
+-- the product of the scale of pixel i with the channel at index k, rounded, fits a byte; a table has its inverse
+pub scales-fit : (frame : List ℕ) (i k : ℕ) {J times over : ℕ} {inverses : List ℕ}
+    → Scales (pixelIntensity frame i) (greatestChannel frame i) J times over → Inverses inverses → k / 3 ≡ i
+    → Quotient (at frame k * times) over (at inverses over)
+scales-fit frame i k {over = over} s table e =
+    record {
+      byte = s .byte (at frame k) (channel-below frame i k e);
+      some = s .some;
+      small = s .small;
+      inverted = table .entry over (s .some) (omega (arith, s .small));
+    }
 
 -- and is what the channel becomes
 pub scales-channel : (frame plane : List ℕ) (i k : ℕ) {times over : ℕ}

@@ -3,13 +3,16 @@
 // intensity           fills a plane with the intensities of a frame
 // recolour            writes a frame, recoloured from a new plane, to an output
 // intensity_refusal   refusal 1, 2 or 3 for a frame and its plane, or 0
+//
+// No channel costs a division: `nearest` multiplies by an inverse, of which each call makes one table for 1 to 255, and
+// divides by a constant power of two.
 ghost use mathlib.Core.Path.{_≡_};
 ghost use Prim.Native.Nat.{_+_, _*_, _≤_, _<_, max};
 ghost use lib.ListN.{length};
 ghost use Rattle.planes.specs.Rounding.{rounded};
 ghost use Rattle.colours.specs.Frames.{third, thirds, intensity};
 ghost use Rattle.colours.specs.Calls.{intensityRefusal, recolourRefusal, IntensityOutcome, RecolourOutcome};
-ghost use Rattle.colours.specs.Steps.{Scales, Fitting, withPixel, withFrame};
+ghost use Rattle.colours.specs.Steps.{Scales, Inverses, Quotient, Fitting, withPixel, withFrame};
 
 mod table;
 
@@ -120,25 +123,48 @@ fn pixel_scale(table: &[u8; 766], red: u8, green: u8, blue: u8, j: u8) -> Scale
     scale_of(i, m, j)
 }
 
-// x / m to nearest, halves upward.
-fn nearest(x: u32, m: u32) -> u32
-    requires { ⌜ (x ≤ 255 * m) × ((1 ≤ m) × (m ≤ 255)) ⌝ }
+// 2^26, in whose parts the inverses are: enough that no rounded quotient is off.
+const PARTS: u32 = 67108864;
+
+// The table of the inverses of 1 to 255, by which `nearest` multiplies. Its entry 0 is not used.
+fn inverses() -> [u32; 256]
+    ensures { λ r. ⌜ Inverses r ⌝ }
+{
+    let mut table = [0u32; 256];
+    let mut m = 1;
+    while m < 256 {
+        table[m] = PARTS / (2 * m as u32) + 1;
+        m += 1;
+    }
+    table
+}
+
+// x / m to nearest, halves upward, by the inverse of m.
+fn nearest(x: u32, m: u32, by: u32) -> u32
+    requires { ⌜ Quotient x m by ⌝ }
     ensures { λ r. ⌜ r ≡ rounded x m ⌝ }
 {
-    (2 * x + m) / (2 * m)
+    ((2 * x + m) as u64 * by as u64 / PARTS as u64) as u32
 }
 
 // A channel, multiplied by a scale and rounded.
-fn scaled(c: u8, s: Scale) -> u8
-    requires { ⌜ (c * s .times ≤ 255 * s .over) × ((1 ≤ s .over) × (s .over ≤ 255)) ⌝ }
+fn scaled(c: u8, s: Scale, by: u32) -> u8
+    requires { ⌜ Quotient (c * s .times) (s .over) by ⌝ }
     ensures { λ r. ⌜ r ≡ rounded (c * s .times) (s .over) ⌝ }
 {
-    nearest(c as u32 * s.times, s.over) as u8
+    nearest(c as u32 * s.times, s.over, by) as u8
 }
 
 // Stores the three new channels of pixel i.
-fn recolour_pixel(table: &[u8; 766], frame: &[u8], plane: &[u8], output: &mut [u8], i: usize)
-    requires { ⌜ Fitting (now table) (now frame) (now plane) (now output) × (i < length (now plane)) ⌝ }
+fn recolour_pixel(
+    table: &[u8; 766],
+    inverses: &[u32; 256],
+    frame: &[u8],
+    plane: &[u8],
+    output: &mut [u8],
+    i: usize,
+)
+    requires { ⌜ Fitting (now table) (now inverses) (now frame) (now plane) (now output) × (i < length (now plane)) ⌝ }
     ensures { λ _. ⌜ now (output .exit) ≡ withPixel (now (frame .entry)) (now (plane .entry)) i (now (output .entry)) ⌝ }
 {
     let k = 3 * i;
@@ -146,19 +172,26 @@ fn recolour_pixel(table: &[u8; 766], frame: &[u8], plane: &[u8], output: &mut [u
     let green = frame[k + 1];
     let blue = frame[k + 2];
     let s = pixel_scale(table, red, green, blue, plane[i]);
-    output[k] = scaled(red, s);
-    output[k + 1] = scaled(green, s);
-    output[k + 2] = scaled(blue, s);
+    let by = inverses[s.over as usize];
+    output[k] = scaled(red, s, by);
+    output[k + 1] = scaled(green, s, by);
+    output[k + 2] = scaled(blue, s, by);
 }
 
 // Stores the new channels of each pixel.
-fn recolour_frame(table: &[u8; 766], frame: &[u8], plane: &[u8], output: &mut [u8])
-    requires { ⌜ Fitting (now table) (now frame) (now plane) (now output) ⌝ }
+fn recolour_frame(
+    table: &[u8; 766],
+    inverses: &[u32; 256],
+    frame: &[u8],
+    plane: &[u8],
+    output: &mut [u8],
+)
+    requires { ⌜ Fitting (now table) (now inverses) (now frame) (now plane) (now output) ⌝ }
     ensures { λ _. ⌜ now (output .exit) ≡ withFrame (now (frame .entry)) (now (plane .entry)) (now (output .entry)) ⌝ }
 {
     let n = plane.len();
     for i in 0..n {
-        recolour_pixel(table, frame, plane, output, i);
+        recolour_pixel(table, inverses, frame, plane, output, i);
     }
 }
 
@@ -185,6 +218,7 @@ pub fn recolour(frame: &[u8], w: usize, h: usize, plane: &[u8], output: &mut [u8
         return Status::Refused(refusal);
     }
     let table = rounded_thirds();
-    recolour_frame(&table, frame, plane, output);
+    let inverses = inverses();
+    recolour_frame(&table, &inverses, frame, plane, output);
     Status::Done
 }

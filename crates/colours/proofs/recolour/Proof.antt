@@ -26,15 +26,20 @@ none c = sym (c .before .recolour-refusal .ensures) ∙ c .if1 .left
 rounded-thirds-requires : tie.Need-rounded-thirds-requires
 rounded-thirds-requires c κs = search needs
 
+inverses-requires : tie.Need-inverses-requires
+inverses-requires c κs = search needs
+
 recolour-frame-requires : tie.Need-recolour-frame-requires
 recolour-frame-requires c κs =
-    let args = c .before .before .before .before .before .before .before .before .args in
+    let left = c .before .before .before .before .before in
+    let args = left .before .before .before .before .before .args in
     let frame = length (args .frame .now) in
     let plane = length (args .plane .now) in
     let output = length (args .output .now) in
-    let accepted = recolour-accepted (args .w) (args .h) frame plane output (none (c .before .before .before)) in
+    let accepted = recolour-accepted (args .w) (args .h) frame plane output (none left) in
     record {
-      rule = c .before .before .rounded-thirds .ensures;
+      rule = c .before .before .before .before .rounded-thirds .ensures;
+      inverted = c .before .before .before .inverses .ensures;
       channels = omega (arith, accepted .0 .pixels, accepted .0 .channels);
       room = omega (arith, accepted .0 .channels, accepted .1);
     }
@@ -44,7 +49,7 @@ same-length c = search needs
 
 returns-2 : tie.Need-returns-2
 returns-2 c =
-    let accepted = none (c .before .before .before .before .before .before) in
+    let accepted = none (c .before .before .before .before .before .before .before .before) in
     recolour-done _ _ _ _ _ accepted (c .before .before .recolour-frame .ensures)
 
 pub recolour-spec : {M : Type 1} → statement M
@@ -54,6 +59,7 @@ recolour-spec =
     recolour-refusal-requires
     returns
     rounded-thirds-requires
+    inverses-requires
     recolour-frame-requires
     same-length
     returns-2)

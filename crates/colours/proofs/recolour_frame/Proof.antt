@@ -12,7 +12,7 @@ use Rattle.colours.proofs.recolour_frame.Statement.{statement}
 use Rattle.colours.proofs.recolour_frame.Tie as tie
 
 abbrev Inv-loop : tie.InvT-loop
-Inv-loop table frame plane output₀ n i₀ output i =
+Inv-loop table inverses frame plane output₀ n i₀ output i =
     let new = recolour frame plane in
     (i ≤ n)
     × ((n ≡ length plane)
@@ -20,15 +20,15 @@ Inv-loop table frame plane output₀ n i₀ output i =
     × (output ≡ take (3 * i) new ++ drop (3 * i) output₀)))
 
 abbrev μ-loop : tie.MeasureT-loop
-μ-loop table frame plane output₀ n i₀ output i = n - i
+μ-loop table inverses frame plane output₀ n i₀ output i = n - i
 
 loop-holds : tie.Need-loop-holds Inv-loop μ-loop
 loop-holds c = (omega arith, (refl, (refl, refl)))
 
 recolour-pixel-requires : tie.Need-recolour-pixel-requires Inv-loop μ-loop
 recolour-pixel-requires c κs =
-    let fitting = c .before .before .before .before .before .before .pre in
-    (record { rule = fitting .rule; channels = fitting .channels; room = omega arith }, omega arith)
+    let pre = c .before .before .before .before .before .before .pre in
+    (record { rule = pre .rule; inverted = pre .inverted; channels = pre .channels; room = omega arith }, omega arith)
 
 add-i : tie.Need-add-i Inv-loop μ-loop
 add-i c = omega arith
@@ -47,7 +47,7 @@ loop-again c =
     let before = turn .inv .1 .1 .1 in
     let stored = c .before .before .recolour-pixel .ensures in
     let after = overwrite-pixel new (args .output .now) (turn .i) inside (omega arith) before stored in
-    let kept = c .before .before .recolour-pixel .kept .1 .1 .1 .0 in
+    let kept = c .before .before .recolour-pixel .kept .1 .1 .1 .1 .0 in
     (omega arith, (refl, (kept ∙ turn .inv .1 .1 .0, after)))
 
 same-length : tie.Need-same-length Inv-loop μ-loop

@@ -1,10 +1,12 @@
 -- `colours::recolour_pixel` meets its contract: the scale of the pixel gives each of its channels. Assumes nothing.
-use Prim.Native.Nat.{_+_, _*_}
-use mathlib.Core.Path.{_∙_}
+use Prim.Native.Nat.{ℕ, _+_, _*_, _/_, _<_}
+use mathlib.Core.Path.{_≡_, _∙_}
 use native.Mathlib.Omega.{arith}
-use lib.ListN.{length-set}
+use lib.ListN.{length, length-set}
 use borrow.Author.Needs.{needs}
+use Rattle.planes.specs.Lists.{at}
 use Rattle.colours.specs.Frames.{pixelIntensity, greatestChannel}
+use Rattle.colours.specs.Steps.{Quotient}
 use Rattle.colours.proofs.Scales.{scales-fit, scales-channel}
 use Rattle.colours.proofs.recolour_pixel.Statement.{statement}
 use Rattle.colours.proofs.recolour_pixel.Tie as tie
@@ -33,20 +35,36 @@ shared-slice-read-pixel-scale c = search needs
 pixel-scale-requires : tie.Need-pixel-scale-requires
 pixel-scale-requires c κs = search needs
 
-scaled-requires : tie.Need-scaled-requires
+cast-by : tie.Need-cast-by
+cast-by c = search needs
+
+mul-by : tie.Need-mul-by
+mul-by c = search needs
+
+element-copy-out-by : tie.Need-element-copy-out-by
+element-copy-out-by c = search needs
+
+abbrev start : tie.After-by → tie.Start
+start c = c .before .before .before .before .before .before .before .before .before .before
+
+-- where the inverse is known, the quotient that the channel at index k of the pixel becomes
+quotient : (c : tie.After-by) (k : ℕ) → k / 3 ≡ start c .args .i → (
+    let args = start c .args in
+    let scale = c .before .before .pixel-scale .result in
+    Quotient (at (args .frame .now) k * scale .times) (scale .over) (at (args .inverses .now) (scale .over)))
 unfolding pixelIntensity greatestChannel
-scaled-requires c κs =
-    let args = c .before .before .before .before .before .before .before .before .args in
-    scales-fit (args .frame .now) (args .i) (3 * args .i) (c .pixel-scale .ensures) (omega arith)
+quotient c k e =
+    let s = start c in
+    scales-fit (s .args .frame .now) (s .args .i) k (c .before .before .pixel-scale .ensures) (s .pre .0 .inverted) e
+
+scaled-requires : tie.Need-scaled-requires
+scaled-requires c κs = quotient c (3 * start c .args .i) (omega arith)
 
 slice-write-output : tie.Need-slice-write-output
 slice-write-output c = search needs
 
 scaled-requires-2 : tie.Need-scaled-requires-2
-unfolding pixelIntensity greatestChannel
-scaled-requires-2 c κs =
-    let args = c .before .before .before .before .before .before .before .before .before .args in
-    scales-fit (args .frame .now) (args .i) (3 * args .i + 1) (c .before .pixel-scale .ensures) (omega arith)
+scaled-requires-2 c κs = quotient (c .before) (3 * start (c .before) .args .i + 1) (omega arith)
 
 add-output : tie.Need-add-output
 add-output c = search needs
@@ -55,10 +73,7 @@ slice-write-output-2 : tie.Need-slice-write-output-2
 slice-write-output-2 c = simp length-set (omega arith)
 
 scaled-requires-3 : tie.Need-scaled-requires-3
-unfolding pixelIntensity greatestChannel
-scaled-requires-3 c κs =
-    let args = c .before .before .before .before .before .before .before .before .before .before .args in
-    scales-fit (args .frame .now) (args .i) (3 * args .i + 2) (c .before .before .pixel-scale .ensures) (omega arith)
+scaled-requires-3 c κs = quotient (c .before .before) (3 * start (c .before .before) .args .i + 2) (omega arith)
 
 add-output-2 : tie.Need-add-output-2
 add-output-2 c = search needs
@@ -72,14 +87,16 @@ same-length c = search needs
 returns : tie.Need-returns
 unfolding pixelIntensity greatestChannel
 returns c =
-    let args = c .before .before .before .before .before .before .before .before .before .before .before .args in
-    let frame = args .frame .now in
-    let plane = args .plane .now in
-    let k = 3 * args .i in
-    let scale = c .before .before .before .pixel-scale .ensures in
-    let red = scales-channel frame plane (args .i) k scale (omega arith) (omega arith) in
-    let green = scales-channel frame plane (args .i) (k + 1) scale (omega arith) (omega arith) in
-    let blue = scales-channel frame plane (args .i) (k + 2) scale (omega arith) (omega arith) in
+    let known = c .before .before .before in
+    let s = start known in
+    let frame = s .args .frame .now in
+    let plane = s .args .plane .now in
+    let i = s .args .i in
+    let inside : 3 * i + 2 < length frame = omega (arith, s .pre .0 .channels, s .pre .1) in
+    let scale = known .before .before .pixel-scale .ensures in
+    let red = scales-channel frame plane i (3 * i) scale (omega arith) (omega arith) in
+    let green = scales-channel frame plane i (3 * i + 1) scale (omega arith) (omega arith) in
+    let blue = scales-channel frame plane i (3 * i + 2) scale (omega arith) inside in
     rw (
       c .before .before .scaled .ensures ∙ red,
       c .before .scaled2 .ensures ∙ green,
@@ -98,6 +115,9 @@ recolour-pixel-spec =
     shared-slice-read-blue
     shared-slice-read-pixel-scale
     pixel-scale-requires
+    cast-by
+    mul-by
+    element-copy-out-by
     scaled-requires
     slice-write-output
     scaled-requires-2

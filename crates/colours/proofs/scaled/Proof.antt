@@ -16,7 +16,7 @@ cast-result : tie.Need-cast-result
 cast-result c =
     let start = c .before .before in
     let scale = start .args .s in
-    omega (arith, c .nearest .ensures, rounded-in 255 (scale .over) (start .args .c * scale .times) (start .pre .0))
+    omega (arith, c .nearest .ensures, rounded-in 255 (scale .over) (start .args .c * scale .times) (start .pre .byte))
 
 returns : tie.Need-returns
 returns c = search needs
