@@ -7,7 +7,7 @@
 // No channel costs a division: `nearest` multiplies by an inverse, of which each call makes one table for 1 to 255, and
 // divides by a constant power of two.
 ghost use mathlib.Core.Path.{_≡_};
-ghost use Prim.Native.Nat.{_+_, _*_, _≤_, _<_, max};
+ghost use Prim.Native.Nat.{_+_, _*_, _<_, max};
 ghost use lib.ListN.{length};
 ghost use Rattle.planes.specs.Rounding.{rounded};
 ghost use Rattle.colours.specs.Frames.{third, thirds, intensity};

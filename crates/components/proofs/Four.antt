@@ -57,9 +57,6 @@ module _ {marks queue : List ℕ} {w h inverse code start : ℕ} (F : Floodable 
 -- ## The two rows beside
 
 module _ {marks queue : List ℕ} {w n inverse code p tail : ℕ} (S : Spreadable marks queue w n inverse code p tail) where
-  pub pixel-lt : p < 1048576
-  pixel-lt = omega (arith, S .inside, S .room .few)
-
   side-above : {q : ℕ} → Above w p q → Side (four w) n p q
   side-above {q} f = elim (less-or-not p w) [
     | inl l ↦ record { below = omega (arith, S .inside, f .0 l); beside = inl (f .0 l) }

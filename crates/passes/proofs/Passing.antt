@@ -16,9 +16,8 @@ use Rattle.planes.specs.Lists.{at, from, keep, count, Beyond}
 use Rattle.planes.specs.Neighbours.{Near, four}
 use Rattle.planes.specs.Enumerations.{Enumerates}
 use Rattle.planes.proofs.Tests.{or-false, or-right, eq-or-not, decide}
-use Rattle.planes.proofs.Counts.{count-le, count-upto, count-over, count-all, keep-same, length-from}
+use Rattle.planes.proofs.Counts.{count-le, count-upto, count-over, keep-same, length-from}
 use Rattle.planes.proofs.Lists.{map-same, beyond-refl}
-use Rattle.planes.proofs.Enumerations.{values-count}
 use Rattle.planes.proofs.Neighbours.{four-sym}
 use Rattle.components.specs.Regions.{region}
 use Rattle.components.specs.Search.{None}
@@ -26,6 +25,7 @@ use Rattle.components.specs.Floods.{Flooded}
 use Rattle.components.proofs.Regions.{region-below, region-self}
 use Rattle.tones.specs.Histograms.{Component, Alike}
 use Rattle.tones.specs.Histograms as histograms
+use Rattle.tones.proofs.Components.{component-of, alike-of}
 use Rattle.model.specs.declared.Pass.{Pass}
 use Rattle.model.specs.Passes.{within, values, changes, retone, newTone, passed, counted, passCount}
 use Rattle.model.proofs.Components.{in-tone, out-tone, still-tone}
@@ -151,16 +151,10 @@ module _ {near : Near} {n code : ℕ} {s : Pass} {t : Next} {plane₀ marks₀ q
 
     -- what retoning requires
     pub component : Component plane queue' k (s .a) (s .b)
-    component = record {
-      order = D .order;
-      some = let r = E .every low h (region-self near n code marks low h) in omega (arith, r .below);
-      few = omega (arith, size-few, D .few);
-      room = E .fits;
-      pixels = λ i l. omega (arith, E .below i l, D .whole, W .size-is);
-      once = E .distinct;
-      within = λ i l. let d = E .inside i l in
-          subst (λ (v : ℕ). (s .a ≤ v) × (v ≤ s .b)) (sym (old-value _ d)) (in-of s _ (old-within _ d));
-    }
+    component = component-of E plane (omega (arith, D .whole, W .size-is)) (D .order)
+        (let r = E .every low h (region-self near n code marks low h) in omega (arith, r .below))
+        (omega (arith, size-few, D .few))
+        (λ x l d. subst (λ (v : ℕ). (s .a ≤ v) × (v ≤ s .b)) (sym (old-value x d)) (in-of s _ (old-within x d)))
 
     low-coded : at marks₀ low ≡ code
     low-coded = had (D .symm) real (W .swept) h e .1
@@ -174,15 +168,9 @@ module _ {near : Near} {n code : ℕ} {s : Pass} {t : Next} {plane₀ marks₀ q
         ∙ ap (map (at plane₀)) (keep-same S Mine 0 n (λ x _ _. mine-is (D .symm) real (W .swept) h e x))
         ∙ region-values near (D .symm) n code s plane₀ marks₀ (D .whole) (D .coded) low h low-coded
 
-    same-count : (f : ℕ → Bool) → count f vs ≡ count f (histograms.values plane queue' k)
-    same-count f = ap (count f) (sym the-values) ∙ sym (values-count E plane f)
-
     -- the queue has the values that the model gives the component
     pub alike : Alike vs (histograms.values plane queue' k)
-    alike = record {
-      same = λ v. same-count (eqb v);
-      size = sym (count-all vs) ∙ same-count (λ x. true) ∙ count-all (histograms.values plane queue' k);
-    }
+    alike = subst (λ (ws : List ℕ). Alike ws (histograms.values plane queue' k)) the-values (alike-of E plane)
 
     -- what giving next marks requires
     pub listed : n ≤ length marks → Listed marks' plane queue' k

@@ -7,7 +7,7 @@
 // treat_plane     the same for a plane whose pixels all have the code
 // lent_refusal    refusals 1 to 4 for the plane's size and the lengths that are lent, or 0
 ghost use mathlib.Core.Path.{_≡_};
-ghost use mathlib.Core.Bool.{true, false, cond};
+ghost use mathlib.Core.Bool.{true, cond};
 ghost use mathlib.Core.List.{List};
 ghost use Prim.Native.Nat.{ℕ, _*_, _≤_, _<_};
 ghost use lib.ListN.{length};
@@ -17,7 +17,7 @@ ghost use Rattle.tones.specs.Histograms.{values, Component, Distinct, Alike};
 ghost use Rattle.model.specs.Passes.{within};
 ghost use Rattle.model.specs.Calls.{lentRefusal, passRefusal, Lent};
 ghost use Rattle.passes.specs.Sections.{number, oneValue, inert, Pixels, Listed, Marked, Painted};
-ghost use Rattle.passes.specs.Sections.{Toned, Done, Section, Treats};
+ghost use Rattle.passes.specs.Sections.{Done, Section, Treats};
 ghost use Rattle.passes.specs.Calls.{callOn, Over, PassOutcome};
 use components::Found;
 use model::Answer;

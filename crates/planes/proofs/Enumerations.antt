@@ -97,9 +97,6 @@ module _ {queue : List ℕ} {m n : ℕ} {S : ℕ → Bool} (E : Enumerates queue
       count-among queue n m (E .below) fresh (E .fits) f
       ∙ count-same _ _ n (λ x h. ap (_&& f x) (among-set x h))
 
-  pub indexes-count : (f : ℕ → Bool) → count (λ i. f (at queue i)) (from 0 m) ≡ count (λ p. S p && f p) (from 0 n)
-  indexes-count f = sym (count-indexes queue f m (E .fits)) ∙ entries-count f
-
   -- the values of a plane at the entries are the values of the set's pixels, each as often
   pub values-count : (plane : List ℕ) (f : ℕ → Bool)
       → count f (map (at plane) (take m queue)) ≡ count f (map (at plane) (keep S (from 0 n)))

@@ -16,7 +16,7 @@ use Rattle.planes.proofs.Enumerations.{count-indexes}
 use Rattle.planes.proofs.Tests.{less-or-not}
 use Rattle.tones.specs.Tones.{sumTo, scaled, greatest, least, spread, plainTone, clipped, limitedTone, tone}
 use Rattle.tones.specs.Tones.{keptBy, kept}
-use Rattle.tones.specs.Histograms.{values, Component, Listed, Alike, ToneTables}
+use Rattle.tones.specs.Histograms.{values, Component, Alike, ToneTables}
 use Rattle.tones.specs.Histograms.{Tally, Histogram, Counted, Lowest, Highest, Refilled, Sums, limitedBy}
 use Rattle.tones.specs.Histograms.{ClippedSums, Tabled, Ruled, Filled}
 use Rattle.tones.specs.declared.Rule.{Rule}
@@ -197,9 +197,6 @@ module _ {plane queue counts : List ℕ} {m a b : ℕ} (k : Component plane queu
         few = k .few;
         whole = histogram-sum h b (k .order) (omega arith) ∙ inside-all (h .inside) ∙ size;
       }
-
-pub listed-of : {plane queue : List ℕ} {m a b : ℕ} → Component plane queue m a b → Listed plane queue m
-listed-of k = record { few = k .few; room = k .room; pixels = k .pixels }
 
 -- ## Tables
 

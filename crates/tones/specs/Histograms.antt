@@ -4,7 +4,6 @@
 --   values                  the values of a component's pixels, in the queue's order
 --   Distinct                no two of the queue's first m entries are the same
 --   Component               the queue's first m entries are pixels of the plane, each once, with values in [a, b]
---   Listed                  the queue's first m entries are pixels of the plane
 --   Alike                   two lists have the same values, perhaps in another order
 --   ToneTable, ToneTables   a rule's table for a component, by a list of its values, and by every such list
 -- For the functions within:
@@ -51,12 +50,6 @@ pub record Component (plane queue : List ℕ) (m a b : ℕ) : Type 0 where
 pub record Alike (vs ws : List ℕ) : Type 0 where
   pub same : (v : ℕ) → count (eqb v) vs ≡ count (eqb v) ws
   pub size : length vs ≡ length ws
-
--- the queue's first m entries are pixels of the plane
-pub record Listed (plane queue : List ℕ) (m : ℕ) : Type 0 where
-  pub few : m ≤ 1048576
-  pub room : m ≤ length queue
-  pub pixels : (i : ℕ) → i < m → at queue i < length plane
 
 -- ## Counts
 
