@@ -132,7 +132,8 @@ equalise-split-requires t c κs =
     let whole = ready .lent .whole in
     let e = c .before .before .before .if1 .taken in
     let deep = D .yes e (due .d) (N .k) (N .wide) in
-    let g = next-halves refl refl whole (v .treat-section .ensures) (due .coded) (due .marks-are) (X .middle) (X .halves e) (le-refl _) refl
+    let g = next-halves refl refl whole (v .treat-section .ensures) (due .coded) (due .marks-are)
+    (X .middle) (X .halves e) (le-refl _) refl
     (due .d) deep N in (
       omega (arith, s .pre .0, D .some e),
       (

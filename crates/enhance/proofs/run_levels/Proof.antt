@@ -57,7 +57,8 @@ split-requires c κs =
     let some-levels : 0 < s .args .settings .last = positive (s .args .settings .last) deep in (
       still-ready (s .pre) (omega (arith, v .treat-plane)) (omega (arith, v .treat-plane, m .mark-section))
           (omega (arith, v .treat-plane)),
-      next-halves refl refl whole (v .treat-plane .ensures) (marked-coded M) (root-marks _ M) (X .middle) (X .halves e) (s .pre .area) refl
+      next-halves refl refl whole (v .treat-plane .ensures) (marked-coded M) (root-marks _ M)
+          (X .middle) (X .halves e) (s .pre .area) refl
           (s .args .settings .last) some-levels N,
     )
 

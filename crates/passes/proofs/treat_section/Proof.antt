@@ -107,7 +107,9 @@ add-count c =
 
 add-from : tie.Need-add-from Inv-loop μ-loop
 add-from c =
-    let found = c .before .before .before .before .before .before .before .before .before .before .before .before .before .before .before .before .before .before .before .before .before in
+    let treated = c .before .before .before .before .before .before .before in
+    let flooded = treated .before .before .before .before .before .before .before .before .before .before in
+    let found = flooded .before .before .before .before in
     let searched = found .before .before in
     let s = searched .before .before .before .before .before .before .before .before .before in
     let f = next-of (found .found .given .1) (searched .next-pixel .ensures) in
@@ -115,7 +117,9 @@ add-from c =
 
 loop-less : tie.Need-loop-less Inv-loop μ-loop
 loop-less c =
-    let found = c .before .before .before .before .before .before .before .before .before .before .before .before .before .before .before .before .before .before .before .before .before in
+    let treated = c .before .before .before .before .before .before .before in
+    let flooded = treated .before .before .before .before .before .before .before .before .before .before in
+    let found = flooded .before .before .before .before in
     let searched = found .before .before in
     let f = next-of (found .found .given .1) (searched .next-pixel .ensures) in
     omega (arith, f .past, f .below)
