@@ -6,40 +6,36 @@ use mathlib.Core.List.{List, [], _∷_}
 use native.Mathlib.Omega.{arith}
 use lib.IntN.{ℤ}
 use lib.ListN.{length, drop, set, length-append}
-use Rattle.planes.specs.Neighbours.{four}
 use Rattle.planes.specs.Refusals.{_▷_, greatestPixels}
-use Rattle.planes.proofs.Lists.{beyond-refl}
+use Rattle.planes.specs.Replies.{gives}
 use Rattle.planes.proofs.Refusals.{▷-none, ▷-left, ▷-right}
 use Rattle.tones.specs.declared.Rule.{Rule}
-use Rattle.colours.specs.Calls as colours
+use Rattle.colours.specs.Calls.{intensityRefusal, recolourRefusal, statusReply, IntensityOutcome, RecolourOutcome}
 use Rattle.colours.specs.declared.Status.{Status}
-use Rattle.colours.specs.declared.Status.the-variants as Status
-use Rattle.colours.specs.Frames.{intensity}
 use Rattle.model.specs.declared.Pass.{Pass}
 use Rattle.model.specs.declared.Answer.{Answer}
-use Rattle.model.specs.Passes.{passed, passCount}
-use Rattle.model.specs.Calls.{lentRefusal, numbersRefusal, passRefusal, planeAfter, total}
+use Rattle.model.specs.declared.Answer.the-variants as Answer
+use Rattle.model.specs.Effects.{Effect, counts}
+use Rattle.model.specs.Outcomes.{answerReply, Outcome, OutputOutcome}
+use Rattle.model.specs.Calls.{lentRefusal, numbersRefusal, passRefusal}
+use Rattle.model.proofs.Outcomes.{outcome-number, refused-by, output-number, output-refused-by}
 use Rattle.passes.specs.Calls.{refusalOf, PassOutcome}
 use Rattle.enhance.specs.declared.Settings.{Settings}
 use Rattle.enhance.specs.Calls as enhance
-use Rattle.model.specs.Runs.{runCount}
-use Rattle.passlists.specs.Format.{ruleOf, passesOf}
-use Rattle.passlists.specs.Outcomes.{fileRefusal, ListOutcome}
+use Rattle.passlists.specs.Format.{ruleOf}
 use Rattle.netpbm.specs.declared.Header.{Header}
 use Rattle.netpbm.specs.declared.Header.the-variants as Header
 use Rattle.netpbm.specs.Reading.{readAnswer}
 use Rattle.netpbm.specs.declared.Written.{Written}
-use Rattle.netpbm.specs.declared.Written.the-variants as Written
-use Rattle.netpbm.specs.Writing.{heading, encoding, writeRefusal, Wrote}
+use Rattle.netpbm.specs.Writing.{heading, encoding, writeRefusal, writtenReply, WriteOutcome}
 use Rattle.netpbm.proofs.Writing.{wrote-size, wrote-writable}
 use Rattle.netpbm.proofs.Heading.{heading-length}
 use Rattle.netpbm.proofs.Decimal.{decimal-numeral}
-use Rattle.capi.specs.Numbers.{encoded, statusNumber, answerNumber, writtenNumber, Short}
+use Rattle.capi.specs.Numbers.{encoded, numberReply, doneReply, statusNumber, answerNumber, writtenNumber, Short}
 use Rattle.capi.specs.Numbers.{formRefusal, passOf, settingsOf}
-use Rattle.capi.specs.Calls.{IntensityNumber, recolourRefusalOf, RecolourNumber}
-use Rattle.capi.specs.Calls.{Retoned, passRefusalOf, PassNumber, ListNumber, enhanceRefusalOf, EnhanceNumber}
-use Rattle.capi.specs.Calls.{readNumber, numbersAfter, ReadNumber, WriteNumber}
-use Rattle.capi.proofs.Numbers.{status-number, answer-number, written-number, refused-number}
+use Rattle.capi.specs.Calls.{passRefusalOf, PassNumber, enhanceRefusalOf, EnhanceNumber}
+use Rattle.capi.specs.Calls.{readNumber, numbersAfter, ReadNumber}
+use Rattle.capi.proofs.Numbers.{status-reads, answer-reads, written-reads}
 
 -- ## Orders of refusals
 
@@ -47,57 +43,51 @@ use Rattle.capi.proofs.Numbers.{status-number, answer-number, written-n
 ▷-assoc zero y z = refl
 ▷-assoc (suc x) y z = refl
 
--- ## Intensity and recolouring
+-- ## Outcomes with the answer as a number
 
--- the answer of a status is Done exactly where there is no refusal
-done-status : (k : ℕ) → k ≡ 0 → colours.answered k ≡ Status.Done
-done-status k e = ap colours.answered e
-
-refused-status : (k j : ℕ) → k ≡ suc j → colours.answered k ≡ Status.Refused (suc j)
-refused-status k j e = ap colours.answered e
-
-pub intensity-number : {w h : ℕ} {frame plane plane' : List ℕ} {s : Status} {r : ℤ}
-    → colours.IntensityOutcome w h frame plane s plane' → r ≡ statusNumber s → IntensityNumber w h frame plane r plane'
-intensity-number {w} {h} {frame} {plane} {plane'} {s} o e = record {
-  answer = e ∙ ap statusNumber (o .answer) ∙ status-number refusal;
-  plane-is = go refusal refl;
+pub intensity-coded : {w h : ℕ} {frame plane plane' : List ℕ} {r : ℤ} (s : Status) → r ≡ statusNumber s
+    → IntensityOutcome w h frame plane (statusReply s) plane' → IntensityOutcome w h frame plane (doneReply r) plane'
+intensity-coded {w} {h} {frame} {plane} s e o = record {
+  answer = ap doneReply e ∙ status-reads s (intensityRefusal w h (length frame) (length plane)) (o .answer);
+  plane-is = o .plane-is;
 }
-  where
-    refusal : ℕ
-    refusal = colours.intensityRefusal w h (length frame) (length plane)
 
-    go : (k : ℕ) → refusal ≡ k → plane' ≡ planeAfter k plane (intensity frame)
-    go zero d = o .filled (o .answer ∙ done-status refusal d)
-    go (suc j) d = o .refused (suc j) (o .answer ∙ refused-status refusal j d)
+pub recolour-coded : {w h : ℕ} {frame plane output output' : List ℕ} {r : ℤ} (s : Status) → r ≡ statusNumber s
+    → RecolourOutcome w h frame plane output (statusReply s) output'
+    → RecolourOutcome w h frame plane output (doneReply r) output'
+recolour-coded {w} {h} {frame} {plane} {output} s e o = record {
+  answer = ap doneReply e
+      ∙ status-reads s (recolourRefusal w h (length frame) (length plane) (length output)) (o .answer);
+  output-is = o .output-is;
+}
 
-pub recolour-number : {w h : ℕ} {frame plane output output' : List ℕ} {s : Status} {r : ℤ}
-    → colours.RecolourOutcome w h frame plane output s output' → r ≡ statusNumber s
-    → RecolourNumber w h frame plane output r output'
-recolour-number {w} {h} {frame} {plane} {output} o e =
-    let refusal = recolourRefusalOf w h frame plane output in
-    record {
-      answer = e ∙ ap statusNumber (o .answer) ∙ status-number refusal;
-      written = λ d. o .written (o .answer ∙ done-status refusal d);
-      beyond = λ d. o .beyond (o .answer ∙ done-status refusal d);
-      refused = λ j d. o .refused (suc j) (o .answer ∙ refused-status refusal j d);
-    }
+pub write-coded : {w h : ℕ} {raster output output' : List ℕ} {r : ℤ} (s : Written) → r ≡ writtenNumber s
+    → WriteOutcome raster w h output (writtenReply s) output' → WriteOutcome raster w h output (numberReply r) output'
+write-coded {w} {h} {raster} {output} s e o = record {
+  answer = ap numberReply e
+      ∙ written-reads s (writeRefusal w h (length raster) (length output)) (length (encoding raster w h) ∷ [])
+      (o .answer);
+  output-is = o .output-is;
+}
+
+module _ {n number : ℕ} {e : Effect} {plane marks queue plane' marks' queue' : List ℕ} where
+  pub coded : {r : ℤ} (s : Answer) → r ≡ answerNumber s
+      → Outcome n number e plane marks queue (answerReply s) plane' marks' queue'
+      → Outcome n number e plane marks queue (numberReply r) plane' marks' queue'
+  coded s d o = record {
+    answer = ap numberReply d ∙ answer-reads s number (counts e) (o .answer);
+    plane-is = o .plane-is;
+    refused = o .refused;
+    marks-rest = o .marks-rest;
+    queue-rest = o .queue-rest;
+  }
+
+  pub output-coded : {bytes output output' : List ℕ} {r : ℤ} (s : Answer) → r ≡ answerNumber s
+      → OutputOutcome n number e bytes plane marks queue output (answerReply s) plane' marks' queue' output'
+      → OutputOutcome n number e bytes plane marks queue output (numberReply r) plane' marks' queue' output'
+  output-coded s d o = record { retoned = coded s d (o .retoned); output-is = o .output-is }
 
 -- ## Passes
-
-stays : (k : ℕ) (old new : List ℕ) → (k ≡ 0 → ⊥) → old ≡ planeAfter k old new
-stays zero old new f = absurd (f refl)
-stays (suc k) old new f = refl
-
--- a refused call changes nothing
-retoned-refused : {w h refusal count : ℕ} {after plane marks queue : List ℕ} {r : ℤ} → (refusal ≡ 0 → ⊥)
-    → r ≡ encoded refusal 0 → Retoned w h refusal count after plane marks queue r plane marks queue
-retoned-refused {w} {h} {refusal} {count} {after} {plane} {marks} {queue} f e = record {
-  answer = e ∙ refused-number refusal count f;
-  plane-is = stays refusal plane after f;
-  refused = λ j d. (refl, refl);
-  marks-rest = beyond-refl (w * h) marks;
-  queue-rest = beyond-refl (w * h) queue;
-}
 
 module _ (w h a b area rule first second : ℕ) (plane marks queue : List ℕ) where
   -- 1 to 4 and 17
@@ -121,7 +111,7 @@ module _ (w h a b area rule first second : ℕ) (plane marks queue : List ℕ) w
   pass-refused {k} e f d =
       let is : k ≡ passRefusalOf w h rule second thePass plane marks queue =
       e ∙ sym (pass-order ∙ ▷-left passFirst _ (λ z. f (e ∙ z))) in
-      retoned-refused (λ z. f (is ∙ z)) (d ∙ ap (λ (j : ℕ). encoded j 0) is)
+      coded (Answer.Refused k) d (refused-by k is f)
 
   -- with no refusal before it, those of the call are the pass's
   pass-same : passFirst ≡ 0
@@ -131,47 +121,22 @@ module _ (w h a b area rule first second : ℕ) (plane marks queue : List ℕ) w
       let lent = ▷-none (lentRefusal w h (length plane) (length marks) (length queue)) _ e .0 in
       pass-order ∙ ▷-right passFirst _ e ∙ sym (▷-right _ _ lent)
 
-  pub pass-made : {rule' : Rule} {plane' marks' queue' : List ℕ} {s : Answer} {r : ℤ} → passFirst ≡ 0
+  pub pass-made : {rule' : Rule} {plane' marks' queue' : List ℕ} (s : Answer) {r : ℤ} → passFirst ≡ 0
       → rule' ≡ ruleOf rule first second
-      → PassOutcome w h (ruled rule') plane marks queue s plane' marks' queue'
+      → PassOutcome w h (ruled rule') plane marks queue (answerReply s) plane' marks' queue'
       → r ≡ answerNumber s
       → PassNumber w h a b area rule first second plane marks queue r plane' marks' queue'
-  pass-made {rule'} {plane'} {marks'} {queue'} {s} e d o g =
-      let same = sym (pass-same e) in
-      let count = passCount (four w) thePass plane in
-      let after = passed (four w) thePass plane in
-      let made : PassOutcome w h thePass plane marks queue s plane' marks' queue' =
-      subst (λ (x : Rule). PassOutcome w h (ruled x) plane marks queue s plane' marks' queue') d o in
-      record {
-        answer = g ∙ ap answerNumber (made .answer) ∙ answer-number (refusalOf w h thePass plane marks queue) count
-            ∙ ap (λ (j : ℕ). encoded j count) same;
-        plane-is = made .plane-is ∙ ap (λ (j : ℕ). planeAfter j plane after) same;
-        refused = λ j z. made .refused j (same ∙ z);
-        marks-rest = made .marks-rest;
-        queue-rest = made .queue-rest;
-      }
-
--- ## Lists
-
-pub list-made : {w h : ℕ} (list : List ℕ) {plane marks queue plane' marks' queue' : List ℕ} {s : Answer} {r : ℤ}
-    → ListOutcome w h list plane marks queue s plane' marks' queue' → r ≡ answerNumber s
-    → ListNumber w h list plane marks queue r plane' marks' queue'
-list-made {w} {h} list {plane} {marks} {queue} o g =
-    let refusal = fileRefusal w h list plane marks queue in
-    record {
-      answer = g ∙ ap answerNumber (o .answer) ∙ answer-number refusal (runCount (four w) (passesOf list) plane);
-      plane-is = o .plane-is;
-      refused = o .refused;
-      marks-rest = o .marks-rest;
-      queue-rest = o .queue-rest;
-    }
+  pass-made {rule'} {plane'} {marks'} {queue'} s e d o g =
+      let made : PassOutcome w h thePass plane marks queue (answerReply s) plane' marks' queue' =
+      subst (λ (x : Rule). PassOutcome w h (ruled x) plane marks queue (answerReply s) plane' marks' queue') d o in
+      coded s g (outcome-number (sym (pass-same e)) made)
 
 -- ## Enhancement
 
 module _ (w h last area rule first second : ℕ) (frame plane marks queue output : List ℕ) where
   -- 1, 2, 3; 4, 14; and with 17
   abbrev shape : ℕ
-  shape = colours.intensityRefusal w h (length frame) (length plane)
+  shape = intensityRefusal w h (length frame) (length plane)
 
   abbrev memory : ℕ
   memory = enhance.memoryRefusal (w * h) (length marks) (length queue) (length output)
@@ -200,17 +165,7 @@ module _ (w h last area rule first second : ℕ) (frame plane marks queue output
       → EnhanceNumber w h last area rule first second frame plane marks queue output r plane marks queue output
   enhance-refused {k} e f d =
       let is : k ≡ enhanceWhole = e ∙ sym (enhance-order ∙ ▷-left enhanceFirst _ (λ z. f (e ∙ z))) in
-      let some : enhanceWhole ≡ 0 → ⊥ = λ z. f (is ∙ z) in
-      let state = enhance.chainOf w h theSettings frame in
-      record {
-        answer = d ∙ ap (λ (j : ℕ). encoded j 0) is ∙ refused-number enhanceWhole (total (state .answers)) some;
-        plane-is = stays enhanceWhole plane (state .plane) some;
-        refused = λ j z. (refl, (refl, refl));
-        written = λ z. absurd (some z);
-        beyond = refl;
-        marks-rest = beyond-refl (w * h) marks;
-        queue-rest = beyond-refl (w * h) queue;
-      }
+      output-coded (Answer.Refused k) d (output-refused-by k is f)
 
   -- with no refusal before it, those of the call are the enhancement's
   enhance-same : enhanceFirst ≡ 0 → enhanceWhole ≡ enhance.refusalOf w h theSettings frame plane marks queue output
@@ -220,31 +175,17 @@ module _ (w h last area rule first second : ℕ) (frame plane marks queue output
       let second = ▷-none memory _ (first .1) in
       enhance-order ∙ ▷-right enhanceFirst _ e ∙ sym (▷-right shape _ (first .0) ∙ ▷-right memory _ (second .0))
 
-  pub enhance-made : {rule' : Rule} {plane' marks' queue' output' : List ℕ} {s : Answer} {r : ℤ} → enhanceFirst ≡ 0
+  pub enhance-made : {rule' : Rule} {plane' marks' queue' output' : List ℕ} (s : Answer) {r : ℤ} → enhanceFirst ≡ 0
       → rule' ≡ ruleOf rule first second
-      → enhance.EnhanceOutcome w h (settled rule') frame plane marks queue output s plane' marks' queue' output'
+      → enhance.EnhanceOutcome w h (settled rule') frame plane marks queue output (answerReply s)
+      plane' marks' queue' output'
       → r ≡ answerNumber s
       → EnhanceNumber w h last area rule first second frame plane marks queue output r plane' marks' queue' output'
-  enhance-made {rule'} {plane'} {marks'} {queue'} {output'} {s} e d o g =
-      let same = sym (enhance-same e) in
-      let state = enhance.chainOf w h theSettings frame in
-      let count = total (state .answers) in
-      let refusal = enhance.refusalOf w h theSettings frame plane marks queue output in
-      let made : enhance.EnhanceOutcome w h theSettings frame plane marks queue output s plane' marks' queue' output' =
-      subst
-      (λ (x : Rule).
-      enhance.EnhanceOutcome w h (settled x) frame plane marks queue output s plane' marks' queue' output')
-      d o in
-      record {
-        answer = g ∙ ap answerNumber (made .answer) ∙ answer-number refusal count
-            ∙ ap (λ (j : ℕ). encoded j count) same;
-        plane-is = made .plane-is ∙ ap (λ (j : ℕ). planeAfter j plane (state .plane)) same;
-        refused = λ j z. made .refused j (same ∙ z);
-        written = λ z. made .written (same ∙ z);
-        beyond = made .beyond;
-        marks-rest = made .marks-rest;
-        queue-rest = made .queue-rest;
-      }
+  enhance-made {rule'} {plane'} {marks'} {queue'} {output'} s e d o g =
+      let Made : Rule → Type 0 =
+      λ x. enhance.EnhanceOutcome w h (settled x) frame plane marks queue output (answerReply s)
+      plane' marks' queue' output' in
+      output-coded s g (output-number (sym (enhance-same e)) (subst Made d o))
 
 -- ## Reading
 
@@ -273,20 +214,13 @@ read-framed {bytes} {numbers} e d f = record {
 
 -- ## Writing
 
-pub write-number : {w h : ℕ} {raster output output' : List ℕ} {s : Written} {r : ℤ}
-    → Wrote raster w h output s output' → r ≡ writtenNumber s → WriteNumber raster w h output r output'
-write-number {w} {h} {raster} {output} o e = record {
-  answer = e ∙ ap writtenNumber (o .answers)
-      ∙ written-number (writeRefusal w h (length raster) (length output)) (length (encoding raster w h));
-  leaves = o .leaves;
-}
-
 -- what is written is short
-pub write-short : {w h : ℕ} {raster output output' : List ℕ} {s : Written} → Wrote raster w h output s output' → Short s
-write-short {w} {h} {raster} {output} {output'} o = record {
+pub write-short : {w h : ℕ} {raster output output' : List ℕ} (s : Written)
+    → WriteOutcome raster w h output (writtenReply s) output' → Short s
+write-short {w} {h} {raster} {output} {output'} s o = record {
   short = λ size e.
-      let wrote : Wrote raster w h output (Written.Length size) output' =
-      subst (λ (x : Written). Wrote raster w h output x output') e o in
+      let wrote : WriteOutcome raster w h output (gives (size ∷ [])) output' =
+      subst (λ (x : Written). WriteOutcome raster w h output (writtenReply x) output') e o in
       let fits = wrote-writable wrote in
       let sides = fits .size in
       let counted = heading-length w h in

@@ -1,8 +1,9 @@
--- Answers as numbers: what the machine makes of a negated refusal, and that each call's answer, encoded, is the
--- encoding of its refusal and its value. Assumes nothing.
+-- Answers as numbers: what the machine makes of a negated refusal, and that the number of a call's answer stands for the
+-- reply of that answer. Assumes nothing.
 use Prim.Native.Nat.{ℕ, zero, suc, _-_, _<_, _^_}
-use mathlib.Core.Path.{_≡_, refl, ap, _∙_}
+use mathlib.Core.Path.{_≡_, refl, sym, ap, _∙_}
 use mathlib.Core.Bool.{Bool, cond}
+use mathlib.Core.List.{List, []}
 use lib.IntN.{ℤ, pos, negsuc, _-ℤ_}
 use borrow.Author.Tests.{lt-ltb}
 use native.Mathlib.Omega.{arith}
@@ -10,10 +11,18 @@ use lib.Signed.{mag}
 use mir.Syntax.{w64}
 use mir.Val.{SFits, toZ, ofZ}
 use mir.Facts.{toZ-ofZ, toZ-pos}
-use Rattle.colours.specs.Calls as colours
-use Rattle.model.specs.Calls as model
-use Rattle.netpbm.specs.Writing as netpbm
-use Rattle.capi.specs.Numbers.{encoded, statusNumber, answerNumber, writtenNumber}
+use Rattle.planes.specs.Replies.{refuses, replied}
+use Rattle.planes.proofs.Replies.{replied-refuses}
+use Rattle.colours.specs.Calls.{statusReply}
+use Rattle.colours.specs.declared.Status.{Status}
+use Rattle.colours.specs.declared.Status.the-variants as Status
+use Rattle.model.specs.Outcomes.{answerReply}
+use Rattle.model.specs.declared.Answer.{Answer}
+use Rattle.model.specs.declared.Answer.the-variants as Answer
+use Rattle.netpbm.specs.Writing.{writtenReply}
+use Rattle.netpbm.specs.declared.Written.{Written}
+use Rattle.netpbm.specs.declared.Written.the-variants as Written
+use Rattle.capi.specs.Numbers.{encoded, numberReply, doneReply, statusNumber, answerNumber, writtenNumber}
 
 -- a result that is handed on is read back from its bits
 pub returned : {z v : ℤ} → mag z < 9223372036854775808 → z ≡ v → toZ w64 (ofZ w64 z) ≡ v
@@ -35,21 +44,26 @@ negated-fits (suc k) h = record { sfits = omega arith }
 pub minus : (k : ℕ) → k < 2 ^ 63 → pos 0 -ℤ toZ w64 k ≡ encoded k 0
 minus k h = ap (λ (z : ℤ). pos 0 -ℤ z) (toZ-pos w64 h) ∙ negated k
 
--- ## Encoded answers
+-- ## Answers
 
-pub status-number : (k : ℕ) → statusNumber (colours.answered k) ≡ encoded k 0
-status-number zero = refl
-status-number (suc k) = refl
+-- no call is refused with 0, so each answer is read back from its number
+no-zero : (number : ℕ) (vs : List ℕ) → refuses 0 ≡ replied number vs → ⊥
+no-zero number vs e = let (j, (_, is)) = replied-refuses number vs (sym e) in omega (arith, is)
 
-pub answer-number : (k count : ℕ) → answerNumber (model.answered k count) ≡ encoded k count
-answer-number zero count = refl
-answer-number (suc k) count = refl
+pub status-reads : (s : Status) (number : ℕ) → statusReply s ≡ replied number []
+    → doneReply (statusNumber s) ≡ replied number []
+status-reads Status.Done number e = e
+status-reads (Status.Refused zero) number e = absurd (no-zero number [] e)
+status-reads (Status.Refused (suc k)) number e = e
 
-pub written-number : (k size : ℕ) → writtenNumber (netpbm.answer k size) ≡ encoded k size
-written-number zero size = refl
-written-number (suc k) size = refl
+pub answer-reads : (s : Answer) (number : ℕ) (vs : List ℕ) → answerReply s ≡ replied number vs
+    → numberReply (answerNumber s) ≡ replied number vs
+answer-reads (Answer.Done count) number vs e = e
+answer-reads (Answer.Refused zero) number vs e = absurd (no-zero number vs e)
+answer-reads (Answer.Refused (suc k)) number vs e = e
 
--- a refusal has no value
-pub refused-number : (k value : ℕ) → (k ≡ 0 → ⊥) → encoded k 0 ≡ encoded k value
-refused-number zero value f = absurd (f refl)
-refused-number (suc k) value f = refl
+pub written-reads : (s : Written) (number : ℕ) (vs : List ℕ) → writtenReply s ≡ replied number vs
+    → numberReply (writtenNumber s) ≡ replied number vs
+written-reads (Written.Length size) number vs e = e
+written-reads (Written.Refused zero) number vs e = absurd (no-zero number vs e)
+written-reads (Written.Refused (suc k)) number vs e = e

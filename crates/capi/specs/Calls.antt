@@ -1,68 +1,32 @@
--- What each C function answers and leaves in the memory that it is lent: the same as the call that it stands for, with
--- the answer as a number. n = w × h. Definitions only.
+-- What each C function answers and leaves in the memory that it is lent: the very outcome of the call that it stands
+-- for, with the answer as a number. Three have a form of their own. n = w × h. Definitions only.
 --
---   IntensityNumber   the contract of `mlhe_intensity`
---   RecolourNumber    the contract of `mlhe_recolour`
---   PassNumber        the contract of `mlhe_pass`
---   ListNumber        the contract of `mlhe_run_list`
---   EnhanceNumber     the contract of `mlhe_enhance`
---   ReadNumber        the contract of `mlhe_read`
---   WriteNumber       the contract of `mlhe_write`
-use Prim.Native.Nat.{ℕ, suc, _*_}
+--   PassNumber      the contract of `mlhe_pass`: a pass by its numbers, with 17 for numbers that stand for no rule
+--   EnhanceNumber   the contract of `mlhe_enhance`, likewise
+--   ReadNumber      the contract of `mlhe_read`: what is read goes to three lent numbers
+use Prim.Native.Nat.{ℕ, _*_}
 use mathlib.Core.Path.{_≡_}
 use mathlib.Core.Bool.{cond}
 use mathlib.Core.List.{List, _∷_}
 use lib.IntN.{ℤ}
-use lib.ListN.{length, take, drop}
+use lib.ListN.{length, drop}
 use lib.Dec.{ltb}
-use Rattle.planes.specs.Lists.{Beyond}
 use Rattle.planes.specs.Refusals.{when, _▷_, greatestPixels}
 use Rattle.planes.specs.Neighbours.{four}
-use Rattle.colours.specs.Frames.{intensity, recolour}
-use Rattle.colours.specs.Calls.{intensityRefusal, recolourRefusal}
+use Rattle.colours.specs.Frames.{recolour}
+use Rattle.colours.specs.Calls.{intensityRefusal}
 use Rattle.model.specs.declared.Pass.{Pass}
-use Rattle.model.specs.Passes.{passed, passCount}
-use Rattle.model.specs.Calls.{lentRefusal, numbersRefusal, planeAfter, total}
-use Rattle.model.specs.Runs.{run, runCount}
-use Rattle.passlists.specs.Format.{passesOf}
-use Rattle.passlists.specs.Outcomes.{fileRefusal}
+use Rattle.model.specs.Effects.{passEffect}
+use Rattle.model.specs.Outcomes.{Outcome, OutputOutcome}
+use Rattle.model.specs.Calls.{lentRefusal, numbersRefusal, chainEffect}
 use Rattle.enhance.specs.declared.Settings.{Settings}
 use Rattle.enhance.specs.Calls.{settingsRefusal, memoryRefusal, chainOf}
 use Rattle.netpbm.specs.declared.Header.{Header}
 use Rattle.netpbm.specs.declared.Header.the-variants as Header
 use Rattle.netpbm.specs.Reading.{readAnswer}
-use Rattle.netpbm.specs.Writing.{encoding, writeRefusal, outputAfter}
-use Rattle.capi.specs.Numbers.{encoded, formRefusal, passOf, settingsOf}
+use Rattle.capi.specs.Numbers.{encoded, numberReply, formRefusal, passOf, settingsOf}
 
--- ## Intensity and recolouring: 0 when done
-
-pub record IntensityNumber (w h : ℕ) (frame plane : List ℕ) (r : ℤ) (plane' : List ℕ) : Type 0 where
-  pub answer : r ≡ encoded (intensityRefusal w h (length frame) (length plane)) 0
-  pub plane-is : plane' ≡ planeAfter (intensityRefusal w h (length frame) (length plane)) plane (intensity frame)
-
-abbrev pub recolourRefusalOf : ℕ → ℕ → List ℕ → List ℕ → List ℕ → ℕ
-recolourRefusalOf w h frame plane output = recolourRefusal w h (length frame) (length plane) (length output)
-
-pub record RecolourNumber (w h : ℕ) (frame plane output : List ℕ) (r : ℤ) (output' : List ℕ) : Type 0 where
-  pub answer : r ≡ encoded (recolourRefusalOf w h frame plane output) 0
-  -- the first 3 × n bytes are the recoloured frame; the bytes beyond stay, and so does the length
-  pub written : recolourRefusalOf w h frame plane output ≡ 0 → take (3 * (w * h)) output' ≡ recolour frame plane
-  pub beyond : recolourRefusalOf w h frame plane output ≡ 0
-      → drop (3 * (w * h)) output' ≡ drop (3 * (w * h)) output
-  -- no byte is changed
-  pub refused : (k : ℕ) → recolourRefusalOf w h frame plane output ≡ suc k → output' ≡ output
-
--- ## A pass or a list of passes: the number of retoned components
-
--- a plane that becomes `after` with so many components retoned, unless there is a refusal: that is the answer then, and
--- nothing changes; marks and queue keep their lengths and all entries from n on in any case
-pub record Retoned (w h refusal count : ℕ) (after plane marks queue : List ℕ) (r : ℤ) (plane' marks' queue' : List ℕ)
-    : Type 0 where
-  pub answer : r ≡ encoded refusal count
-  pub plane-is : plane' ≡ planeAfter refusal plane after
-  pub refused : (k : ℕ) → refusal ≡ suc k → (marks' ≡ marks) × (queue' ≡ queue)
-  pub marks-rest : Beyond (w * h) marks marks'
-  pub queue-rest : Beyond (w * h) queue queue'
+-- ## A pass: the number of retoned components
 
 -- 1 to 4, 17, 5 to 8
 unfoldable pub passRefusalOf : ℕ → ℕ → ℕ → ℕ → Pass → List ℕ → List ℕ → List ℕ → ℕ
@@ -71,16 +35,10 @@ passRefusalOf w h rule second s plane marks queue =
 
 abbrev pub PassNumber : (w h a b area rule first second : ℕ) (plane marks queue : List ℕ) (r : ℤ)
     (plane' marks' queue' : List ℕ) → Type 0
-PassNumber w h a b area rule first second plane marks queue =
+PassNumber w h a b area rule first second plane marks queue r =
     let s = passOf a b area rule first second in
-    Retoned w h (passRefusalOf w h rule second s plane marks queue) (passCount (four w) s plane)
-    (passed (four w) s plane) plane marks queue
-
--- 1 to 4, 16 for fewer than 7 bytes, 15, 16, then for each record 17, 5 to 8
-abbrev pub ListNumber : (w h : ℕ) (list plane marks queue : List ℕ) (r : ℤ) (plane' marks' queue' : List ℕ) → Type 0
-ListNumber w h list plane marks queue =
-    Retoned w h (fileRefusal w h list plane marks queue) (runCount (four w) (passesOf list) plane)
-    (run (four w) (passesOf list) plane) plane marks queue
+    Outcome (w * h) (passRefusalOf w h rule second s plane marks queue) (passEffect (four w) s plane)
+    plane marks queue (numberReply r)
 
 -- ## An enhancement: the sum of its passes' counts
 
@@ -91,22 +49,13 @@ enhanceRefusalOf w h rule second t frame plane marks queue output =
     ▷ memoryRefusal (w * h) (length marks) (length queue) (length output)
     ▷ formRefusal rule second ▷ settingsRefusal t
 
-pub record Enhanced (w h refusal : ℕ) (t : Settings) (frame plane marks queue output : List ℕ) (r : ℤ)
-    (plane' marks' queue' output' : List ℕ) : Type 0 where
-  pub answer : r ≡ encoded refusal (total (chainOf w h t frame .answers))
-  pub plane-is : plane' ≡ planeAfter refusal plane (chainOf w h t frame .plane)
-  pub refused : (k : ℕ) → refusal ≡ suc k → (marks' ≡ marks) × ((queue' ≡ queue) × (output' ≡ output))
-  pub written : refusal ≡ 0 → take (3 * (w * h)) output' ≡ recolour frame (chainOf w h t frame .plane)
-  pub beyond : drop (3 * (w * h)) output' ≡ drop (3 * (w * h)) output
-  pub marks-rest : Beyond (w * h) marks marks'
-  pub queue-rest : Beyond (w * h) queue queue'
-
 abbrev pub EnhanceNumber : (w h last area rule first second : ℕ) (frame plane marks queue output : List ℕ) (r : ℤ)
     (plane' marks' queue' output' : List ℕ) → Type 0
-EnhanceNumber w h last area rule first second frame plane marks queue output =
+EnhanceNumber w h last area rule first second frame plane marks queue output r =
     let t = settingsOf last area rule first second in
-    Enhanced w h (enhanceRefusalOf w h rule second t frame plane marks queue output) t
-    frame plane marks queue output
+    OutputOutcome (w * h) (enhanceRefusalOf w h rule second t frame plane marks queue output)
+    (chainEffect (chainOf w h t frame)) (recolour frame (chainOf w h t frame .plane))
+    plane marks queue output (numberReply r)
 
 -- ## Reading: width, height and the raster's offset go to three lent numbers
 
@@ -124,9 +73,3 @@ numbersAfter (Header.Frame w h offset) numbers =
 pub record ReadNumber (bytes numbers : List ℕ) (r : ℤ) (numbers' : List ℕ) : Type 0 where
   pub answer : r ≡ readNumber (readAnswer bytes greatestPixels) (length numbers)
   pub numbers-are : numbers' ≡ numbersAfter (readAnswer bytes greatestPixels) numbers
-
--- ## Writing: the number of bytes written
-
-pub record WriteNumber (raster : List ℕ) (w h : ℕ) (output : List ℕ) (r : ℤ) (output' : List ℕ) : Type 0 where
-  pub answer : r ≡ encoded (writeRefusal w h (length raster) (length output)) (length (encoding raster w h))
-  pub leaves : output' ≡ outputAfter (writeRefusal w h (length raster) (length output)) (encoding raster w h) output

@@ -1,6 +1,8 @@
 -- How the library's answers and settings are written as numbers for a C caller. Definitions only.
 --
 --   encoded        an answer as one number: a refusal k as -k, and else the value
+--   numberReply    the reply that a number stands for, of a call that gives one value
+--   doneReply      the same of a call that gives none: 0 stands for done
 --   statusNumber   the answer of intensity or recolouring, encoded
 --   answerNumber   the answer of a pass, a list or an enhancement, encoded
 --   writtenNumber  the answer of writing, encoded
@@ -10,9 +12,11 @@
 use Prim.Native.Nat.{ℕ, zero, suc, _<_}
 use mathlib.Core.Path.{_≡_}
 use mathlib.Core.Bool.{not, _&&_, _||_}
+use mathlib.Core.List.{[], _∷_}
 use lib.IntN.{ℤ, pos, negsuc}
 use lib.Dec.{ltb, eqb}
 use Rattle.planes.specs.Refusals.{when}
+use Rattle.planes.specs.Replies.{Reply, refuses, gives}
 use Rattle.model.specs.declared.Pass.{Pass}
 use Rattle.colours.specs.declared.Status.{Status}
 use Rattle.colours.specs.declared.Status.the-variants as Status
@@ -27,6 +31,16 @@ use Rattle.passlists.specs.Format.{ruleOf}
 abbrev pub encoded : ℕ → ℕ → ℤ
 encoded zero value = pos value
 encoded (suc k) value = negsuc k
+
+-- negsuc k is -(k + 1), which stands for the refusal k + 1
+abbrev pub numberReply : ℤ → Reply
+numberReply (pos value) = gives (value ∷ [])
+numberReply (negsuc k) = refuses (suc k)
+
+abbrev pub doneReply : ℤ → Reply
+doneReply (pos zero) = gives []
+doneReply (pos (suc value)) = gives (suc value ∷ [])
+doneReply (negsuc k) = refuses (suc k)
 
 -- the answers of the calls as numbers
 abbrev pub statusNumber : Status → ℤ

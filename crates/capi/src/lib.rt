@@ -13,14 +13,15 @@ ghost use Prim.Native.Nat.{_*_};
 ghost use lib.IntN.{pos};
 ghost use lib.ListN.{length};
 ghost use Rattle.planes.specs.Refusals.{_▷_};
-ghost use Rattle.colours.specs.Calls.{intensityRefusal};
+ghost use Rattle.colours.specs.Calls.{intensityRefusal, IntensityOutcome, RecolourOutcome};
 ghost use Rattle.model.specs.Calls.{lentRefusal};
 ghost use Rattle.enhance.specs.Calls.{memoryRefusal};
 ghost use Rattle.passlists.specs.Format.{ruleOf};
-ghost use Rattle.capi.specs.Numbers.{encoded, statusNumber, answerNumber, writtenNumber, Short};
-ghost use Rattle.capi.specs.Numbers.{formRefusal};
-ghost use Rattle.capi.specs.Calls.{IntensityNumber, RecolourNumber, PassNumber, ListNumber, EnhanceNumber};
-ghost use Rattle.capi.specs.Calls.{readNumber, numbersAfter, ReadNumber, WriteNumber};
+ghost use Rattle.passlists.specs.Outcomes.{ListOutcome};
+ghost use Rattle.netpbm.specs.Writing.{WriteOutcome};
+ghost use Rattle.capi.specs.Numbers.{encoded, numberReply, doneReply, statusNumber, answerNumber};
+ghost use Rattle.capi.specs.Numbers.{writtenNumber, Short, formRefusal};
+ghost use Rattle.capi.specs.Calls.{PassNumber, EnhanceNumber, readNumber, numbersAfter, ReadNumber};
 use colours::Status;
 use enhance::Settings;
 use model::Answer;
@@ -93,7 +94,8 @@ fn rule_of(rule: u8, first: u16, second: u16) -> Rule
 // Fills the plane with the intensities of the frame.
 #[no_mangle]
 pub extern "C" fn mlhe_intensity(frame: &[u8], w: usize, h: usize, plane: &mut [u8]) -> i64
-    ensures { λ r. ⌜ IntensityNumber w h (now (frame .entry)) (now (plane .entry)) r (now (plane .exit)) ⌝ }
+    ensures { λ r. ⌜ IntensityOutcome w h (now (frame .entry)) (now (plane .entry)) (doneReply r)
+        (now (plane .exit)) ⌝ }
 {
     status_number(colours::intensity(frame, w, h, plane))
 }
@@ -107,8 +109,8 @@ pub extern "C" fn mlhe_recolour(
     plane: &[u8],
     output: &mut [u8],
 ) -> i64
-    ensures { λ r. ⌜ RecolourNumber w h (now (frame .entry)) (now (plane .entry)) (now (output .entry)) r
-        (now (output .exit)) ⌝ }
+    ensures { λ r. ⌜ RecolourOutcome w h (now (frame .entry)) (now (plane .entry)) (now (output .entry))
+        (doneReply r) (now (output .exit)) ⌝ }
 {
     status_number(colours::recolour(frame, w, h, plane, output))
 }
@@ -169,8 +171,8 @@ pub extern "C" fn mlhe_run_list(
     w: usize,
     h: usize,
 ) -> i64
-    ensures { λ r. ⌜ ListNumber w h (now (list .entry)) (now (plane .entry)) (now (marks .entry)) (now (queue .entry)) r
-        (now (plane .exit)) (now (marks .exit)) (now (queue .exit)) ⌝ }
+    ensures { λ r. ⌜ ListOutcome w h (now (list .entry)) (now (plane .entry)) (now (marks .entry)) (now (queue .entry))
+        (numberReply r) (now (plane .exit)) (now (marks .exit)) (now (queue .exit)) ⌝ }
 {
     answer_number(passlists::run_list(list, plane, marks, queue, w, h))
 }
@@ -288,7 +290,8 @@ fn written_number(written: Written) -> i64
 // Writes a frame.
 #[no_mangle]
 pub extern "C" fn mlhe_write(raster: &[u8], w: usize, h: usize, output: &mut [u8]) -> i64
-    ensures { λ r. ⌜ WriteNumber (now (raster .entry)) w h (now (output .entry)) r (now (output .exit)) ⌝ }
+    ensures { λ r. ⌜ WriteOutcome (now (raster .entry)) w h (now (output .entry)) (numberReply r)
+        (now (output .exit)) ⌝ }
 {
     written_number(netpbm::write(raster, w, h, output))
 }

@@ -5,7 +5,7 @@
 --   outcome-number  the outcome by another name of the number
 --   outcome-given   a call that gives values was not refused, and had its effect
 --   outcome-stays   a call that was refused left all memory as it was
---   output-refused-by, output-done-by, output-given, output-stays   the same with an output
+--   output-number, output-refused-by, output-done-by, output-given, output-stays   the same with an output
 use Prim.Native.Nat.{ℕ, zero, suc}
 use mathlib.Core.Path.{_≡_, refl, sym, ap, subst, _∙_}
 use mathlib.Core.List.{List, [], _∷_}
@@ -58,6 +58,12 @@ module _ {n number : ℕ} {e : Effect} {plane marks queue plane' marks' queue' :
       (O .plane-is ∙ ap (λ (k : ℕ). after k plane (e .plane)) is, O .refused j is)
 
 -- ## With an output
+
+pub output-number : {n x y : ℕ} {e : Effect} {bytes plane marks queue output plane' marks' queue' output' : List ℕ}
+    {reply : Reply} → x ≡ y → OutputOutcome n x e bytes plane marks queue output reply plane' marks' queue' output'
+    → OutputOutcome n y e bytes plane marks queue output reply plane' marks' queue' output'
+output-number {n} {e = e} {bytes} {plane} {marks} {queue} {output} {plane'} {marks'} {queue'} {output'} {reply} same =
+    subst (λ (k : ℕ). OutputOutcome n k e bytes plane marks queue output reply plane' marks' queue' output') same
 
 pub output-refused-by : {n number : ℕ} {e : Effect} {bytes plane marks queue output : List ℕ} (x : ℕ) → x ≡ number
     → (x ≡ 0 → ⊥)

@@ -50,7 +50,7 @@ returns-2 c =
     let args = tested .before .before .before .before .before .before .args in
     enhance-made (args .w) (args .h) (args .last) (args .area) (args .rule) (args .first) (args .second)
     (args .frame .now) (args .plane .now) (args .marks .now) (args .queue .now) (args .output .now)
-    (sym (tested .enhance-form-refusal .ensures) ∙ ruled .before .if1 .left) (ruled .rule-of .ensures)
+    (called .enhance .result) (sym (tested .enhance-form-refusal .ensures) ∙ ruled .before .if1 .left) (ruled .rule-of .ensures)
     (called .enhance .ensures) (returned (c .answer-number .ok) (c .answer-number .ensures))
 
 pub mlhe-enhance-spec : {M : Type 1} → statement M

@@ -1,6 +1,6 @@
 -- `capi::mlhe_intensity` meets its contract: as the call. Assumes nothing.
 use Rattle.capi.proofs.Numbers.{returned}
-use Rattle.capi.proofs.Calls.{intensity-number}
+use Rattle.capi.proofs.Calls.{intensity-coded}
 use borrow.Author.Needs.{needs}
 use Rattle.capi.proofs.mlhe_intensity.Statement.{statement}
 use Rattle.capi.proofs.mlhe_intensity.Tie as tie
@@ -16,8 +16,9 @@ same-length c = search needs
 
 returns : tie.Need-returns
 returns c =
-    intensity-number (c .before .before .before .intensity .ensures)
-    (returned (c .status-number .ok) (c .status-number .ensures))
+    let called = c .before .before .before in
+    intensity-coded (called .intensity .result) (returned (c .status-number .ok) (c .status-number .ensures))
+    (called .intensity .ensures)
 
 pub mlhe-intensity-spec : {M : Type 1} → statement M
 mlhe-intensity-spec =

@@ -45,7 +45,7 @@ returns-2 c =
     let tested = ruled .before .before in
     let args = tested .before .before .before .before .args in
     pass-made (args .w) (args .h) (args .a) (args .b) (args .area) (args .rule) (args .first) (args .second)
-    (args .plane .now) (args .marks .now) (args .queue .now)
+    (args .plane .now) (args .marks .now) (args .queue .now) (called .pass .result)
     (sym (tested .pass-form-refusal .ensures) ∙ ruled .before .if1 .left) (ruled .rule-of .ensures)
     (called .pass .ensures) (returned (c .answer-number .ok) (c .answer-number .ensures))
 

@@ -1,6 +1,6 @@
 -- `capi::mlhe_recolour` meets its contract: as the call. Assumes nothing.
 use Rattle.capi.proofs.Numbers.{returned}
-use Rattle.capi.proofs.Calls.{recolour-number}
+use Rattle.capi.proofs.Calls.{recolour-coded}
 use borrow.Author.Needs.{needs}
 use Rattle.capi.proofs.mlhe_recolour.Statement.{statement}
 use Rattle.capi.proofs.mlhe_recolour.Tie as tie
@@ -16,8 +16,9 @@ same-length c = search needs
 
 returns : tie.Need-returns
 returns c =
-    recolour-number (c .before .before .before .recolour .ensures)
-    (returned (c .status-number .ok) (c .status-number .ensures))
+    let called = c .before .before .before in
+    recolour-coded (called .recolour .result) (returned (c .status-number .ok) (c .status-number .ensures))
+    (called .recolour .ensures)
 
 pub mlhe-recolour-spec : {M : Type 1} → statement M
 mlhe-recolour-spec =

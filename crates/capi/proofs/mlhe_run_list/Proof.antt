@@ -1,6 +1,6 @@
 -- `capi::mlhe_run_list` meets its contract: as the call. Assumes nothing.
 use Rattle.capi.proofs.Numbers.{returned}
-use Rattle.capi.proofs.Calls.{list-made}
+use Rattle.capi.proofs.Calls.{coded}
 use borrow.Author.Needs.{needs}
 use Rattle.capi.proofs.mlhe_run_list.Statement.{statement}
 use Rattle.capi.proofs.mlhe_run_list.Tie as tie
@@ -23,9 +23,8 @@ same-length-3 c = search needs
 returns : tie.Need-returns
 returns c =
     let called = c .before .before .before .before .before .before .before in
-    let start = called .before .before .before .before .before .before .before .before in
-    list-made (start .args .list .now) (called .run-list .ensures)
-    (returned (c .answer-number .ok) (c .answer-number .ensures))
+    coded (called .run-list .result) (returned (c .answer-number .ok) (c .answer-number .ensures))
+    (called .run-list .ensures)
 
 pub mlhe-run-list-spec : {M : Type 1} → statement M
 mlhe-run-list-spec =
