@@ -1,13 +1,13 @@
 -- Bytes that stand at the beginning of the output, as one run and as a written frame. Assumes nothing.
 use Prim.Native.Nat.{ℕ, _+_, _≤_}
 use mathlib.Core.Path.{_≡_, sym, ap, _∙_}
-use mathlib.Core.List.{List, _++_}
+use mathlib.Core.List.{List, [], _∷_, _++_}
 use native.Mathlib.Nat.{zero-add}
 use native.Mathlib.Omega.{arith}
 use lib.ListN.{length, take, drop, length-append, length-take}
 use lib.Seq.{take-at, drop-at}
-use Rattle.netpbm.specs.Writing.{encoding, Put, Wrote}
-use Rattle.netpbm.specs.declared.Written.the-variants.{Length}
+use Rattle.planes.specs.Replies.{gives}
+use Rattle.netpbm.specs.Writing.{encoding, Put, WriteOutcome}
 use Rattle.netpbm.proofs.Writing.{wrote-size, wrote-frame, wrote-beyond}
 use Rattle.frames.specs.Program.{Emitted}
 
@@ -26,7 +26,7 @@ emitted-put {bytes} {output} {output'} {r} p =
     }
 
 -- a frame that was written
-pub emitted-wrote : {raster output output' : List ℕ} {w h size : ℕ} → Wrote raster w h output (Length size) output'
+pub emitted-wrote : {raster output output' : List ℕ} {w h size : ℕ} → WriteOutcome raster w h output (gives (size ∷ [])) output'
     → Emitted (encoding raster w h) output size output'
 emitted-wrote {output' = output'} {size = size} wrote =
     let counted = sym (length-take size output') ∙ ap length (wrote-frame wrote) ∙ sym (wrote-size wrote) in

@@ -1,30 +1,31 @@
 -- A frame of at most 16,384 pixels is enhanced with the house setting and written: none of the refusals applies to the
 -- two calls, and what is written is the enhanced frame. Assumes nothing.
-use Prim.Native.Nat.{ℕ, zero, suc, _+_, _-_, _*_, _≤_}
+use Prim.Native.Nat.{ℕ, _+_, _-_, _*_, _≤_}
 use mathlib.Core.Path.{_≡_, refl, sym, ap, subst, _∙_}
-use mathlib.Core.List.{List}
+use mathlib.Core.List.{List, [], _∷_}
 use native.Mathlib.Omega.{arith}
 use lib.ListN.{length, take, drop, length-drop}
-use lib.Seq.{take-all}
+use lib.Seq.{take-all, take-at}
 use borrow.Author.Tests.{le-ltb, eq-eqb}
 use Rattle.planes.specs.Refusals.{Sized}
 use Rattle.planes.specs.Refusals as planes
+use Rattle.planes.specs.Replies.{Reply, after, overwritten}
 use Rattle.planes.proofs.Refusals.{sized-none}
-use Rattle.tones.specs.declared.Rule.{Rule}
-use Rattle.tones.specs.declared.Rule.the-variants.{Plain}
+use Rattle.planes.proofs.Replies.{refuses-not-gives, replied-none}
 use Rattle.colours.specs.Frames.{recolour}
 use Rattle.colours.specs.Calls.{intensityRefusal}
+use Rattle.colours.proofs.Frames.{length-recolour}
 use Rattle.model.specs.Calls.{areaRefusal, ruleRefusal}
-use Rattle.model.specs.declared.Answer.{Answer}
 use Rattle.enhance.specs.declared.Settings.{Settings}
-use Rattle.enhance.specs.Calls.{settingsRefusal, memoryRefusal, enhanceRefusal, chainOf, EnhanceOutcome}
+use Rattle.enhance.specs.Calls.{house, settingsRefusal, memoryRefusal, enhanceRefusal, chainOf}
+use Rattle.enhance.specs.Calls.{EnhanceOutcome}
 use Rattle.netpbm.specs.Frames.{IsFrame}
-use Rattle.netpbm.specs.Writing.{heading, encoding, writeRefusal, answer, Wrote}
+use Rattle.netpbm.specs.Writing.{heading, encoding, writeRefusal, writtenReply, WriteOutcome}
 use Rattle.netpbm.specs.declared.Written.{Written}
 use Rattle.netpbm.specs.declared.Written.the-variants.{Refused, Length}
 use Rattle.netpbm.proofs.Decimal.{decimal-spelled}
 use Rattle.netpbm.proofs.Heading.{heading-length}
-use Rattle.frames.specs.Program.{greatestPixels, house, enhancedFrame, Emitted}
+use Rattle.frames.specs.Program.{greatestPixels, enhancedFrame, Emitted}
 use Rattle.frames.proofs.Emitting.{emitted-wrote}
 
 -- the frame's size is not refused by the library either
@@ -82,25 +83,10 @@ module _ {w h : ℕ} (size : Sized w h greatestPixels) where
         le-ltb output (length (heading w h) + raster) (omega arith),
       )
 
-abbrev setting : ℕ → ℕ → Rule → Settings
-setting last area rule = record { last = last; area = area; rule = rule }
-
--- what `Settings::house` answers
-pub house-is : (t : Settings) → (t .last ≡ 7) × ((t .area ≡ 20) × (t .rule ≡ Plain 80 300)) → t ≡ house
-house-is t e =
-    ap (λ (last : ℕ). setting last (t .area) (t .rule)) (e .0)
-    ∙ ap (λ (area : ℕ). setting 7 area (t .rule)) (e .1 .0)
-    ∙ ap (λ (rule : Rule). setting 7 20 rule) (e .1 .1)
-
 -- what stands from the offset on, lent as a part of the input
 pub raster-lent : (input : List ℕ) (offset : ℕ) → take (length input - offset) (drop offset input) ≡ drop offset input
 raster-lent input offset =
     take-all (length input - offset) (drop offset input) (omega (arith, length-drop offset input))
-
--- a refusal is answered to none but a refusal's number
-not-length : (k n number : ℕ) → k ≡ 0 → Refused number ≡ answer k n → ⊥
-not-length zero n number z e = let clash : _≡_ {A = ℕ} 0 1 = cc in omega arith
-not-length (suc k) n number z e = omega arith
 
 module _ {input : List ℕ} {w h offset : ℕ} (f : IsFrame input greatestPixels w h offset) where
   abbrev raster : List ℕ
@@ -110,33 +96,37 @@ module _ {input : List ℕ} {w h offset : ℕ} (f : IsFrame input greatestPixels
   channels = omega (arith, length-drop offset input, f .placed, f .filled)
 
   -- the enhancement's output is the recoloured frame
-  pub recoloured : {frame plane marks queue colours plane' marks' queue' colours' : List ℕ} {t : Settings} {r : Answer}
-      → EnhanceOutcome w h t frame plane marks queue colours r plane' marks' queue' colours'
+  pub recoloured : {frame plane marks queue colours plane' marks' queue' colours' : List ℕ} {t : Settings} {reply : Reply}
+      → EnhanceOutcome w h t frame plane marks queue colours reply plane' marks' queue' colours'
       → t ≡ house → frame ≡ raster → Room (w * h) (length plane) (length marks) (length queue) (length colours)
       → take (3 * (w * h)) colours' ≡ recolour raster (chainOf w h house raster .plane)
-  recoloured {frame} {plane} {marks} {queue} {colours} outcome setting-is frame-is room =
+  recoloured {frame} {plane} {marks} {queue} {colours} {t = t} outcome setting-is frame-is room =
       let refusal = enhanceRefusal w h (length frame) (length plane) (length marks) (length queue) (length colours) in
       let counted = ap length frame-is ∙ channels in
       let accepted = ap refusal setting-is ∙ enhance-accepts (f .sized) counted room in
-      outcome .written accepted
+      let new = recolour frame (chainOf w h t frame .plane) in
+      let long = length-recolour frame (chainOf w h t frame .plane) ∙ counted in
+      let left = outcome .output-is ∙ ap (λ (k : ℕ). after k colours (overwritten colours new)) accepted in
+      ap (take (3 * (w * h))) left ∙ take-at new (drop (length new) colours) (3 * (w * h)) long
       ∙ ap (λ (s : Settings). recolour frame (chainOf w h s frame .plane)) setting-is
       ∙ ap (λ (l : List ℕ). recolour l (chainOf w h house l .plane)) frame-is
 
   -- which is what is written
   pub emitted-enhanced : {new output output' : List ℕ} {answer : Written} {size : ℕ}
-      → Wrote new w h output answer output' → answer ≡ Length size
+      → WriteOutcome new w h output (writtenReply answer) output' → answer ≡ Length size
       → new ≡ recolour raster (chainOf w h house raster .plane) → Emitted (enhancedFrame raster w h) output size output'
   unfolding enhancedFrame
   emitted-enhanced {new} {output} {output'} {size = size} wrote answer-is new-is =
-      let written = subst (λ (r : Written). Wrote new w h output r output') answer-is wrote in
+      let written = subst (λ (r : Written). WriteOutcome new w h output (writtenReply r) output') answer-is wrote in
       subst (λ (l : List ℕ). Emitted (encoding l w h) output size output') new-is (emitted-wrote written)
 
   -- and is not refused
   pub never-refused : {new output output' : List ℕ} {answer : Written} {number : ℕ}
-      → Wrote new w h output answer output' → answer ≡ Refused number → length new ≡ 3 * (w * h)
+      → WriteOutcome new w h output (writtenReply answer) output' → answer ≡ Refused number → length new ≡ 3 * (w * h)
       → 65536 ≤ length output → ⊥
-  never-refused {new} {output} {number = number} wrote answer-is counted room =
+  never-refused {new} {output} wrote answer-is counted room =
       let few = f .sized .few in
       let fits : 3 * (w * h) + 21 ≤ length output = omega arith in
       let accepted = write-accepts (f .sized) counted fits in
-      not-length _ (length (encoding new w h)) number accepted (sym answer-is ∙ wrote .answers)
+      let gives-length = replied-none _ (length (encoding new w h) ∷ []) accepted in
+      refuses-not-gives (sym (ap writtenReply answer-is) ∙ wrote .answer ∙ gives-length)

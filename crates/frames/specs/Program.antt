@@ -1,6 +1,5 @@
 -- The program as a function from the bytes of standard input to the bytes of standard output. Definitions only.
 --
---   house           the house setting
 --   refusalLine N   `refused N` and LF
 --   enhancedFrame   a frame enhanced with the house setting, as the writer emits it
 --   programOutput   what the program writes for an input
@@ -13,10 +12,8 @@ use mathlib.Core.Bool.{cond}
 use mathlib.Core.List.{List, [], _∷_, _++_}
 use lib.Dec.{ltb}
 use lib.ListN.{length, take, drop}
-use Rattle.tones.specs.declared.Rule.the-variants.{Plain}
 use Rattle.colours.specs.Frames.{recolour}
-use Rattle.enhance.specs.declared.Settings.{Settings}
-use Rattle.enhance.specs.Calls.{chainOf}
+use Rattle.enhance.specs.Calls.{house, chainOf}
 use Rattle.netpbm.specs.Reading.{readAnswer}
 use Rattle.netpbm.specs.Writing.{decimal, encoding}
 use Rattle.netpbm.specs.declared.Header.{Header}
@@ -28,10 +25,6 @@ greatestInput = 65536
 
 abbrev pub greatestPixels : ℕ
 greatestPixels = 16384
-
--- L 7, area 20, plain, low 80, high 300
-abbrev pub house : Settings
-house = record { last = 7; area = 20; rule = Plain 80 300 }
 
 -- the bytes of a text
 abbrev pub ascii : String → List ℕ

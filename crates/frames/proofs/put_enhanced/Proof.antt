@@ -5,7 +5,7 @@ use native.Mathlib.Omega.{arith}
 use borrow.Author.Needs.{needs}
 use denote.Ref.{now}
 use lib.Seq.{length-take-le}
-use Rattle.frames.proofs.Enhancing.{house-is, raster-lent, recoloured, emitted-enhanced, never-refused}
+use Rattle.frames.proofs.Enhancing.{raster-lent, recoloured, emitted-enhanced, never-refused}
 use Rattle.frames.proofs.put_enhanced.Statement.{statement}
 use Rattle.frames.proofs.put_enhanced.Tie as tie
 
@@ -75,10 +75,9 @@ returns c =
     let writing = c .before .before .before in
     let s = start writing in
     let few = s .pre .sized .few in
-    let house = house-is _ (settings writing .house .ensures) in
     let raster = raster-lent (now (s .args .input)) (s .args .offset) in
     let enhanced =
-    recoloured (s .pre) (enhancing writing .enhance .ensures) house raster
+    recoloured (s .pre) (enhancing writing .enhance .ensures) (settings writing .house .ensures) raster
     (record {
       pixels = length-take-le _ _ (omega arith);
       marked = omega arith;
