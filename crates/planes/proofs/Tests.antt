@@ -1,6 +1,6 @@
 -- Laws of tests: Bool by `&&`, `||` and `not`, and equality and order of numbers as tests. Assumes nothing.
 use Prim.Native.Nat.{ℕ, _≤_, _<_}
-use mathlib.Core.Path.{_≡_, refl, sym}
+use mathlib.Core.Path.{_≡_, refl, sym, _∙_}
 use mathlib.Core.Logic.{_⊎_, inl, inr}
 use mathlib.Core.Bool.{Bool, true, false, _&&_, _||_, false≢true, true≢false}
 use lib.Dec.{ltb, eqb}
@@ -70,6 +70,14 @@ less-or-not i j = go (ltb i j) refl
 pub decide : (t : Bool) → (t ≡ true) ⊎ (t ≡ false)
 decide true = inl refl
 decide false = inr refl
+
+-- a test that cannot pass fails; so does one that passes only where another does, which fails
+pub never : {t : Bool} → (t ≡ true → ⊥) → t ≡ false
+never {t = true} h = absurd (h refl)
+never {t = false} h = refl
+
+pub contra : {s t : Bool} → (s ≡ true → t ≡ true) → t ≡ false → s ≡ false
+contra h e = never (λ d. true≢false (sym (h d) ∙ e))
 
 pub or-none : (s t : Bool) → (s || t) ≡ false → (s ≡ false) × (t ≡ false)
 or-none true t e = absurd (true≢false e)
