@@ -5,3 +5,9 @@ pub mod Apart
 pub mod Local
 pub mod Recursion
 pub mod Enhancement
+pub mod Sets
+pub mod Parts
+pub mod Pieces
+pub mod Published
+pub mod Connected
+pub mod PublishedExamples

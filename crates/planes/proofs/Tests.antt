@@ -1,6 +1,6 @@
 -- Laws of tests: Bool by `&&`, `||` and `not`, and equality and order of numbers as tests. Assumes nothing.
 use Prim.Native.Nat.{ℕ, _≤_, _<_}
-use mathlib.Core.Path.{_≡_, refl, sym, _∙_}
+use mathlib.Core.Path.{_≡_, refl, sym, ap, _∙_}
 use mathlib.Core.Logic.{_⊎_, inl, inr}
 use mathlib.Core.Bool.{Bool, true, false, _&&_, _||_, false≢true, true≢false}
 use lib.Dec.{ltb, eqb}
@@ -94,6 +94,13 @@ and-false false = refl
 pub and-true : (t : Bool) → (t && true) ≡ t
 and-true true = refl
 and-true false = refl
+
+-- the second, or the third, of three tests fails
+pub and-middle : (s t u : Bool) → t ≡ false → (s && t && u) ≡ false
+and-middle s t u e = ap (λ (x : Bool). s && x && u) e ∙ ap (_&& u) (and-false s)
+
+pub and-last : (s t u : Bool) → u ≡ false → (s && t && u) ≡ false
+and-last s t u e = ap (s && t &&_) e ∙ and-false (s && t)
 
 pub implies-out : (s t : Bool) → implies s t ≡ true → s ≡ true → t ≡ true
 implies-out true t e h = e
