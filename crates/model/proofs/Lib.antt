@@ -11,3 +11,4 @@ pub mod Pieces
 pub mod Published
 pub mod Connected
 pub mod PublishedExamples
+pub mod WrongTurns

@@ -4,3 +4,4 @@ pub mod Runs
 pub mod Enhancement
 pub mod Published
 pub mod PublishedExamples
+pub mod WrongTurns
