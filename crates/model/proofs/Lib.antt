@@ -8,6 +8,7 @@ pub mod Enhancement
 pub mod Sets
 pub mod Parts
 pub mod Pieces
+pub mod Several
 pub mod Published
 pub mod Connected
 pub mod PublishedExamples

@@ -1,7 +1,7 @@
 -- Work on a set of pixels that does to it what a run of passes does: nothing, work after work, and the equalising of a
 -- connected set, which is the pass on its section. For any symmetric neighbour relation. Assumes nothing.
 use Prim.Native.Nat.{ℕ, _+_, _≤_, _<_}
-use mathlib.Core.Path.{_≡_, refl, sym, ap, ap₂, _∙_}
+use mathlib.Core.Path.{_≡_, refl, sym, ap, ap₂, subst, _∙_}
 use mathlib.Core.Logic.{inl, inr}
 use mathlib.Core.Bool.{Bool, true, false, cond, not, _&&_}
 use mathlib.Core.List.{List, [], _∷_, _++_, map}
@@ -82,18 +82,32 @@ module _ (near : Near) (symm : (i j : ℕ) → near i j ≡ near j i) (n : ℕ) 
 
 -- ## Equalising a piece is the pass
 
--- a connected set of pixels in [a, b] that has the least area
-pub record Piece (near : Near) (n area a b : ℕ) (A : ℕ → Bool) (p : List ℕ) : Type 0 where
+-- a connected set of pixels in [a, b], not empty
+pub record Piece (near : Near) (n a b : ℕ) (A : ℕ → Bool) (p : List ℕ) : Type 0 where
   pub among : (x : ℕ) → x < n → A x ≡ true → between a b (at p x) ≡ true
   pub joined : (x y : ℕ) → x < n → y < n → A x ≡ true → A y ≡ true → linked (amid near (pixelsOf n A)) n x y ≡ true
-  pub large : area ≤ count A (from 0 n)
   pub pixel : ℕ
   pub below : pixel < n
   pub holds : A pixel ≡ true
 
+-- the same pixels, by another test
+pub piece-same : {near : Near} {n a b : ℕ} {A B : ℕ → Bool} {p : List ℕ} → ((x : ℕ) → x < n → A x ≡ B x)
+    → Piece near n a b A p → Piece near n a b B p
+piece-same {near} {n} {A = A} {B} same P =
+    let list : pixelsOf n A ≡ pixelsOf n B = keep-same A B 0 n (λ x _ h. same x (omega arith)) in
+    record {
+      among = λ x hx e. P .among x hx (same x hx ∙ e);
+      joined = λ x y hx hy d e.
+          subst (λ (S : List ℕ). linked (amid near S) n x y ≡ true) list
+          (P .joined x y hx hy (same x hx ∙ d) (same y hy ∙ e));
+      pixel = P .pixel;
+      below = P .below;
+      holds = sym (same (P .pixel) (P .below)) ∙ P .holds;
+    }
+
 module _ (near : Near) (symm : (i j : ℕ) → near i j ≡ near j i) (n : ℕ) (A : ℕ → Bool) (s : Pass) (t : Work)
     (m : List ℕ) (S : Shows n (s .a) (s .b) A (t .plane) m)
-    (P : Piece near n (s .area) (s .a) (s .b) A (t .plane)) where
+    (P : Piece near n (s .a) (s .b) A (t .plane)) (large : s .area ≤ count A (from 0 n)) where
   abbrev vs : List ℕ
   vs = map (at (t .plane)) (pixelsOf n A)
 
@@ -135,8 +149,8 @@ module _ (near : Near) (symm : (i j : ℕ) → near i j ≡ near j i) (n : ℕ) 
   changes-are : changes s vs ≡ not back
   unfolding changes
   changes-are =
-      let large : s .area ≤ length vs = omega (arith, length-map (pixelsOf n A) (at (t .plane)), P .large) in
-      ap (_&& not back) (le-leb (s .area) (length vs) large)
+      let many : s .area ≤ length vs = omega (arith, length-map (pixelsOf n A) (at (t .plane)), large) in
+      ap (_&& not back) (le-leb (s .area) (length vs) many)
 
   tone-is : (x : ℕ) → x < n → A x ≡ true → at (passed near s m) x ≡ value x (not back)
   unfolding retone

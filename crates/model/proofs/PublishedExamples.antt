@@ -3,13 +3,13 @@ use mathlib.Core.Path.{refl}
 use Rattle.planes.specs.Neighbours.{four, linked, component, first}
 use Rattle.tones.specs.Tones.{plainTone, clipped, limitedTone, tone, kept}
 use Rattle.model.specs.Published.{member, levelSet, amid, connectedComponents, painted, histogramEqualization}
-use Rattle.model.specs.Published.{forEach, processLevelSet, recursiveHistogramEqualization, published}
+use Rattle.model.specs.Published.{forEach, processLevelSet, recursiveHistogramEqualization, publishedIn}
 use Rattle.model.specs.PublishedExamples.{PublishedExamples}
 
 pub published-examples : PublishedExamples
 unfolding four linked component first plainTone clipped limitedTone tone kept
     member levelSet amid connectedComponents painted histogramEqualization
-    forEach processLevelSet recursiveHistogramEqualization published
+    forEach processLevelSet recursiveHistogramEqualization publishedIn
 published-examples = record {
   k = refl;
   l = refl;

@@ -1,20 +1,20 @@
--- Sets of pixels as lists in reading order: members, links that stay in a set, components one after the other by their
--- first pixels. Assumes nothing.
+-- Sets of pixels as lists in reading order: members, links that stay in a set, components by their first pixels, several
+-- sets together. Assumes nothing.
 use Prim.Native.Nat.{ℕ, zero, suc, _+_, _≤_, _<_, zero-le}
 use mathlib.Core.Path.{_≡_, refl, sym, ap, ap₂, _∙_}
 use mathlib.Core.Logic.{_⊎_, inl, inr}
-use mathlib.Core.Bool.{Bool, true, false, cond, not, _&&_, _||_, true≢false}
-use mathlib.Core.List.{List, [], _∷_}
-use native.Mathlib.Nat.{eq-or-lt-of-le, le-of-suc-le-suc}
+use mathlib.Core.Bool.{Bool, true, false, cond, _&&_, _||_, true≢false, false≢true}
+use mathlib.Core.List.{List, [], _∷_, map}
+use native.Mathlib.Nat.{le-refl, eq-or-lt-of-le}
 use native.Mathlib.Omega.{arith}
-use borrow.Author.Tests.{eq-eqb, ne-eqb, not-true}
-use Rattle.planes.specs.Lists.{from, keep, every}
+use borrow.Author.Tests.{eq-eqb, ne-eqb}
+use Rattle.planes.specs.Lists.{from, keep}
 use Rattle.planes.specs.Neighbours.{Near, Chain, here, step, linked, first}
-use Rattle.planes.proofs.Tests.{and-left, and-right, and-both, and-comm, and-true, same-test, never, contra}
-use Rattle.planes.proofs.Lists.{every-in, every-out}
+use Rattle.planes.proofs.Tests.{or-cases, or-left, or-right, and-left, and-right, and-both, and-comm, same-test}
+use Rattle.planes.proofs.Tests.{never, contra}
 use Rattle.planes.proofs.Links.{linked-iff, link-near, link-refl, link-trans, link-sym}
-use Rattle.planes.proofs.Fewer.{first-out}
-use Rattle.model.specs.Published.{member, amid}
+use Rattle.planes.proofs.Fewer.{first-out, first-of}
+use Rattle.model.specs.Published.{member, amid, Reordered, empty, behind, swap, twice}
 
 -- ## Members
 
@@ -109,7 +109,7 @@ module _ (near : Near) (n : ℕ) (A : ℕ → Bool) where
   unfolding amid
   amid-sym symm u v = ap₂ _&&_ (and-comm (member (pixelsOf n A) u) (member (pixelsOf n A) v)) (symm u v)
 
--- ## Components, one after the other
+-- ## Components
 
 -- no pixel of one set is in the other, or a neighbour of one of the other
 pub record Separate (near : Near) (n : ℕ) (A B : ℕ → Bool) : Type 0 where
@@ -132,10 +132,6 @@ module _ (near : Near) (symm : (i j : ℕ) → near i j ≡ near j i) (n : ℕ) 
   abbrev pub heads : ℕ → Bool
   heads k = A k && first n (R near n A) k
 
-  -- the pixels of the components whose first pixel is not before k
-  pub remaining : ℕ → ℕ → Bool
-  remaining k x = A x && every (λ j. not (part j x)) (from 0 k)
-
   part-turn : (k x : ℕ) → part k x ≡ true → part x k ≡ true
   unfolding part
   part-turn k x c = link-sym (R near n A) (amid-sym near n A symm) n x k ∙ c
@@ -156,68 +152,16 @@ module _ (near : Near) (symm : (i j : ℕ) → near i j ≡ near j i) (n : ℕ) 
   unfolding part
   part-self k = link-refl (R near n A) n k
 
-  remaining-of : (k x : ℕ) → A x ≡ true → ((j : ℕ) → j < k → part j x ≡ false) → remaining k x ≡ true
-  unfolding remaining
-  remaining-of k x a h = and-both a (every-in _ k (λ j l. ap not (h j l)))
-
-  pub remaining-in : (k x : ℕ) → remaining k x ≡ true → A x ≡ true
-  unfolding remaining
-  remaining-in k x e = and-left (A x) _ e
-
-  pub remaining-out : (k x : ℕ) → remaining k x ≡ true → (j : ℕ) → j < k → part j x ≡ false
-  unfolding remaining
-  remaining-out k x e j l = not-true (part j x) (every-out _ k (and-right (A x) _ e) j l)
-
-  -- at first all pixels are left, and at last none
-  pub remaining-all : (x : ℕ) → remaining 0 x ≡ A x
-  unfolding remaining
-  remaining-all x = and-true (A x)
-
-  pub remaining-none : (x : ℕ) → x < n → remaining n x ≡ false
-  remaining-none x hx = never (λ e. true≢false (sym (part-self x) ∙ remaining-out n x e x hx))
-
-  -- with k its part goes, if it is the first pixel of a component
-  pub remaining-less : (k x : ℕ) → remaining (suc k) x ≡ true → remaining k x ≡ true
-  remaining-less k x e = remaining-of k x (remaining-in (suc k) x e) (λ j l. remaining-out (suc k) x e j (omega arith))
-
-  pub remaining-more : (k x : ℕ) → remaining k x ≡ true → part k x ≡ false → remaining (suc k) x ≡ true
-  remaining-more k x e d = remaining-of (suc k) x (remaining-in k x e) (λ j l. elim (eq-or-lt-of-le (le-of-suc-le-suc l)) [
-    | inl q ↦ ap (λ (i : ℕ). part i x) q ∙ d
-    | inr h ↦ remaining-out k x e j h
-  ])
-
-  remaining-head : (k x : ℕ) → k < n → x < n → remaining k x ≡ true → part k x ≡ true → heads k ≡ true
-  unfolding first part
-  remaining-head k x hk hx e d =
-      and-both (part-in x k hx hk (remaining-in k x e) (part-turn k x d)) (every-in _ k (λ j l. ap not (none-before j l)))
-    where
-      none-before : (j : ℕ) → j < k → part j k ≡ false
-      none-before j l = never (λ c. true≢false (sym (part-trans j k x hk c d) ∙ remaining-out k x e j l))
-
-  -- else nothing goes
-  pub remaining-same : (k x : ℕ) → k < n → x < n → heads k ≡ false → remaining k x ≡ remaining (suc k) x
-  remaining-same k x hk hx h = same-test (remaining k x) (remaining (suc k) x)
-      (λ e. remaining-more k x e (contra (remaining-head k x hk hx e) h))
-      (remaining-less k x)
+  -- every pixel of A is in the part of a first pixel
+  pub part-of : (x : ℕ) → x < n → A x ≡ true → (k : ℕ) × (k < n) × (heads k ≡ true) × (part k x ≡ true)
+  unfolding part
+  part-of x hx a =
+      let y = first-of (R near n A) (amid-sym near n A symm) n x hx in
+      (y .0, y .1, and-both (part-in x (y .0) hx (y .1) a (part-turn (y .0) x (y .2))) (y .3), y .2)
 
   module _ (k : ℕ) (hk : k < n) (head : heads k ≡ true) where
-    part-set : (x : ℕ) → x < n → part k x ≡ true → A x ≡ true
+    pub part-set : (x : ℕ) → x < n → part k x ≡ true → A x ≡ true
     part-set x hx c = part-in k x hk hx (and-left (A k) (first n (R near n A) k) head) c
-
-    pub part-remaining : (x : ℕ) → x < n → part k x ≡ true → remaining k x ≡ true
-    unfolding part
-    part-remaining x hx c =
-        let before = first-out n (R near n A) k (and-right (A k) (first n (R near n A) k) head) in
-        remaining-of k x (part-set x hx c) (λ j l. contra (λ d. part-trans j x k hx d (part-turn k x c)) (before j l))
-
-    pub part-separate : Separate near n (part k) (remaining (suc k))
-    part-separate = record {
-      disjoint = λ x hx c. never (λ e. true≢false (sym c ∙ remaining-out (suc k) x e k (omega arith)));
-      far = λ x y hx hy c e.
-          let joined : near x y ≡ true → part k y ≡ true = λ d.
-          part-near k x y hx c (amid-of near n A x y hx hy (part-set x hx c) (remaining-in (suc k) y e) d) in
-          contra joined (remaining-out (suc k) y e k (omega arith));
-    }
 
     -- it is connected in itself
     pub part-joined : (x y : ℕ) → x < n → y < n → part k x ≡ true → part k y ≡ true
@@ -235,3 +179,79 @@ module _ (near : Near) (symm : (i j : ℕ) → near i j ≡ near j i) (n : ℕ) 
             (λ e. amid-of near n (part k) u v hu hv c (part-near k u v hu c e) (amid-near near n A u v hu hv e))
             (λ e. amid-of near n A u v hu hv (part-set u hu c) (part-set v hv (closed u v hu hv c e))
             (amid-near near n (part k) u v hu hv e))
+
+  -- the parts of two first pixels are separate
+  pub parts-separate : (k l : ℕ) → k < l → l < n → heads k ≡ true → heads l ≡ true → Separate near n (part k) (part l)
+  unfolding part
+  parts-separate k l kl hl d e = record {
+    disjoint = λ x hx c. contra (λ f. part-trans k x l hx c (part-turn l x f)) before;
+    far = λ x y hx hy c f. contra (λ g. part-trans k y l hy (onward x y hx hy c f g) (part-turn l y f)) before;
+  }
+    where
+      before : part k l ≡ false
+      before = first-out n (R near n A) l (and-right (A l) (first n (R near n A) l) e) k kl
+
+      onward : (x y : ℕ) → x < n → y < n → part k x ≡ true → part l y ≡ true → near x y ≡ true → part k y ≡ true
+      onward x y hx hy c f g =
+          part-near k x y hx c
+          (amid-of near n A x y hx hy (part-set k (omega arith) d x hx c) (part-set l hl e y hy f) g)
+
+-- ## Several sets
+
+-- i is in one of the sets
+unfoldable pub anyOf : List (List ℕ) → ℕ → Bool
+anyOf [] i = false
+anyOf (S ∷ Ss) i = member S i || anyOf Ss i
+
+or-swap : (s t u : Bool) → (s || (t || u)) ≡ (t || (s || u))
+or-swap true true u = refl
+or-swap true false u = refl
+or-swap false t u = refl
+
+pub any-reordered : {Ss Ts : List (List ℕ)} → Reordered Ss Ts → (x : ℕ) → anyOf Ss x ≡ anyOf Ts x
+unfolding anyOf
+any-reordered empty x = refl
+any-reordered (behind {S = S} r) x = ap (member S x ||_) (any-reordered r x)
+any-reordered (swap {S = S} {T = T} {Ss = Ss}) x = or-swap (member S x) (member T x) (anyOf Ss x)
+any-reordered (twice r q) x = any-reordered r x ∙ any-reordered q x
+
+-- sets by their numbers, of which those that pass a test are taken
+module _ (g : ℕ → List ℕ) (f : ℕ → Bool) (x : ℕ) where
+  -- the number of a set that is taken, from i on, and has x
+  abbrev Taken : ℕ → ℕ → Type 0
+  Taken i m = (l : ℕ) × (i ≤ l) × (l < i + m) × (f l ≡ true) × (member (g l) x ≡ true)
+
+  pub any-out : (i m : ℕ) → anyOf (map g (keep f (from i m))) x ≡ true → Taken i m
+  unfolding anyOf
+  any-out i zero e = absurd (false≢true e)
+  any-out i (suc m) e = go (f i) refl (any-out (suc i) m) e
+    where
+      rest : List ℕ
+      rest = keep f (from (suc i) m)
+
+      later : Taken (suc i) m → Taken i (suc m)
+      later (l, h, k, d, c) = (l, omega arith, omega arith, d, c)
+
+      go : (t : Bool) → f i ≡ t → (anyOf (map g rest) x ≡ true → Taken (suc i) m)
+          → anyOf (map g (cond t (i ∷ rest) rest)) x ≡ true → Taken i (suc m)
+      go true d out e = elim (or-cases (member (g i) x) (anyOf (map g rest) x) e) [
+        | inl c ↦ (i, le-refl i, omega arith, d, c)
+        | inr c ↦ later (out c)
+      ]
+      go false d out e = later (out e)
+
+  pub any-in : (i m l : ℕ) → i ≤ l → l < i + m → f l ≡ true → member (g l) x ≡ true
+      → anyOf (map g (keep f (from i m))) x ≡ true
+  unfolding anyOf
+  any-in i zero l h k d c = absurd (omega arith)
+  any-in i (suc m) l h k d c = go (f i) refl (eq-or-lt-of-le h) (λ q. any-in (suc i) m l q (omega arith) d c)
+    where
+      rest : List ℕ
+      rest = keep f (from (suc i) m)
+
+      go : (t : Bool) → f i ≡ t → (i ≡ l) ⊎ (i < l) → (i < l → anyOf (map g rest) x ≡ true)
+          → anyOf (map g (cond t (i ∷ rest) rest)) x ≡ true
+      go true e (inl q) ih = or-left (member (g i) x) _ (ap (λ (j : ℕ). member (g j) x) q ∙ c)
+      go true e (inr q) ih = or-right (member (g i) x) _ (ih q)
+      go false e (inl q) ih = absurd (true≢false (sym d ∙ sym (ap f q) ∙ e))
+      go false e (inr q) ih = ih q

@@ -2,16 +2,23 @@
 -- to 5 of the published account, under the names that they have there. A set of pixels is the list of them in reading
 -- order. Definitions only.
 --
---   Work                            the plane as it stands, and the number of components retoned so far
---   Treatment                       of a set of pixels in a section [a, b]
---   histogramEqualization           Algorithm 5 (or 7), and line 3 of Algorithm 2: the set's pixels get the rule's tones,
---                                   unless it is kept back
---   connectedComponents             Algorithm 4: a set's largest connected subsets, in reading order of their first pixels
---   processLevelSet                 Algorithm 3: each component of a level set that has the least area is treated
---   recursiveHistogramEqualization  Algorithm 2: a set is equalised; then its lower and its upper half are processed,
---                                   unless this is the last level
---   published                       all pixels, treated so in [0, 255], with the levels 0 to `last`
---   Connected                       a plane of bytes that is one component
+--   Work           the plane as it stands, and the number of components retoned so far
+--   Treatment      of a set of pixels in a section [a, b]
+--   histogramEqualization
+--                  Algorithm 5 (or 7), and line 3 of Algorithm 2: the pixels of a set get the rule's tones, unless it is
+--                  kept back
+--   connectedComponents
+--                  Algorithm 4: the largest connected subsets of a set, in reading order of their first pixels
+--   Arrangement    the order in which the components of a level set are treated, which Algorithm 4 leaves open
+--   Reordered      the same sets in another order
+--   processLevelSet
+--                  Algorithm 3: each component of a level set that has the least area is treated
+--   recursiveHistogramEqualization
+--                  Algorithm 2: a set is equalised; then its lower and its upper half are processed, unless this is the
+--                  last level
+--   publishedIn    all pixels, treated so in [0, 255], with the levels 0 to `last`
+--   published      the same, with components in reading order; any other order ends alike (`published-any-order`)
+--   Connected      a plane of bytes that is one component
 use Prim.Native.Nat.{ℕ, zero, suc, _+_, _/_, _≤_, _<_}
 use mathlib.Core.Path.{_≡_}
 use mathlib.Core.Bool.{Bool, true, false, _&&_, _||_, cond}
@@ -66,6 +73,24 @@ histogramEqualization rule a b S t =
     let new : Work = record { plane = painted (tone rule a b vs) S (t .plane); retoned = t .retoned + 1 } in
     cond (kept rule a b vs) t new
 
+-- ## Orders of components
+
+-- of the ends a and b, and the components of a level set [a, b]
+abbrev pub Arrangement : Type 0
+Arrangement = ℕ → ℕ → List (List ℕ) → List (List ℕ)
+
+abbrev pub readingOrder : Arrangement
+readingOrder a b Ss = Ss
+
+pub data Reordered : List (List ℕ) → List (List ℕ) → Type 0 where
+  empty : Reordered [] []
+  behind : {S : List ℕ} {Ss Ts : List (List ℕ)} → Reordered Ss Ts → Reordered (S ∷ Ss) (S ∷ Ts)
+  swap : {S T : List ℕ} {Ss : List (List ℕ)} → Reordered (S ∷ T ∷ Ss) (T ∷ S ∷ Ss)
+  twice : {Ss Ts Us : List (List ℕ)} → Reordered Ss Ts → Reordered Ts Us → Reordered Ss Us
+
+abbrev pub Reorders : Arrangement → Type 0
+Reorders arrange = (a b : ℕ) (Ss : List (List ℕ)) → Reordered Ss (arrange a b Ss)
+
 -- ## Recursion
 
 -- f on each set that has the least area, one after the other, on the plane as it then stands
@@ -75,25 +100,31 @@ forEach area f (S ∷ Ss) t =
     let treated = f S t in
     forEach area f Ss (cond (leb area (length S)) treated t)
 
--- `next` is the treatment of the components: `recurse`, with one level less
-unfoldable pub processLevelSet : Near → ℕ → Treatment → Treatment
-processLevelSet near area next a b S t =
-    forEach area (next a b) (connectedComponents near (length (t .plane)) (levelSet a b (t .plane) S)) t
+module _ (arrange : Arrangement) (near : Near) (area : ℕ) where
+  -- `next` is the treatment of the components: `recursiveHistogramEqualization`, with one level less
+  unfoldable pub processLevelSet : Treatment → Treatment
+  processLevelSet next a b S t =
+      let parts = connectedComponents near (length (t .plane)) (levelSet a b (t .plane) S) in
+      forEach area (next a b) (arrange a b parts) t
 
--- `levels` is the last level less the one of line 5, so that Algorithms 2 and 3 call each other by a number that falls.
--- With at most 7 levels below [0, 255] a section that is split has 4 values or more, and line 9 has no case.
-unfoldable pub recursiveHistogramEqualization : Near → ℕ → Rule → ℕ → Treatment
-recursiveHistogramEqualization near area rule zero a b S t = histogramEqualization rule a b S t
-recursiveHistogramEqualization near area rule (suc levels) a b S t =
-    let mid = (a + b) / 2 in
-    let equalised = histogramEqualization rule a b S t in
-    let lower = processLevelSet near area (recursiveHistogramEqualization near area rule levels) a mid S equalised in
-    processLevelSet near area (recursiveHistogramEqualization near area rule levels) (mid + 1) b S lower
+  -- `levels` is the last level less the one of line 5, so that Algorithms 2 and 3 call each other by a number that falls.
+  -- With at most 7 levels below [0, 255] a section that is split has 4 values or more, and line 9 has no case.
+  unfoldable pub recursiveHistogramEqualization : Rule → ℕ → Treatment
+  recursiveHistogramEqualization rule zero a b S t = histogramEqualization rule a b S t
+  recursiveHistogramEqualization rule (suc levels) a b S t =
+      let mid = (a + b) / 2 in
+      let equalised = histogramEqualization rule a b S t in
+      let lower = processLevelSet (recursiveHistogramEqualization rule levels) a mid S equalised in
+      processLevelSet (recursiveHistogramEqualization rule levels) (mid + 1) b S lower
 
 -- level 0 has no area test
-unfoldable pub published : Near → ℕ → ℕ → Rule → List ℕ → Work
-published near last area rule p =
-    recursiveHistogramEqualization near area rule last 0 255 (from 0 (length p)) (record { plane = p; retoned = 0 })
+unfoldable pub publishedIn : Arrangement → Near → ℕ → ℕ → Rule → List ℕ → Work
+publishedIn arrange near last area rule p =
+    recursiveHistogramEqualization arrange near area rule last 0 255 (from 0 (length p))
+    (record { plane = p; retoned = 0 })
+
+abbrev pub published : Near → ℕ → ℕ → Rule → List ℕ → Work
+published = publishedIn readingOrder
 
 -- ## Planes
 

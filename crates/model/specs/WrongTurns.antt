@@ -20,7 +20,7 @@ use Rattle.tones.specs.declared.Rule.{Rule}
 use Rattle.tones.specs.declared.Rule.the-variants.{Plain}
 use Rattle.tones.specs.Tones.{kept}
 use Rattle.model.specs.Published.{Work, Treatment, levelSet, connectedComponents, painted}
-use Rattle.model.specs.Published.{histogramEqualization, forEach, processLevelSet, published}
+use Rattle.model.specs.Published.{histogramEqualization, readingOrder, forEach, processLevelSet, published}
 use Rattle.model.specs.PublishedExamples.{anyRatio, grey}
 
 -- ## The wrong turns
@@ -61,8 +61,8 @@ stopRecursion near area rule zero a b S t = histogramEqualization rule a b S t
 stopRecursion near area rule (suc levels) a b S t =
     let mid = (a + b) / 2 in
     let equalised = histogramEqualization rule a b S t in
-    let lower = processLevelSet near area (stopRecursion near area rule levels) a mid S equalised in
-    let split = processLevelSet near area (stopRecursion near area rule levels) (mid + 1) b S lower in
+    let lower = processLevelSet readingOrder near area (stopRecursion near area rule levels) a mid S equalised in
+    let split = processLevelSet readingOrder near area (stopRecursion near area rule levels) (mid + 1) b S lower in
     cond (kept rule a b (map (at (t .plane)) S)) t split
 
 unfoldable pub stopAtKept : Near → ℕ → ℕ → Rule → List ℕ → Work
