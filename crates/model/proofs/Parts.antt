@@ -123,8 +123,8 @@ pub record TwoParts (n lo hi : ℕ) (A B : ℕ → Bool) (p q r : List ℕ) : Ty
 parts-turn : {n lo hi : ℕ} {A B : ℕ → Bool} {p q r : List ℕ} → TwoParts n lo hi A B p q r → TwoParts n lo hi B A p r q
 parts-turn T = record { one = T .other; other = T .one; rest = λ x hx b a. T .rest x hx a b }
 
-isolated-one : {near : Near} {n lo hi : ℕ} {A B : ℕ → Bool} {p q r : List ℕ} → Separate near n A B → TwoParts n lo hi A B p q r
-    → Isolated near n lo hi A p
+isolated-one : {near : Near} {n lo hi : ℕ} {A B : ℕ → Bool} {p q r : List ℕ} → Separate near n A B
+    → TwoParts n lo hi A B p q r → Isolated near n lo hi A p
 isolated-one w T x y hx hy a b e = T .rest y hy b (never (λ d. true≢false (sym e ∙ w .far x y hx hy a d)))
 
 abbrev unit : Bool → ℕ
@@ -239,8 +239,8 @@ module _ (near : Near) (symm : (i j : ℕ) → near i j ≡ near j i) (n lo hi a
             omega arith
 
   -- what a run makes of two parts, it makes of each alone, and the counts add up
-  pub parts-run : (A B : ℕ → Bool) → Separate near n A B → (ss : List Pass) → All (InRange lo hi area) ss → (p q r : List ℕ)
-      → TwoParts n lo hi A B p q r
+  pub parts-run : (A B : ℕ → Bool) → Separate near n A B → (ss : List Pass) → All (InRange lo hi area) ss
+      → (p q r : List ℕ) → TwoParts n lo hi A B p q r
       → TwoParts n lo hi A B (run near ss p) (run near ss q) (run near ss r)
       × (runCount near ss p ≡ runCount near ss q + runCount near ss r)
   unfolding run runCount

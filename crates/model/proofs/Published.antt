@@ -6,7 +6,7 @@ use mathlib.Core.Path.{_≡_, refl, sym, ap, ap₂, subst, subst₂, _∙_}
 use mathlib.Core.Logic.{_⊎_, inl, inr}
 use mathlib.Core.Bool.{Bool, true, false, _&&_, true≢false}
 use mathlib.Core.List.{List, [], _∷_, _++_, map}
-use native.Mathlib.Nat.{zero-add, suc-add}
+use native.Mathlib.Nat.{zero-add}
 use native.Mathlib.Omega.{arith}
 use lib.ListN.{length}
 use lib.Seq.{ext-getD}
@@ -22,12 +22,12 @@ use Rattle.tones.specs.declared.Rule.{Rule}
 use Rattle.model.specs.declared.Pass.{Pass}
 use Rattle.model.specs.Runs.{run, runCount, All, none, more}
 use Rattle.model.specs.Enhancement.{section, passes, deep, recursive}
-use Rattle.model.specs.Published.{Work, Treatment, between, levelSet, amid, connectedComponents}
+use Rattle.model.specs.Published.{Work, Procedure, between, levelSet, amid, connectedComponents}
 use Rattle.model.specs.Published.{histogramEqualization, forEach, processLevelSet, recursiveHistogramEqualization}
 use Rattle.model.specs.Published.{Arrangement, readingOrder, Reordered, empty, behind, Reorders}
 use Rattle.model.specs.Published.{publishedIn, published, Connected}
 use Rattle.model.proofs.Apart.{linked-same}
-use Rattle.model.proofs.Recursion.{all-append, recursion-listed}
+use Rattle.model.proofs.Recursion.{all-append, double, recursion-listed}
 use Rattle.model.proofs.Sets.{pixelsOf, amid-is, heads, anyOf, any-reordered}
 use Rattle.model.proofs.Parts.{InRange, range-wider, between-wider, Shows, shows-same, run-outside, length-run}
 use Rattle.model.proofs.Pieces.{Does, does-same, does-append, does-shows, Piece, equalization-does}
@@ -48,9 +48,6 @@ reading-reorders a b Ss = reordered-same Ss
 abbrev top : ℕ → ℕ → ℕ → ℕ
 top k d a = a + 2 ^ (d + k) - 1
 
-double : (k d : ℕ) → 2 ^ (suc d + k) ≡ 2 ^ (d + k) + 2 ^ (d + k)
-double k d = ap (2 ^_) (suc-add d k) ∙ omega arith
-
 deep-fits : (area : ℕ) (rule : Rule) (k d a : ℕ) → All (InRange a (top k d a) area) (deep k area rule d a)
 unfolding deep section
 deep-fits area rule k zero a =
@@ -59,7 +56,7 @@ deep-fits area rule k zero a =
     (record { low = omega arith; high = omega arith; least = refl }) none
 deep-fits area rule k (suc d) a =
     let h = pow-pos (d + k) in
-    let e = double k d in
+    let e = double d k in
     more {s = section area rule a (2 ^ (suc d + k))}
     (record { low = omega arith; high = omega arith; least = refl })
     (all-append (range-wider (omega arith) (omega arith) (deep-fits area rule k d a))
@@ -69,7 +66,7 @@ module _ (arrange : Arrangement) (reorders : Reorders arrange) (near : Near) (sy
     (area : ℕ) where
   -- ## The components of a set, one after the other
 
-  components-do : (f : Treatment) (ss : List Pass) (a b : ℕ) → Performs near area f ss a b
+  components-do : (f : Procedure) (ss : List Pass) (a b : ℕ) → Performs near area f ss a b
       → (n : ℕ) (G : ℕ → Bool) (t : Work) (q : List ℕ) → Shows n a b G (t .plane) q
       → ((x : ℕ) → x < n → G x ≡ true → between a b (at (t .plane) x) ≡ true)
       → Does near n G ss q t (forEach area (f a b) (arrange a b (connectedComponents near n (pixelsOf n G))) t)
@@ -86,7 +83,8 @@ module _ (arrange : Arrangement) (reorders : Reorders arrange) (near : Near) (sy
           (sym (keep-keep (first n (amid near (pixelsOf n G))) G (from 0 n)))
 
       patches : Patches near n a b (t .plane) parts
-      patches = subst (Patches near n a b (t .plane)) list (first-patches near symm n G a b (t .plane) vals n 0 (omega arith))
+      patches = subst (Patches near n a b (t .plane)) list
+          (first-patches near symm n G a b (t .plane) vals n 0 (omega arith))
 
       same : (x : ℕ) → x < n → anyOf (arrange a b parts) x ≡ G x
       same x hx =
@@ -97,7 +95,7 @@ module _ (arrange : Arrangement) (reorders : Reorders arrange) (near : Near) (sy
   -- ## The halves of a set
 
   -- to process the level set [lo, hi] of a set in [a, b] is to run the passes in [lo, hi]
-  level-set-does : (f : Treatment) (ss : List Pass) (lo hi : ℕ) → Performs near area f ss lo hi
+  level-set-does : (f : Procedure) (ss : List Pass) (lo hi : ℕ) → Performs near area f ss lo hi
       → (a b : ℕ) → a ≤ lo → hi ≤ b → (n : ℕ) (A : ℕ → Bool) (t : Work) (m : List ℕ) → Shows n a b A (t .plane) m
       → Does near n A ss m t (processLevelSet arrange near area f lo hi (pixelsOf n A) t)
   unfolding processLevelSet levelSet
@@ -141,13 +139,14 @@ module _ (arrange : Arrangement) (reorders : Reorders arrange) (near : Near) (sy
               ∙ sym (run-outside near symm n lo hi area ss (T .fits) m x (omega (arith, S .size)) (outside x hx g))
 
   -- a set, then its lower and its upper half
-  level-does : (s : Pass) (mid : ℕ) → s .a ≤ mid → mid < s .b → (f : Treatment) (xs ys : List Pass)
+  level-does : (s : Pass) (mid : ℕ) → s .a ≤ mid → mid < s .b → (f : Procedure) (xs ys : List Pass)
       → Performs near area f xs (s .a) mid → Performs near area f ys (mid + 1) (s .b)
       → (n : ℕ) (A : ℕ → Bool) (t : Work) (m : List ℕ) → Shows n (s .a) (s .b) A (t .plane) m
       → Piece near n (s .a) (s .b) A (t .plane) → s .area ≤ count A (from 0 n)
       → Does near n A (s ∷ (xs ++ ys)) m t
       (processLevelSet arrange near area f (mid + 1) (s .b) (pixelsOf n A)
-      (processLevelSet arrange near area f (s .a) mid (pixelsOf n A) (histogramEqualization (s .rule) (s .a) (s .b) (pixelsOf n A) t)))
+      (processLevelSet arrange near area f (s .a) mid (pixelsOf n A)
+      (histogramEqualization (s .rule) (s .a) (s .b) (pixelsOf n A) t)))
   level-does s mid am mb f xs ys X Y n A t m S P large =
       let t₁ = histogramEqualization (s .rule) (s .a) (s .b) (pixelsOf n A) t in
       let t₂ = processLevelSet arrange near area f (s .a) mid (pixelsOf n A) t₁ in
@@ -165,18 +164,20 @@ module _ (arrange : Arrangement) (reorders : Reorders arrange) (near : Near) (sy
 
   module _ (rule : Rule) (k : ℕ) where
     -- the recursion with d levels below a section is the run of the section and the sections below
-    recursive-does : (d a : ℕ) → Performs near area (recursiveHistogramEqualization arrange near area rule d) (deep k area rule d a) a (top k d a)
+    recursive-does : (d a : ℕ)
+        → Performs near area (recursiveHistogramEqualization arrange near area rule d) (deep k area rule d a) a
+        (top k d a)
     unfolding recursiveHistogramEqualization deep section
     recursive-does zero a = record {
       fits = deep-fits area rule k zero a;
       does = λ n A t m S P large. equalization-does near symm n A (section area rule a (2 ^ (0 + k))) t m S P large;
     }
     recursive-does (suc d) a =
-        let f : Treatment = recursiveHistogramEqualization arrange near area rule d in
+        let f : Procedure = recursiveHistogramEqualization arrange near area rule d in
         let mid = (a + top k (suc d) a) / 2 in
         let a′ = a + 2 ^ (d + k) in
         let h = pow-pos (d + k) in
-        let e = double k d in
+        let e = double d k in
         let low : top k d a ≡ mid = omega arith in
         let next : a′ ≡ mid + 1 = omega arith in
         let high : top k d a′ ≡ top k (suc d) a = omega arith in
@@ -229,7 +230,7 @@ module _ (near : Near) (symm : (i j : ℕ) → near i j ≡ near j i) (area : �
     published-does (suc m) h =
         let k = 7 - m in
         let a′ = 0 + 2 ^ (m + k) in
-        let f : Treatment = recursiveHistogramEqualization arrange near area rule m in
+        let f : Procedure = recursiveHistogramEqualization arrange near area rule m in
         let seven : m + k ≡ 7 = omega arith in
         let half : 2 ^ (m + k) ≡ 128 = ap (2 ^_) seven in
         let low : top k m 0 ≡ 127 = omega arith in

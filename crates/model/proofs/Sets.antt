@@ -1,5 +1,5 @@
--- Sets of pixels as lists in reading order: members, links that stay in a set, components by their first pixels, several
--- sets together. Assumes nothing.
+-- Sets of pixels as lists in reading order: members, links that stay in a set, components by their first pixels, and
+-- several sets together. Assumes nothing.
 use Prim.Native.Nat.{ℕ, zero, suc, _+_, _≤_, _<_, zero-le}
 use mathlib.Core.Path.{_≡_, refl, sym, ap, ap₂, _∙_}
 use mathlib.Core.Logic.{_⊎_, inl, inr}

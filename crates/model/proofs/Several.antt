@@ -1,5 +1,6 @@
--- Pieces that are separate from each other, treated one after the other in any order: together they fare as a run of
--- passes makes them fare. The components of a set are such pieces. For any symmetric neighbour relation. Assumes nothing.
+-- Pieces that are separate from each other, treated one after the other in any order: together they become what a run
+-- of passes makes of them. The components of a set are such pieces. For any symmetric neighbour relation. Assumes
+-- nothing.
 use Prim.Native.Nat.{ℕ, zero, suc, _+_, _≤_, _<_, zero-le}
 use mathlib.Core.Path.{_≡_, refl, sym, ap, subst, _∙_}
 use mathlib.Core.Logic.{_⊎_, inl, inr}
@@ -11,20 +12,20 @@ use lib.Dec.{leb}
 use borrow.Author.Tests.{leb-true, leb-false}
 use Rattle.planes.specs.Lists.{from, keep, count, at}
 use Rattle.planes.specs.Neighbours.{Near, component}
-use Rattle.planes.proofs.Tests.{decide, or-cases, or-left, or-right, or-none, and-left, same-test, never}
+use Rattle.planes.proofs.Tests.{decide, or-cases, or-left, or-right, or-none, same-test, never}
 use Rattle.planes.proofs.Counts.{keep-same}
 use Rattle.model.specs.declared.Pass.{Pass}
 use Rattle.model.specs.Runs.{run, runCount, All}
-use Rattle.model.specs.Published.{Work, Treatment, member, between, amid, forEach}
+use Rattle.model.specs.Published.{Work, Procedure, member, between, amid, forEach}
 use Rattle.model.specs.Published.{Reordered, empty, behind, swap, twice}
 use Rattle.model.proofs.Sets.{member-keep, pixelsOf, Separate, separate-turn, part, heads, part-self, part-of}
 use Rattle.model.proofs.Sets.{part-set, part-joined, parts-separate, anyOf, any-reordered, any-out, any-in}
 use Rattle.model.proofs.Parts.{InRange, Shows, TwoParts, shown, shown-shows, shown-part, parts-run}
 use Rattle.model.proofs.Pieces.{Does, idle-does, Piece, piece-same}
 
--- what the treatment f does to any piece in [a, b] that has the least area is what the passes do, all of them on
+-- what the procedure f does to any piece in [a, b] that has the least area is what the passes do, all of them on
 -- sections in [a, b]
-pub record Performs (near : Near) (area : ℕ) (f : Treatment) (ss : List Pass) (a b : ℕ) : Type 0 where
+pub record Performs (near : Near) (area : ℕ) (f : Procedure) (ss : List Pass) (a b : ℕ) : Type 0 where
   pub fits : All (InRange a b area) ss
   pub does : (n : ℕ) (A : ℕ → Bool) (t : Work) (m : List ℕ) → Shows n a b A (t .plane) m
       → Piece near n a b A (t .plane) → area ≤ count A (from 0 n) → Does near n A ss m t (f a b (pixelsOf n A) t)
@@ -84,7 +85,7 @@ patches-reordered symm (twice r q) P = patches-reordered symm q (patches-reorder
 
 -- ## Treated one after the other
 
-module _ (near : Near) (symm : (i j : ℕ) → near i j ≡ near j i) (area : ℕ) (f : Treatment) (ss : List Pass) (a b : ℕ)
+module _ (near : Near) (symm : (i j : ℕ) → near i j ≡ near j i) (area : ℕ) (f : Procedure) (ss : List Pass) (a b : ℕ)
     (T : Performs near area f ss a b) (n : ℕ) where
   -- a set is treated, or left where it is too small
   patch-does : (S : List ℕ) (t : Work) → length (t .plane) ≡ n → Patch near n a b (t .plane) S

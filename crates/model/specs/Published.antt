@@ -2,23 +2,19 @@
 -- to 5 of the published account, under the names that they have there. A set of pixels is the list of them in reading
 -- order. Definitions only.
 --
---   Work           the plane as it stands, and the number of components retoned so far
---   Treatment      of a set of pixels in a section [a, b]
---   histogramEqualization
---                  Algorithm 5 (or 7), and line 3 of Algorithm 2: the pixels of a set get the rule's tones, unless it is
---                  kept back
---   connectedComponents
---                  Algorithm 4: the largest connected subsets of a set, in reading order of their first pixels
---   Arrangement    the order in which the components of a level set are treated, which Algorithm 4 leaves open
---   Reordered      the same sets in another order
---   processLevelSet
---                  Algorithm 3: each component of a level set that has the least area is treated
---   recursiveHistogramEqualization
---                  Algorithm 2: a set is equalised; then its lower and its upper half are processed, unless this is the
---                  last level
---   publishedIn    all pixels, treated so in [0, 255], with the levels 0 to `last`
---   published      the same, with components in reading order; any other order ends alike (`published-any-order`)
---   Connected      a plane of bytes that is one component
+--   Work         the plane as it stands, and the number of components retoned so far
+--   Procedure    what is done with a set of pixels in a section [a, b]
+--   Arrangement  the order in which the components of a level set are treated; Algorithm 4 leaves it open
+--   publishedIn  all pixels, treated by Algorithm 2 in [0, 255], with the levels 0 to `last`
+--   published    the same, with components in reading order; every other order ends alike (`published-any-order`)
+--   Connected    a plane of bytes that is one component
+--
+--   histogramEqualization           Algorithm 5, or 7, and line 3 of Algorithm 2: the pixels of a set get the rule's
+--                                   tones, unless it is kept back
+--   connectedComponents             Algorithm 4: the largest connected subsets, by their first pixels in reading order
+--   processLevelSet                 Algorithm 3: each component of a level set that has the least area is treated
+--   recursiveHistogramEqualization  Algorithm 2: a set is equalised; then its lower and its upper half are processed,
+--                                   unless this is the last level
 use Prim.Native.Nat.{ℕ, zero, suc, _+_, _/_, _≤_, _<_}
 use mathlib.Core.Path.{_≡_}
 use mathlib.Core.Bool.{Bool, true, false, _&&_, _||_, cond}
@@ -34,9 +30,9 @@ pub record Work : Type 0 where
   pub plane : List ℕ
   pub retoned : ℕ
 
--- of the ends a and b, the set, and the work so far
-abbrev pub Treatment : Type 0
-Treatment = ℕ → ℕ → List ℕ → Work → Work
+-- by the ends a and b and the set, from the work so far to the work after it
+abbrev pub Procedure : Type 0
+Procedure = ℕ → ℕ → List ℕ → Work → Work
 
 -- ## Sets of pixels
 
@@ -57,7 +53,7 @@ levelSet a b p S = keep (λ i. between a b (at p i)) S
 unfoldable pub amid : Near → List ℕ → Near
 amid near S i j = member S i && member S j && near i j
 
--- among n pixels
+-- of a set of some of n pixels
 unfoldable pub connectedComponents : Near → ℕ → List ℕ → List (List ℕ)
 connectedComponents near n S = map (component n (amid near S)) (keep (first n (amid near S)) S)
 
@@ -67,7 +63,7 @@ connectedComponents near n S = map (component n (amid near S)) (keep (first n (a
 unfoldable pub painted : (ℕ → ℕ) → List ℕ → List ℕ → List ℕ
 painted f S p = map (λ i. cond (member S i) (f (at p i)) (at p i)) (from 0 (length p))
 
-unfoldable pub histogramEqualization : Rule → Treatment
+unfoldable pub histogramEqualization : Rule → Procedure
 histogramEqualization rule a b S t =
     let vs = map (at (t .plane)) S in
     let new : Work = record { plane = painted (tone rule a b vs) S (t .plane); retoned = t .retoned + 1 } in
@@ -75,19 +71,21 @@ histogramEqualization rule a b S t =
 
 -- ## Orders of components
 
--- of the ends a and b, and the components of a level set [a, b]
+-- by the ends a and b, and the components of a level set [a, b] in reading order
 abbrev pub Arrangement : Type 0
 Arrangement = ℕ → ℕ → List (List ℕ) → List (List ℕ)
 
 abbrev pub readingOrder : Arrangement
 readingOrder a b Ss = Ss
 
+-- the same sets in another order: equal behind an equal first set, the first two in turn, and one after the other
 pub data Reordered : List (List ℕ) → List (List ℕ) → Type 0 where
   empty : Reordered [] []
   behind : {S : List ℕ} {Ss Ts : List (List ℕ)} → Reordered Ss Ts → Reordered (S ∷ Ss) (S ∷ Ts)
   swap : {S T : List ℕ} {Ss : List (List ℕ)} → Reordered (S ∷ T ∷ Ss) (T ∷ S ∷ Ss)
   twice : {Ss Ts Us : List (List ℕ)} → Reordered Ss Ts → Reordered Ts Us → Reordered Ss Us
 
+-- it loses no set, and adds none
 abbrev pub Reorders : Arrangement → Type 0
 Reorders arrange = (a b : ℕ) (Ss : List (List ℕ)) → Reordered Ss (arrange a b Ss)
 
@@ -101,15 +99,15 @@ forEach area f (S ∷ Ss) t =
     forEach area f Ss (cond (leb area (length S)) treated t)
 
 module _ (arrange : Arrangement) (near : Near) (area : ℕ) where
-  -- `next` is the treatment of the components: `recursiveHistogramEqualization`, with one level less
-  unfoldable pub processLevelSet : Treatment → Treatment
+  -- `next` is the procedure for a component: `recursiveHistogramEqualization`, with one level less
+  unfoldable pub processLevelSet : Procedure → Procedure
   processLevelSet next a b S t =
       let parts = connectedComponents near (length (t .plane)) (levelSet a b (t .plane) S) in
       forEach area (next a b) (arrange a b parts) t
 
-  -- `levels` is the last level less the one of line 5, so that Algorithms 2 and 3 call each other by a number that falls.
-  -- With at most 7 levels below [0, 255] a section that is split has 4 values or more, and line 9 has no case.
-  unfoldable pub recursiveHistogramEqualization : Rule → ℕ → Treatment
+  -- `levels` is the last level less the one of line 5, so that Algorithms 2 and 3 call each other by a number that
+  -- falls. With at most 7 levels below [0, 255] a section that is split has 4 values or more, and line 9 has no case.
+  unfoldable pub recursiveHistogramEqualization : Rule → ℕ → Procedure
   recursiveHistogramEqualization rule zero a b S t = histogramEqualization rule a b S t
   recursiveHistogramEqualization rule (suc levels) a b S t =
       let mid = (a + b) / 2 in

@@ -8,7 +8,7 @@ use mathlib.Core.List.{List, [], _∷_}
 use Rattle.planes.specs.Neighbours.{four}
 use Rattle.tones.specs.declared.Rule.{Rule}
 use Rattle.tones.specs.declared.Rule.the-variants.{Plain, Limited}
-use Rattle.model.specs.Published.{Work, published}
+use Rattle.model.specs.Published.{published}
 
 -- in a plane p of w columns
 abbrev pub Leaves : ℕ → List ℕ → ℕ → ℕ → Rule → List ℕ → ℕ → Type 0

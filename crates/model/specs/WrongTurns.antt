@@ -1,7 +1,7 @@
--- Wrong turns, each beside what the published recursion does on the same small plane. Nothing uses these definitions but
--- the examples that show them to be wrong. Definitions only.
+-- Wrong turns, each beside what the published recursion does on the same small plane. These definitions are wrong, and
+-- nothing uses them but the examples that show it. Definitions only.
 --
---   recursionBy     the shape of Algorithms 2 and 3, with a treatment of a set and a way to process a half left open
+--   recursionBy     the shape of Algorithm 2, with the procedures for a set and for a half left open
 --   originalTones   splits by the original tones
 --   oneHistogram    one histogram for a whole section
 --   areaTest        an area test at level 0
@@ -19,7 +19,7 @@ use Rattle.planes.specs.Neighbours.{Near, four}
 use Rattle.tones.specs.declared.Rule.{Rule}
 use Rattle.tones.specs.declared.Rule.the-variants.{Plain}
 use Rattle.tones.specs.Tones.{kept}
-use Rattle.model.specs.Published.{Work, Treatment, levelSet, connectedComponents, painted}
+use Rattle.model.specs.Published.{Work, Procedure, levelSet, connectedComponents, painted}
 use Rattle.model.specs.Published.{histogramEqualization, readingOrder, forEach, processLevelSet, published}
 use Rattle.model.specs.PublishedExamples.{anyRatio, grey}
 
@@ -28,8 +28,8 @@ use Rattle.model.specs.PublishedExamples.{anyRatio, grey}
 abbrev pub before : List ℕ → Work
 before p = record { plane = p; retoned = 0 }
 
--- `equalization` treats a set, and `half` takes the recursion with one level less to the treatment of a half
-unfoldable pub recursionBy : Treatment → (Treatment → Treatment) → ℕ → Treatment
+-- `equalization` is the procedure for a set, and `half` makes the one for a half of the recursion with one level less
+unfoldable pub recursionBy : Procedure → (Procedure → Procedure) → ℕ → Procedure
 recursionBy equalization half zero a b S t = equalization a b S t
 recursionBy equalization half (suc levels) a b S t =
     let mid = (a + b) / 2 in
@@ -40,14 +40,14 @@ recursionBy equalization half (suc levels) a b S t =
 -- the halves are those of the first plane, not of the plane as it stands
 unfoldable pub originalTones : Near → ℕ → ℕ → Rule → List ℕ → Work
 originalTones near last area rule p =
-    let half : Treatment → Treatment = λ next a b S t.
+    let half : Procedure → Procedure = λ next a b S t.
     forEach area (next a b) (connectedComponents near (length p) (levelSet a b p S)) t in
     recursionBy (histogramEqualization rule) half last 0 255 (from 0 (length p)) (before p)
 
 -- a half is treated as one set, connected or not
 unfoldable pub oneHistogram : ℕ → ℕ → Rule → List ℕ → Work
 oneHistogram last area rule p =
-    let half : Treatment → Treatment = λ next a b S t.
+    let half : Procedure → Procedure = λ next a b S t.
     forEach area (next a b) (levelSet a b (t .plane) S ∷ []) t in
     recursionBy (histogramEqualization rule) half last 0 255 (from 0 (length p)) (before p)
 
@@ -56,7 +56,7 @@ unfoldable pub areaTest : Near → ℕ → ℕ → Rule → List ℕ → Work
 areaTest near last area rule p = cond (leb area (length p)) (published near last area rule p) (before p)
 
 -- a set that is kept back is not split
-unfoldable pub stopRecursion : Near → ℕ → Rule → ℕ → Treatment
+unfoldable pub stopRecursion : Near → ℕ → Rule → ℕ → Procedure
 stopRecursion near area rule zero a b S t = histogramEqualization rule a b S t
 stopRecursion near area rule (suc levels) a b S t =
     let mid = (a + b) / 2 in

@@ -1,6 +1,6 @@
 -- A set that holds a pixel, is closed under neighbours and is reached from it is its component, over any relation; the
--- four neighbours of a pixel by index, in a plane of w columns; and the chain of them that leads from the first pixel to
--- any other. Assumes nothing.
+-- four neighbours of a pixel by index, in a plane of w columns; and a chain of them from the first pixel to any other.
+-- Assumes nothing.
 use Prim.Native.Nat.{ℕ, zero, suc, _+_, _-_, _*_, _/_, _%_, _≤_, _<_}
 use mathlib.Core.Path.{_≡_, refl, sym, ap, ap₂, subst, _∙_}
 use mathlib.Core.Logic.{_⊎_, inl, inr}
