@@ -1,6 +1,7 @@
 -- The published recursion by components ends as the recursion by sections does, and so as the passes level by level, in
 -- the same plane with the same count. For any symmetric neighbour relation under which the plane is one component, any
--- rule and any least area. Assumes nothing.
+-- rule, any least area and any order of components. By induction over the levels: each set is looked at through a plane
+-- that shows it alone, so that nothing outside it comes in. Assumes nothing.
 use Prim.Native.Nat.{ℕ, zero, suc, _+_, _-_, _/_, _^_, _≤_, _<_, zero-le}
 use mathlib.Core.Path.{_≡_, refl, sym, ap, ap₂, subst, subst₂, _∙_}
 use mathlib.Core.Logic.{_⊎_, inl, inr}

@@ -1,14 +1,14 @@
 -- Wrong turns, each beside what the published recursion does on the same small plane. These definitions are wrong, and
 -- nothing uses them but the examples that show it. Definitions only.
 --
---   recursionBy     the shape of Algorithm 2, with the procedures for a set and for a half left open
+--   recursionBy     the shape of Algorithm 2, with the procedures for a set and for a half left open (`shape-is`)
 --   originalTones   splits by the original tones
 --   oneHistogram    one histogram for a whole section
 --   areaTest        an area test at level 0
 --   stopAtKept      stops at a kept component
 --   halvesToEven    rounds halves to even
 --   Turned          what the published recursion leaves, and what a wrong turn leaves instead
-use Prim.Native.Nat.{ℕ, zero, suc, _+_, _-_, _*_, _/_, _%_}
+use Prim.Native.Nat.{ℕ, zero, suc, _+_, _*_, _/_, _%_}
 use mathlib.Core.Path.{_≡_}
 use mathlib.Core.Bool.{cond}
 use mathlib.Core.List.{List, [], _∷_, map}
@@ -25,8 +25,8 @@ use Rattle.model.specs.PublishedExamples.{anyRatio, grey}
 
 -- ## The wrong turns
 
-abbrev pub before : List ℕ → Work
-before p = record { plane = p; retoned = 0 }
+abbrev pub untouched : List ℕ → Work
+untouched p = record { plane = p; retoned = 0 }
 
 -- `equalization` is the procedure for a set, and `half` makes the one for a half of the recursion with one level less
 unfoldable pub recursionBy : Procedure → (Procedure → Procedure) → ℕ → Procedure
@@ -42,18 +42,18 @@ unfoldable pub originalTones : Near → ℕ → ℕ → Rule → List ℕ → Wo
 originalTones near last area rule p =
     let half : Procedure → Procedure = λ next a b S t.
     forEach area (next a b) (connectedComponents near (length p) (levelSet a b p S)) t in
-    recursionBy (histogramEqualization rule) half last 0 255 (from 0 (length p)) (before p)
+    recursionBy (histogramEqualization rule) half last 0 255 (from 0 (length p)) (untouched p)
 
 -- a half is treated as one set, connected or not
 unfoldable pub oneHistogram : ℕ → ℕ → Rule → List ℕ → Work
 oneHistogram last area rule p =
     let half : Procedure → Procedure = λ next a b S t.
     forEach area (next a b) (levelSet a b (t .plane) S ∷ []) t in
-    recursionBy (histogramEqualization rule) half last 0 255 (from 0 (length p)) (before p)
+    recursionBy (histogramEqualization rule) half last 0 255 (from 0 (length p)) (untouched p)
 
 -- a plane of less than the least area is not treated
 unfoldable pub areaTest : Near → ℕ → ℕ → Rule → List ℕ → Work
-areaTest near last area rule p = cond (leb area (length p)) (published near last area rule p) (before p)
+areaTest near last area rule p = cond (leb area (length p)) (published near last area rule p) (untouched p)
 
 -- a set that is kept back is not split
 unfoldable pub stopRecursion : Near → ℕ → Rule → ℕ → Procedure
@@ -66,7 +66,7 @@ stopRecursion near area rule (suc levels) a b S t =
     cond (kept rule a b (map (at (t .plane)) S)) t split
 
 unfoldable pub stopAtKept : Near → ℕ → ℕ → Rule → List ℕ → Work
-stopAtKept near last area rule p = stopRecursion near area rule last 0 255 (from 0 (length p)) (before p)
+stopAtKept near last area rule p = stopRecursion near area rule last 0 255 (from 0 (length p)) (untouched p)
 
 -- x / m to nearest, halves to the even neighbour
 unfoldable pub roundedEven : ℕ → ℕ → ℕ
