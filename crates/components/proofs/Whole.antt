@@ -1,22 +1,22 @@
--- A plane whose pixels all have one code is one component under the four neighbours: a chain leads from its first pixel
--- down the first column and along the row of any other. So the pixels taken in reading order, one after the other, are
--- that component. Assumes nothing.
-use Prim.Native.Nat.{ℕ, zero, suc, _+_, _*_, _/_, _%_, _≤_, _<_}
-use mathlib.Core.Path.{_≡_, refl, sym, ap, subst, _∙_}
+-- A plane whose pixels all have one code is one component under the four neighbours: the chain from its first pixel to
+-- any other has that code all along. So the pixels taken in reading order, one after the other, are that component.
+-- Assumes nothing.
+use Prim.Native.Nat.{ℕ, _+_, _≤_, _<_}
+use mathlib.Core.Path.{_≡_, refl, sym, ap, _∙_}
 use mathlib.Core.Logic.{inl, inr}
 use mathlib.Core.Bool.{Bool, true, false, cond, _&&_}
 use mathlib.Core.List.{List}
-use native.Mathlib.Nat.{div-add-mod', mod-lt, add-zero, zero-mul}
 use native.Mathlib.Omega.{arith}
 use lib.ListN.{length, set, length-set}
 use borrow.Author.Tests.{le-ltb}
 use Rattle.planes.specs.Lists.{at, Beyond}
-use Rattle.planes.specs.Neighbours.{Near, four, Chain, here, step, linked}
+use Rattle.planes.specs.Neighbours.{Near, four, linked}
 use Rattle.planes.specs.Enumerations.{Enumerates}
 use Rattle.planes.proofs.Tests.{less-or-not}
 use Rattle.planes.proofs.Lists.{beyond-refl}
 use Rattle.planes.proofs.Stores.{at-set}
-use Rattle.planes.proofs.Neighbours.{near-right, down-of}
+use Rattle.planes.proofs.Links.{chain-map}
+use Rattle.planes.proofs.Neighbours.{plane-chain}
 use Rattle.planes.proofs.Enumerations.{entries-size}
 use Rattle.components.specs.Regions.{alike, region}
 use Rattle.components.specs.Floods.{PlaneTaken}
@@ -26,34 +26,13 @@ use Rattle.components.proofs.Regions.{alike-of, region-of}
 
 -- the first n pixels of a plane of w columns have the code
 module _ (w n code : ℕ) (marks : List ℕ) (wide : 1 ≤ w) (all : (p : ℕ) → p < n → at marks p ≡ code) where
-  -- a chain leads from the first pixel to p
-  abbrev Leads : ℕ → Type 0
-  Leads p = Chain (alike (four w) marks code) n 0 p
-
-  -- and on to a later neighbour, which is q as well as r
-  onward : (p q r : ℕ) → Leads p → four w p q ≡ true → q ≡ r → p < r → r < n → Leads r
-  onward p q r c e d l h =
-      subst Leads d (step c (alike-of (four w) n code marks (all p (omega arith)) (all q (omega arith)) e) (omega arith))
-
-  -- to the first pixel of row y, and to that in column x
-  down : (y : ℕ) → y * w < n → Leads (y * w)
-  down zero h = subst Leads (sym (zero-mul w)) here
-  down (suc y) h = onward (y * w) (y * w + w) (suc y * w) (down y (omega arith)) (down-of w (y * w) wide)
-      (omega arith) (omega arith) h
-
-  along-row : (y x : ℕ) → x < w → y * w + x < n → Leads (y * w + x)
-  along-row y zero l h = rw add-zero (down y (omega arith))
-  along-row y (suc x) l h =
-      onward (y * w + x) (y * w + x + 1) (y * w + suc x) (along-row y x (omega arith) (omega arith))
-      (near-right w y x (omega arith) (omega arith)) (omega arith) (omega arith) h
-
-  pub plane-chain : (p : ℕ) → p < n → Leads p
-  plane-chain p h =
-      let split = div-add-mod' p w in
-      subst Leads split (along-row (p / w) (p % w) (mod-lt p wide) (omega arith))
-
+  -- the chain that leads to p has the code all along
   pub plane-region : (p : ℕ) → p < n → region (four w) n marks code 0 p ≡ true
-  plane-region p h = region-of (four w) n code marks 0 p (omega arith) h (plane-chain p h)
+  plane-region p h =
+      let same = chain-map n (four w) (alike (four w) marks code)
+      (λ u v hu hv e. alike-of (four w) n code marks (all u hu) (all v hv) e)
+      (omega arith) (plane-chain w n wide p h) in
+      region-of (four w) n code marks 0 p (omega arith) h (same .1)
 
 -- no pixel past the first n is in a region
 region-past : (near : Near) (n code : ℕ) (marks : List ℕ) (s p : ℕ) → n ≤ p → region near n marks code s p ≡ false

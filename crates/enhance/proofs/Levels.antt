@@ -4,7 +4,7 @@ use Prim.Native.Nat.{ℕ, zero, suc, _+_, _-_, _*_, _/_, _^_, _≤_, _<_}
 use mathlib.Core.Path.{_≡_, refl, sym, ap, ap₂, _∙_}
 use mathlib.Core.Bool.{Bool, true, false, true≢false, false≢true}
 use mathlib.Core.List.{List, [], _∷_, _++_}
-use native.Mathlib.Nat.{pow-suc, suc-add}
+use native.Mathlib.Nat.{suc-add}
 use native.Mathlib.Omega.{arith}
 use lib.ListN.{length}
 use lib.Pow.{pow-pos}
@@ -20,7 +20,7 @@ use Rattle.model.specs.Passes.{passed, counted, passCount}
 use Rattle.model.specs.Calls.{Lent}
 use Rattle.model.specs.Runs.{run, runCount}
 use Rattle.model.specs.Enhancement.{section, deep, recursive}
-use Rattle.model.proofs.Recursion.{run-append, count-append}
+use Rattle.model.proofs.Recursion.{run-append, count-append, double}
 use Rattle.passes.specs.Sections.{Treated}
 use Rattle.passes.specs.declared.Next.{Next}
 use Rattle.enhance.specs.declared.Settings.{Settings}
@@ -41,9 +41,6 @@ zeros (suc (suc (suc (suc (suc (suc zero)))))) h = refl
 zeros (suc (suc (suc (suc (suc (suc (suc zero))))))) h = refl
 zeros (suc (suc (suc (suc (suc (suc (suc (suc zero)))))))) h = refl
 zeros (suc (suc (suc (suc (suc (suc (suc (suc (suc k))))))))) h = absurd (omega arith)
-
-double : (d k : ℕ) → 2 ^ (suc d + k) ≡ 2 ^ (d + k) + 2 ^ (d + k)
-double d k = ap (2 ^_) (suc-add d k) ∙ omega (arith, pow-suc 2 (d + k))
 
 module _ {last a b d k : ℕ} (W : Wide last a b (suc d) k) where
   pub low-half : Wide last a ((a + b) / 2) d k

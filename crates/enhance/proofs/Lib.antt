@@ -1,3 +1,4 @@
 pub mod Levels
 pub mod Marks
 pub mod Calls
+pub mod Published

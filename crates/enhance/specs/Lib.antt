@@ -1,2 +1,3 @@
 pub mod Recursion
 pub mod Calls
+pub mod Published

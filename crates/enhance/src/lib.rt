@@ -2,8 +2,13 @@
 //
 // Settings   the last level, the least area and the tone rule, with the house setting
 // enhance    enhances a frame: refusals 1, 2, 3, 4, 14, 9, 6, 7, 8
-// equalise   Algorithm 2: a section, then its halves
-// split      Algorithm 3: the halves of a section
+// equalise   Algorithm 2, for all components of a section at once: the section, then its halves
+// split      Algorithm 2, lines 11 to 13: the lower half of a section, then the upper
+//
+// The components and the area test of Algorithm 3 are in `passes::treat_section`, and level 0, which has no area test,
+// is treated before the cycle begins, in `run_levels`. The published recursion takes each component of a half down to
+// the last level before the next one; that sections with all their components end alike is the theorem
+// `enhance-published`. So one search for each section takes the place of one for each component, and no sets are kept.
 ghost use mathlib.Core.Path.{_≡_};
 ghost use mathlib.Core.Bool.{true, false};
 ghost use Prim.Native.Nat.{ℕ, _+_, _-_, _*_, _^_, _≤_, _<_};
@@ -90,9 +95,9 @@ fn next_of(more: bool, mid: u8, code: u8, span: u8) -> Next
     }
 }
 
-// Algorithm 2: treats the section [a, b], whose pixels are marked with the code, and then its halves. The sections of the
-// branch have the `span` numbers from the code on. No pixel has the code unless the section is due. How many components
-// were retoned.
+// Algorithm 2, for all components of the section [a, b] at once: treats the section, whose pixels are marked with the
+// code, and then its halves, unless this is the last level. The sections of the branch have the `span` numbers from the
+// code on. No pixel has the code unless the section is due. How many components were retoned.
 fn equalise(
     plane: &mut [u8],
     marks: &mut [u8],
@@ -149,8 +154,9 @@ fn equalise(
     count
 }
 
-// Algorithm 3: the halves of the section [a, b], split at floor((a + b) / 2), whose pixels are marked with their numbers.
-// No pixel has a half's number unless that half is due.
+// Algorithm 2, lines 11 to 13: the halves of the section [a, b], split at floor((a + b) / 2). Their pixels are marked
+// with their numbers, and are the level sets of Algorithm 3; `equalise` has their components treated. No pixel has a
+// half's number unless that half is due. How many components were retoned.
 fn split(
     plane: &mut [u8],
     marks: &mut [u8],
@@ -221,7 +227,8 @@ fn some(last: u8) -> bool
     true
 }
 
-// The recursion from level 0, which has no area test. How many components were retoned.
+// The recursion from level 0, the published call on the whole image, which has no area test. How many components were
+// retoned.
 fn run_levels(
     plane: &mut [u8],
     marks: &mut [u8],

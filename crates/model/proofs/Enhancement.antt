@@ -78,7 +78,8 @@ module _ (w h : ℕ) (of : Pass → Call) (same : (s : Pass) → of s .pass ≡ 
 -- ## The enhancement
 
 module _ (w h : ℕ) where
-  abbrev Accepted : Pass → Type 0
+  -- the pass is accepted in a plane of w columns and h rows
+  abbrev pub Accepted : Pass → Type 0
   Accepted s = passRefusal w h (w * h) (callOf (w * h) s) ≡ 0
 
   pub chain-runs : (ss : List Pass) → All Accepted ss → (s : State) → length (s .plane) ≡ w * h

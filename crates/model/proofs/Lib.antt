@@ -6,3 +6,11 @@ pub mod Apart
 pub mod Local
 pub mod Recursion
 pub mod Enhancement
+pub mod Sets
+pub mod Parts
+pub mod Pieces
+pub mod Several
+pub mod Published
+pub mod Connected
+pub mod PublishedExamples
+pub mod WrongTurns

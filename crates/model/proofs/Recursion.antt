@@ -102,6 +102,10 @@ pub joined : (ℕ → List Pass) → ℕ → ℕ → List Pass
 joined x i zero = []
 joined x i (suc m) = x i ++ joined x (suc i) m
 
+-- a width and its half
+pub double : (d k : ℕ) → 2 ^ (suc d + k) ≡ 2 ^ (d + k) + 2 ^ (d + k)
+double d k = ap (2 ^_) (suc-add d k) ∙ omega arith
+
 -- with the last level's width 2 ^ k: a section of width 2 ^ (d + k) and the d levels below it
 module _ (k area : ℕ) (rule : Rule) where
   -- the level l below it
@@ -114,15 +118,12 @@ module _ (k area : ℕ) (rule : Rule) where
   abbrev In : ℕ → ℕ → Pass → Type 0
   In lo hi s = (lo ≤ s .a) × (s .a ≤ s .b) × (s .b < hi)
 
-  double : (d : ℕ) → 2 ^ (suc d + k) ≡ 2 ^ (d + k) + 2 ^ (d + k)
-  double d = ap (2 ^_) (suc-add d k) ∙ omega arith
-
   wide-in : (d a l : ℕ) → All (In a (a + 2 ^ (d + k))) (wide d a l)
   unfolding wide section
   wide-in d a zero = let h = pow-pos (d + k) in more {s = section area rule a (2 ^ (d + k))} (omega arith) none
   wide-in zero a (suc l) = none
   wide-in (suc d) a (suc l) =
-      let e = double d in
+      let e = double d k in
       let half : ℕ = 2 ^ (d + k) in
       all-append
       (all-map (λ s (h : In a (a + half) s). omega arith) (wide-in d a l))

@@ -4,3 +4,6 @@ pub mod Effects
 pub mod Outcomes
 pub mod Calls
 pub mod Enhancement
+pub mod Published
+pub mod PublishedExamples
+pub mod WrongTurns

@@ -8,9 +8,9 @@ use native.Mathlib.Nat.{le-refl, eq-or-lt-of-le}
 use native.Mathlib.Omega.{arith}
 use lib.ListN.{length}
 use lib.Dec.{eqb}
-use borrow.Author.Tests.{eq-eqb, ne-eqb}
+use borrow.Author.Tests.{eqb-true, eq-eqb, ne-eqb}
 use Rattle.planes.specs.Lists.{from, keep, every, count}
-use Rattle.planes.proofs.Tests.{or-false, and-false}
+use Rattle.planes.proofs.Tests.{or-false, and-false, and-left, same-test}
 
 pub count-cons : (f : ℕ → Bool) (x : ℕ) (xs : List ℕ) → count f (x ∷ xs) ≡ cond (f x) 1 0 + count f xs
 count-cons f x xs = go (f x)
@@ -154,3 +154,26 @@ count-mono-from f g i (suc m) h =
     let rest = count-mono-from f g (suc i) m (λ x l k. h x (omega arith) (omega arith)) in
     rw (count-cons f i (from (suc i) m), count-cons g i (from (suc i) m))
     (omega (arith, unit-mono (f i) (g i) (h i (le-refl i) (omega arith)), rest))
+
+-- a test that counts as two others together
+pub count-sum : (f g h : ℕ → Bool) (i m : ℕ)
+    → ((x : ℕ) → i ≤ x → x < i + m → cond (f x) 1 0 ≡ cond (g x) 1 0 + cond (h x) 1 0)
+    → count f (from i m) ≡ count g (from i m) + count h (from i m)
+count-sum f g h i zero e = refl
+count-sum f g h i (suc m) e =
+    let rest = count-sum f g h (suc i) m (λ x l k. e x (omega arith) (omega arith)) in
+    rw (count-cons f i (from (suc i) m), count-cons g i (from (suc i) m), count-cons h i (from (suc i) m))
+    (omega (arith, rest, e i (omega arith) (omega arith)))
+
+-- a test that one pixel passes
+pub count-one : (f : ℕ → Bool) (n y : ℕ) → y < n → f y ≡ true → ((x : ℕ) → x < n → f x ≡ true → x ≡ y)
+    → count f (from 0 n) ≡ 1
+count-one f n y h e only =
+    count-same f (λ z. (false || eqb z y) && true) n same
+    ∙ count-add (λ z. false) (λ z. true) y 0 n zero-le (omega arith) refl
+    ∙ ap (1 +_) (count-none (from 0 n))
+  where
+    same : (x : ℕ) → x < n → f x ≡ ((false || eqb x y) && true)
+    same x hx = same-test (f x) ((false || eqb x y) && true)
+        (λ d. ap (_&& true) (eq-eqb x y (only x hx d)))
+        (λ d. ap f (eqb-true x y (and-left (eqb x y) true d)) ∙ e)

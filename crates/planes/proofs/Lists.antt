@@ -62,6 +62,22 @@ map-same f g g′ i (suc m) h = go (f i) refl (map-same f g g′ (suc i) m (λ x
     go true e r = ap₂ _∷_ (h i (le-refl i) (omega arith) e) r
     go false e r = r
 
+-- ## Kept members
+
+pub keep-keep : (f g : ℕ → Bool) (xs : List ℕ) → keep f (keep g xs) ≡ keep (λ x. g x && f x) xs
+keep-keep f g [] = refl
+keep-keep f g (x ∷ xs) = go (g x) (keep-keep f g xs)
+  where
+    go : (t : Bool) → keep f (keep g xs) ≡ keep (λ x. g x && f x) xs
+        → keep f (cond t (x ∷ keep g xs) (keep g xs))
+        ≡ cond (t && f x) (x ∷ keep (λ x. g x && f x) xs) (keep (λ x. g x && f x) xs)
+    go true e = ap (λ (l : List ℕ). cond (f x) (x ∷ l) l) e
+    go false e = e
+
+pub keep-all : (xs : List ℕ) → keep (λ x. true) xs ≡ xs
+keep-all [] = refl
+keep-all (x ∷ xs) = ap (x ∷_) (keep-all xs)
+
 -- ## Tests of every member
 
 pub every-both : (f g h : ℕ → Bool) → ((x : ℕ) → f x ≡ true → g x ≡ true → h x ≡ true)

@@ -1,10 +1,11 @@
--- A set that holds a pixel, is closed under neighbours and is reached from it is its component, over any relation; and
--- the four neighbours of a pixel by index, in a plane of w columns. Assumes nothing.
-use Prim.Native.Nat.{ℕ, _+_, _-_, _*_, _/_, _%_, _≤_, _<_}
+-- A set that holds a pixel, is closed under neighbours and is reached from it is its component, over any relation; the
+-- four neighbours of a pixel by index, in a plane of w columns; and a chain of them from the first pixel to any other.
+-- Assumes nothing.
+use Prim.Native.Nat.{ℕ, zero, suc, _+_, _-_, _*_, _/_, _%_, _≤_, _<_}
 use mathlib.Core.Path.{_≡_, refl, sym, ap, ap₂, subst, _∙_}
 use mathlib.Core.Logic.{_⊎_, inl, inr}
 use mathlib.Core.Bool.{Bool, true, _&&_, _||_}
-use native.Mathlib.Nat.{div-add-mod', mod-lt}
+use native.Mathlib.Nat.{div-add-mod', mod-lt, add-zero, zero-mul}
 use native.Mathlib.Omega.{arith}
 use lib.Arith.{digits-div, digits-mod}
 use lib.Dec.{eqb}
@@ -125,3 +126,28 @@ module _ (w p : ℕ) (wide : 1 ≤ w) where
 
 pub up-of : (w p q : ℕ) → 1 ≤ w → q + w ≡ p → four w p q ≡ true
 up-of w p q h e = four-sym w p q ∙ subst (λ (i : ℕ). four w q i ≡ true) e (down-of w q h)
+
+-- ## A whole plane
+
+-- among the first n pixels a chain leads from the first one down the first column, and along the row of any other
+module _ (w n : ℕ) (wide : 1 ≤ w) where
+  abbrev Leads : ℕ → Type 0
+  Leads p = Chain (four w) n 0 p
+
+  onward : {p q r : ℕ} → Leads p → four w p q ≡ true → q ≡ r → r < n → Leads r
+  onward c e d h = subst Leads d (step c e (omega arith))
+
+  down : (y : ℕ) → y * w < n → Leads (y * w)
+  down zero h = subst Leads (sym (zero-mul w)) here
+  down (suc y) h = onward (down y (omega arith)) (down-of w (y * w) wide) (omega arith) h
+
+  along-row : (y x : ℕ) → x < w → y * w + x < n → Leads (y * w + x)
+  along-row y zero l h = rw add-zero (down y (omega arith))
+  along-row y (suc x) l h =
+      onward (along-row y x (omega arith) (omega arith)) (near-right w y x (omega arith) (omega arith))
+      (omega arith) h
+
+  pub plane-chain : (p : ℕ) → p < n → Leads p
+  plane-chain p h =
+      let place = div-add-mod' p w in
+      subst Leads place (along-row (p / w) (p % w) (mod-lt p wide) (omega arith))

@@ -1,6 +1,6 @@
 -- Laws of tests: Bool by `&&`, `||` and `not`, and equality and order of numbers as tests. Assumes nothing.
 use Prim.Native.Nat.{ℕ, _≤_, _<_}
-use mathlib.Core.Path.{_≡_, refl, sym}
+use mathlib.Core.Path.{_≡_, refl, sym, ap, _∙_}
 use mathlib.Core.Logic.{_⊎_, inl, inr}
 use mathlib.Core.Bool.{Bool, true, false, _&&_, _||_, false≢true, true≢false}
 use lib.Dec.{ltb, eqb}
@@ -71,6 +71,14 @@ pub decide : (t : Bool) → (t ≡ true) ⊎ (t ≡ false)
 decide true = inl refl
 decide false = inr refl
 
+-- a test that cannot pass fails; so does one that passes only where another does, which fails
+pub never : {t : Bool} → (t ≡ true → ⊥) → t ≡ false
+never {t = true} h = absurd (h refl)
+never {t = false} h = refl
+
+pub contra : {s t : Bool} → (s ≡ true → t ≡ true) → t ≡ false → s ≡ false
+contra h e = never (λ d. true≢false (sym (h d) ∙ e))
+
 pub or-none : (s t : Bool) → (s || t) ≡ false → (s ≡ false) × (t ≡ false)
 or-none true t e = absurd (true≢false e)
 or-none false t e = (refl, e)
@@ -86,6 +94,13 @@ and-false false = refl
 pub and-true : (t : Bool) → (t && true) ≡ t
 and-true true = refl
 and-true false = refl
+
+-- the second, or the third, of three tests fails
+pub and-middle : (s t u : Bool) → t ≡ false → (s && t && u) ≡ false
+and-middle s t u e = ap (λ (x : Bool). s && x && u) e ∙ ap (_&& u) (and-false s)
+
+pub and-last : (s t u : Bool) → u ≡ false → (s && t && u) ≡ false
+and-last s t u e = ap (s && t &&_) e ∙ and-false (s && t)
 
 pub implies-out : (s t : Bool) → implies s t ≡ true → s ≡ true → t ≡ true
 implies-out true t e h = e
