@@ -1,4 +1,4 @@
--- Work on a set of pixels that does to it what a run of passes does: nothing, work after work, and the equalising of a
+-- Effect on a set of pixels that does to it what a run of passes does: nothing, work after work, and the equalising of a
 -- connected set, which is the pass on its section. For any symmetric neighbour relation. Assumes nothing.
 use Prim.Native.Nat.{ℕ, _+_, _≤_, _<_}
 use mathlib.Core.Path.{_≡_, refl, sym, ap, ap₂, subst, _∙_}
@@ -19,7 +19,8 @@ use Rattle.tones.specs.Tones.{tone, kept}
 use Rattle.model.specs.declared.Pass.{Pass}
 use Rattle.model.specs.Passes.{within, inside, values, changes, retone, passed, counted, passCount}
 use Rattle.model.specs.Runs.{run, runCount, All}
-use Rattle.model.specs.Published.{Work, between, amid, painted, histogramEqualization}
+use Rattle.model.specs.Effects.{Effect}
+use Rattle.model.specs.Published.{between, amid, painted, histogramEqualization}
 use Rattle.model.proofs.Components.{in-tone, inside-sym}
 use Rattle.model.proofs.Order.{passed-at}
 use Rattle.model.proofs.Apart.{linked-same}
@@ -30,13 +31,13 @@ use Rattle.model.proofs.Parts.{InRange, Shows, small-run, run-outside, 
 -- ## What work does
 
 -- from t to t′ the pixels of A become what the passes make of them in m, all others stay, and the counts are added
-pub record Does (near : Near) (n : ℕ) (A : ℕ → Bool) (ss : List Pass) (m : List ℕ) (t t′ : Work) : Type 0 where
+pub record Does (near : Near) (n : ℕ) (A : ℕ → Bool) (ss : List Pass) (m : List ℕ) (t t′ : Effect) : Type 0 where
   pub size : length (t′ .plane) ≡ n
   pub on : (x : ℕ) → x < n → A x ≡ true → at (t′ .plane) x ≡ at (run near ss m) x
   pub off : (x : ℕ) → x < n → A x ≡ false → at (t′ .plane) x ≡ at (t .plane) x
   pub sum : t′ .retoned ≡ t .retoned + runCount near ss m
 
-pub does-same : {near : Near} {n : ℕ} {A B : ℕ → Bool} {ss : List Pass} {m : List ℕ} {t t′ : Work}
+pub does-same : {near : Near} {n : ℕ} {A B : ℕ → Bool} {ss : List Pass} {m : List ℕ} {t t′ : Effect}
     → ((x : ℕ) → x < n → A x ≡ B x) → Does near n A ss m t t′ → Does near n B ss m t t′
 does-same same D = record {
   size = D .size;
@@ -47,7 +48,7 @@ does-same same D = record {
 
 module _ (near : Near) (symm : (i j : ℕ) → near i j ≡ near j i) (n : ℕ) (A : ℕ → Bool) where
   -- nothing is done to a set that has less than the least area
-  pub idle-does : {lo hi area : ℕ} {t : Work} {m : List ℕ} → Shows n lo hi A (t .plane) m
+  pub idle-does : {lo hi area : ℕ} {t : Effect} {m : List ℕ} → Shows n lo hi A (t .plane) m
       → ((x : ℕ) → x < n → A x ≡ true → count A (from 0 n) < area)
       → (ss : List Pass) → All (InRange lo hi area) ss → Does near n A ss m t t
   idle-does {lo} {hi} {area} {t} {m} S few ss fits =
@@ -60,7 +61,7 @@ module _ (near : Near) (symm : (i j : ℕ) → near i j ≡ near j i) (n : ℕ) 
       }
 
   -- work after work is the run after the run
-  pub does-append : {xs ys : List Pass} {m : List ℕ} {t t₁ t₂ : Work} → Does near n A xs m t t₁
+  pub does-append : {xs ys : List Pass} {m : List ℕ} {t t₁ t₂ : Effect} → Does near n A xs m t t₁
       → Does near n A ys (run near xs m) t₁ t₂ → Does near n A (xs ++ ys) m t t₂
   does-append {xs} {ys} {m} D E = record {
     size = E .size;
@@ -69,7 +70,7 @@ module _ (near : Near) (symm : (i j : ℕ) → near i j ≡ near j i) (n : ℕ) 
     sum = omega (arith, D .sum, E .sum, count-append near symm xs ys m);
   }
 
-  pub does-shows : {lo hi area : ℕ} {ss : List Pass} {m : List ℕ} {t t′ : Work} → Shows n lo hi A (t .plane) m
+  pub does-shows : {lo hi area : ℕ} {ss : List Pass} {m : List ℕ} {t t′ : Effect} → Shows n lo hi A (t .plane) m
       → All (InRange lo hi area) ss → Does near n A ss m t t′ → Shows n lo hi A (t′ .plane) (run near ss m)
   does-shows {lo} {hi} {area} {ss} {m} S fits D = record {
     whole = D .size;
@@ -105,7 +106,7 @@ piece-same {near} {n} {A = A} {B} same P =
       holds = sym (same (P .pixel) (P .below)) ∙ P .holds;
     }
 
-module _ (near : Near) (symm : (i j : ℕ) → near i j ≡ near j i) (n : ℕ) (A : ℕ → Bool) (s : Pass) (t : Work)
+module _ (near : Near) (symm : (i j : ℕ) → near i j ≡ near j i) (n : ℕ) (A : ℕ → Bool) (s : Pass) (t : Effect)
     (m : List ℕ) (S : Shows n (s .a) (s .b) A (t .plane) m)
     (P : Piece near n (s .a) (s .b) A (t .plane)) (large : s .area ≤ count A (from 0 n)) where
   abbrev vs : List ℕ
@@ -188,7 +189,7 @@ module _ (near : Near) (symm : (i j : ℕ) → near i j ≡ near j i) (n : ℕ) 
   unfolding histogramEqualization run runCount painted
   equalization-does = go back refl
     where
-      after : Work
+      after : Effect
       after = record {
         plane = painted (tone (s .rule) (s .a) (s .b) vs) (pixelsOf n A) (t .plane);
         retoned = t .retoned + 1;

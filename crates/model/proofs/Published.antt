@@ -23,7 +23,8 @@ use Rattle.tones.specs.declared.Rule.{Rule}
 use Rattle.model.specs.declared.Pass.{Pass}
 use Rattle.model.specs.Runs.{run, runCount, All, none, more}
 use Rattle.model.specs.Enhancement.{section, passes, deep, recursive}
-use Rattle.model.specs.Published.{Work, Procedure, between, levelSet, amid, connectedComponents}
+use Rattle.model.specs.Effects.{Effect}
+use Rattle.model.specs.Published.{Procedure, between, levelSet, amid, connectedComponents}
 use Rattle.model.specs.Published.{histogramEqualization, forEach, processLevelSet, recursiveHistogramEqualization}
 use Rattle.model.specs.Published.{Arrangement, readingOrder, Reordered, empty, behind, Reorders}
 use Rattle.model.specs.Published.{publishedIn, published, Connected}
@@ -68,7 +69,7 @@ module _ (arrange : Arrangement) (reorders : Reorders arrange) (near : Near) (sy
   -- ## The components of a set, one after the other
 
   components-do : (f : Procedure) (ss : List Pass) (a b : ℕ) → Performs near area f ss a b
-      → (n : ℕ) (G : ℕ → Bool) (t : Work) (q : List ℕ) → Shows n a b G (t .plane) q
+      → (n : ℕ) (G : ℕ → Bool) (t : Effect) (q : List ℕ) → Shows n a b G (t .plane) q
       → ((x : ℕ) → x < n → G x ≡ true → between a b (at (t .plane) x) ≡ true)
       → Does near n G ss q t (forEach area (f a b) (arrange a b (connectedComponents near n (pixelsOf n G))) t)
   unfolding connectedComponents
@@ -97,7 +98,7 @@ module _ (arrange : Arrangement) (reorders : Reorders arrange) (near : Near) (sy
 
   -- to process the level set [lo, hi] of a set in [a, b] is to run the passes in [lo, hi]
   level-set-does : (f : Procedure) (ss : List Pass) (lo hi : ℕ) → Performs near area f ss lo hi
-      → (a b : ℕ) → a ≤ lo → hi ≤ b → (n : ℕ) (A : ℕ → Bool) (t : Work) (m : List ℕ) → Shows n a b A (t .plane) m
+      → (a b : ℕ) → a ≤ lo → hi ≤ b → (n : ℕ) (A : ℕ → Bool) (t : Effect) (m : List ℕ) → Shows n a b A (t .plane) m
       → Does near n A ss m t (processLevelSet arrange near area f lo hi (pixelsOf n A) t)
   unfolding processLevelSet levelSet
   level-set-does f ss lo hi T a b la hb n A t m S =
@@ -124,7 +125,7 @@ module _ (arrange : Arrangement) (reorders : Reorders arrange) (near : Near) (sy
       }
 
       -- the rest of the set stays, in the plane and in m
-      widen : {t′ : Work} → Does near n G ss m t t′ → Does near n A ss m t t′
+      widen : {t′ : Effect} → Does near n G ss m t t′ → Does near n A ss m t t′
       widen {t′} D = record {
         size = D .size;
         on = λ x hx d. on x hx d (decide (G x));
@@ -142,7 +143,7 @@ module _ (arrange : Arrangement) (reorders : Reorders arrange) (near : Near) (sy
   -- a set, then its lower and its upper half
   level-does : (s : Pass) (mid : ℕ) → s .a ≤ mid → mid < s .b → (f : Procedure) (xs ys : List Pass)
       → Performs near area f xs (s .a) mid → Performs near area f ys (mid + 1) (s .b)
-      → (n : ℕ) (A : ℕ → Bool) (t : Work) (m : List ℕ) → Shows n (s .a) (s .b) A (t .plane) m
+      → (n : ℕ) (A : ℕ → Bool) (t : Effect) (m : List ℕ) → Shows n (s .a) (s .b) A (t .plane) m
       → Piece near n (s .a) (s .b) A (t .plane) → s .area ≤ count A (from 0 n)
       → Does near n A (s ∷ (xs ++ ys)) m t
       (processLevelSet arrange near area f (mid + 1) (s .b) (pixelsOf n A)
@@ -201,7 +202,7 @@ module _ (near : Near) (symm : (i j : ℕ) → near i j ≡ near j i) (area : �
   abbrev all : ℕ → Bool
   all x = true
 
-  abbrev start : Work
+  abbrev start : Effect
   start = record { plane = p; retoned = 0 }
 
   shows-all : Shows n 0 255 all p p
@@ -276,5 +277,5 @@ module _ (near : Near) (symm : (i j : ℕ) → near i j ≡ near j i) (area : �
       let q = published-run last h in
       ap₂ done (r .0 ∙ sym (q .0)) (r .1 ∙ sym (q .1))
     where
-      done : List ℕ → ℕ → Work
+      done : List ℕ → ℕ → Effect
       done plane retoned = record { plane = plane; retoned = retoned }

@@ -16,7 +16,8 @@ use Rattle.planes.proofs.Tests.{decide, or-cases, or-left, or-right, or-none, s
 use Rattle.planes.proofs.Counts.{keep-same}
 use Rattle.model.specs.declared.Pass.{Pass}
 use Rattle.model.specs.Runs.{run, runCount, All}
-use Rattle.model.specs.Published.{Work, Procedure, member, between, amid, forEach}
+use Rattle.model.specs.Effects.{Effect}
+use Rattle.model.specs.Published.{Procedure, member, between, amid, forEach}
 use Rattle.model.specs.Published.{Reordered, empty, behind, swap, twice}
 use Rattle.model.proofs.Sets.{member-keep, pixelsOf, Separate, separate-turn, part, heads, part-self, part-of}
 use Rattle.model.proofs.Sets.{part-set, part-joined, parts-separate, anyOf, any-reordered, any-out, any-in}
@@ -27,7 +28,7 @@ use Rattle.model.proofs.Pieces.{Does, idle-does, Piece, piece-same}
 -- sections in [a, b]
 pub record Performs (near : Near) (area : ℕ) (f : Procedure) (ss : List Pass) (a b : ℕ) : Type 0 where
   pub fits : All (InRange a b area) ss
-  pub does : (n : ℕ) (A : ℕ → Bool) (t : Work) (m : List ℕ) → Shows n a b A (t .plane) m
+  pub does : (n : ℕ) (A : ℕ → Bool) (t : Effect) (m : List ℕ) → Shows n a b A (t .plane) m
       → Piece near n a b A (t .plane) → area ≤ count A (from 0 n) → Does near n A ss m t (f a b (pixelsOf n A) t)
 
 -- ## Separate pieces
@@ -88,7 +89,7 @@ patches-reordered symm (twice r q) P = patches-reordered symm q (patches-reorder
 module _ (near : Near) (symm : (i j : ℕ) → near i j ≡ near j i) (area : ℕ) (f : Procedure) (ss : List Pass) (a b : ℕ)
     (T : Performs near area f ss a b) (n : ℕ) where
   -- a set is treated, or left where it is too small
-  patch-does : (S : List ℕ) (t : Work) → length (t .plane) ≡ n → Patch near n a b (t .plane) S
+  patch-does : (S : List ℕ) (t : Effect) → length (t .plane) ≡ n → Patch near n a b (t .plane) S
       → Does near n (member S) ss (shown n b (member S) (t .plane)) t (cond (leb area (length S)) (f a b S t) t)
   patch-does S t size P = go (leb area (length S)) refl
     where
@@ -110,7 +111,7 @@ module _ (near : Near) (symm : (i j : ℕ) → near i j ≡ near j i) (area : �
           (T .fits)
 
   -- one set, and then another that is separate from it
-  join-does : (A B : ℕ → Bool) → Separate near n A B → (t t₁ t₂ : Work) (q : List ℕ)
+  join-does : (A B : ℕ → Bool) → Separate near n A B → (t t₁ t₂ : Effect) (q : List ℕ)
       → Shows n a b (λ x. A x || B x) (t .plane) q
       → Does near n A ss (shown n b A (t .plane)) t t₁ → Does near n B ss (shown n b B (t .plane)) t₁ t₂
       → Does near n (λ x. A x || B x) ss q t t₂
@@ -145,13 +146,13 @@ module _ (near : Near) (symm : (i j : ℕ) → near i j ≡ near j i) (area : �
         | inr d ↦ E .on x hx d ∙ parts .0 .other .on x hx d
       ]
 
-  pub for-each-does : (Ss : List (List ℕ)) (t : Work) (q : List ℕ) → Patches near n a b (t .plane) Ss
+  pub for-each-does : (Ss : List (List ℕ)) (t : Effect) (q : List ℕ) → Patches near n a b (t .plane) Ss
       → Shows n a b (anyOf Ss) (t .plane) q → Does near n (anyOf Ss) ss q t (forEach area (f a b) Ss t)
   unfolding forEach anyOf
   for-each-does [] t q none S =
       idle-does near symm n (λ x. false) S (λ x hx u. absurd (false≢true u)) ss (T .fits)
   for-each-does (S ∷ Ss) t q (more P w rest) shows =
-      let t₁ : Work = cond (leb area (length S)) (f a b S t) t in
+      let t₁ : Effect = cond (leb area (length S)) (f a b S t) t in
       let D = patch-does S t (shows .whole) P in
       let same : (x : ℕ) → x < n → anyOf Ss x ≡ true → at (t₁ .plane) x ≡ at (t .plane) x =
       λ x hx u. D .off x hx (separate-turn symm w .disjoint x hx u) in

@@ -2,7 +2,6 @@
 -- to 5 of the published account, under the names that they have there. A set of pixels is the list of them in reading
 -- order. Definitions only.
 --
---   Work         the plane as it stands, and the number of components retoned so far
 --   Procedure    what is done with a set of pixels in a section [a, b]
 --   Arrangement  the order in which the components of a level set are treated; Algorithm 4 leaves it open
 --   publishedIn  all pixels, treated by Algorithm 2 in [0, 255], with the levels 0 to `last`
@@ -25,14 +24,11 @@ use Rattle.planes.specs.Lists.{from, keep, at}
 use Rattle.planes.specs.Neighbours.{Near, linked, component, first}
 use Rattle.tones.specs.declared.Rule.{Rule}
 use Rattle.tones.specs.Tones.{tone, kept}
+use Rattle.model.specs.Effects.{Effect}
 
-pub record Work : Type 0 where
-  pub plane : List ℕ
-  pub retoned : ℕ
-
--- by the ends a and b and the set, from the work so far to the work after it
+-- by the ends a and b and the set, from the effect so far to the effect after it
 abbrev pub Procedure : Type 0
-Procedure = ℕ → ℕ → List ℕ → Work → Work
+Procedure = ℕ → ℕ → List ℕ → Effect → Effect
 
 -- ## Sets of pixels
 
@@ -66,7 +62,7 @@ painted f S p = map (λ i. cond (member S i) (f (at p i)) (at p i)) (from 0 (len
 unfoldable pub histogramEqualization : Rule → Procedure
 histogramEqualization rule a b S t =
     let vs = map (at (t .plane)) S in
-    let new : Work = record { plane = painted (tone rule a b vs) S (t .plane); retoned = t .retoned + 1 } in
+    let new : Effect = record { plane = painted (tone rule a b vs) S (t .plane); retoned = t .retoned + 1 } in
     cond (kept rule a b vs) t new
 
 -- ## Orders of components
@@ -92,7 +88,7 @@ Reorders arrange = (a b : ℕ) (Ss : List (List ℕ)) → Reordered Ss (arrange 
 -- ## Recursion
 
 -- f on each set that has the least area, one after the other, on the plane as it then stands
-unfoldable pub forEach : ℕ → (List ℕ → Work → Work) → List (List ℕ) → Work → Work
+unfoldable pub forEach : ℕ → (List ℕ → Effect → Effect) → List (List ℕ) → Effect → Effect
 forEach area f [] t = t
 forEach area f (S ∷ Ss) t =
     let treated = f S t in
@@ -116,12 +112,12 @@ module _ (arrange : Arrangement) (near : Near) (area : ℕ) where
       processLevelSet (recursiveHistogramEqualization rule levels) (mid + 1) b S lower
 
 -- level 0 has no area test
-unfoldable pub publishedIn : Arrangement → Near → ℕ → ℕ → Rule → List ℕ → Work
+unfoldable pub publishedIn : Arrangement → Near → ℕ → ℕ → Rule → List ℕ → Effect
 publishedIn arrange near last area rule p =
     recursiveHistogramEqualization arrange near area rule last 0 255 (from 0 (length p))
     (record { plane = p; retoned = 0 })
 
-abbrev pub published : Near → ℕ → ℕ → Rule → List ℕ → Work
+abbrev pub published : Near → ℕ → ℕ → Rule → List ℕ → Effect
 published = publishedIn readingOrder
 
 -- ## Planes

@@ -19,13 +19,14 @@ use Rattle.planes.specs.Neighbours.{Near, four}
 use Rattle.tones.specs.declared.Rule.{Rule}
 use Rattle.tones.specs.declared.Rule.the-variants.{Plain}
 use Rattle.tones.specs.Tones.{kept}
-use Rattle.model.specs.Published.{Work, Procedure, levelSet, connectedComponents, painted}
+use Rattle.model.specs.Effects.{Effect}
+use Rattle.model.specs.Published.{Procedure, levelSet, connectedComponents, painted}
 use Rattle.model.specs.Published.{histogramEqualization, readingOrder, forEach, processLevelSet, published}
 use Rattle.model.specs.PublishedExamples.{anyRatio, grey}
 
 -- ## The wrong turns
 
-abbrev pub untouched : List ℕ → Work
+abbrev pub untouched : List ℕ → Effect
 untouched p = record { plane = p; retoned = 0 }
 
 -- `equalization` is the procedure for a set, and `half` makes the one for a half of the recursion with one level less
@@ -38,21 +39,21 @@ recursionBy equalization half (suc levels) a b S t =
     half (recursionBy equalization half levels) (mid + 1) b S lower
 
 -- the halves are those of the first plane, not of the plane as it stands
-unfoldable pub originalTones : Near → ℕ → ℕ → Rule → List ℕ → Work
+unfoldable pub originalTones : Near → ℕ → ℕ → Rule → List ℕ → Effect
 originalTones near last area rule p =
     let half : Procedure → Procedure = λ next a b S t.
     forEach area (next a b) (connectedComponents near (length p) (levelSet a b p S)) t in
     recursionBy (histogramEqualization rule) half last 0 255 (from 0 (length p)) (untouched p)
 
 -- a half is treated as one set, connected or not
-unfoldable pub oneHistogram : ℕ → ℕ → Rule → List ℕ → Work
+unfoldable pub oneHistogram : ℕ → ℕ → Rule → List ℕ → Effect
 oneHistogram last area rule p =
     let half : Procedure → Procedure = λ next a b S t.
     forEach area (next a b) (levelSet a b (t .plane) S ∷ []) t in
     recursionBy (histogramEqualization rule) half last 0 255 (from 0 (length p)) (untouched p)
 
 -- a plane of less than the least area is not treated
-unfoldable pub areaTest : Near → ℕ → ℕ → Rule → List ℕ → Work
+unfoldable pub areaTest : Near → ℕ → ℕ → Rule → List ℕ → Effect
 areaTest near last area rule p = cond (leb area (length p)) (published near last area rule p) (untouched p)
 
 -- a set that is kept back is not split
@@ -65,7 +66,7 @@ stopRecursion near area rule (suc levels) a b S t =
     let split = processLevelSet readingOrder near area (stopRecursion near area rule levels) (mid + 1) b S lower in
     cond (kept rule a b (map (at (t .plane)) S)) t split
 
-unfoldable pub stopAtKept : Near → ℕ → ℕ → Rule → List ℕ → Work
+unfoldable pub stopAtKept : Near → ℕ → ℕ → Rule → List ℕ → Effect
 stopAtKept near last area rule p = stopRecursion near area rule last 0 255 (from 0 (length p)) (untouched p)
 
 -- x / m to nearest, halves to the even neighbour
@@ -76,7 +77,7 @@ roundedEven x m =
     cond (ltb r m) q (cond (ltb m r) (q + 1) (q + q % 2))
 
 -- the plain rule with nothing kept back, on level 0
-unfoldable pub halvesToEven : List ℕ → Work
+unfoldable pub halvesToEven : List ℕ → Effect
 halvesToEven p =
     let new : ℕ → ℕ = λ v. roundedEven (255 * count (λ x. leb x v) p) (length p) in
     record { plane = painted new (from 0 (length p)) p; retoned = 1 }
@@ -84,7 +85,7 @@ halvesToEven p =
 -- ## Examples
 
 -- the recursion leaves the plane q and retones k components; the wrong turn leaves the plane q′ and retones k′
-pub record Turned (right wrong : Work) (q : List ℕ) (k : ℕ) (q′ : List ℕ) (k′ : ℕ) : Type 0 where
+pub record Turned (right wrong : Effect) (q : List ℕ) (k : ℕ) (q′ : List ℕ) (k′ : ℕ) : Type 0 where
   pub published-is : right ≡ record { plane = q; retoned = k }
   pub wrong-is : wrong ≡ record { plane = q′; retoned = k′ }
 
