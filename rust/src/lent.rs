@@ -1,5 +1,6 @@
 //! The calls on memory that the caller lends, with nothing allocated: one safe function for each C function. What is
-//! too short or does not fit is refused, and a refused call changes nothing.
+//! too short or does not fit is refused, and a refused call changes nothing. What the crate's page says is guaranteed is
+//! guaranteed of the plane.
 //!
 //! A plane has w columns and h rows, each 1 to 4,096, and n = w × h bytes, at most 1,048,576; a frame has 3 × n bytes,
 //! red, green, blue. Marks and queue are working memory of at least n elements with any content; the first n elements
@@ -129,8 +130,9 @@ pub fn recolour(frame: &[u8], w: usize, h: usize, plane: &[u8], output: &mut [u8
     Refusal::of_answer(answer).map(|_| ())
 }
 
-/// Enhances a frame: the new intensity is left in the plane and the recoloured frame in the output. Answers the number
-/// of retoned components, on all levels. Refusals, in order: 1, 2, 3, 4, 14, 9, 6, 7, 8.
+/// Enhances a frame: the new intensity is left in the plane and the recoloured frame in the output. The guarantee is of
+/// the plane, not of the output's own intensity. Answers the number of retoned components, on all levels. Refusals, in
+/// order: 1, 2, 3, 4, 14, 9, 6, 7, 8.
 #[allow(clippy::too_many_arguments)]
 pub fn enhance(
     frame: &[u8],

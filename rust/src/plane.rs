@@ -3,7 +3,8 @@
 use crate::{lent, Memory, Pass, PassList, Refusal};
 
 /// A plane: w columns and h rows of values, row by row, left to right. Its sides are 1 to 4,096, and it has at most
-/// 1,048,576 pixels.
+/// 1,048,576 pixels. Passes never reverse two four-neighbours of it, part equal ones, or invent a regional maximum or
+/// minimum, however many of them run.
 #[derive(Clone, Debug, PartialEq, Eq, Hash)]
 pub struct Plane {
     w: usize,
