@@ -1,6 +1,6 @@
 //! The calls on memory that the caller lends, with nothing allocated: one safe function for each C function. What is
-//! too short or does not fit is refused, and a refused call changes nothing. What the crate's page says is guaranteed is
-//! guaranteed of the plane.
+//! too short or does not fit is refused, and a refused call changes nothing. What is guaranteed is guaranteed of the
+//! plane, as the crate's page says.
 //!
 //! A plane has w columns and h rows, each 1 to 4,096, and n = w × h bytes, at most 1,048,576; a frame has 3 × n bytes,
 //! red, green, blue. Marks and queue are working memory of at least n elements with any content; the first n elements
