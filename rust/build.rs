@@ -1,8 +1,7 @@
 //! Finds the static library, or builds it with `rt staticlib capi`, which proves every crate under it first. Offline.
 //!
 //! - `MLHE_LIBRARY` names a library that is there, `path/to/libcapi.a`: it is linked as it is.
-//! - Otherwise `rt staticlib capi` runs in the repository; crates below `capi` that are unchanged since they were proved
-//!   are not proved again.
+//! - Otherwise `rt staticlib capi` runs in the repository; what is unchanged since it was proved is not proved again.
 //! - Where there is no `rt`, `target/staticlib/libcapi.a` of the repository is linked, if it is there.
 
 use std::env;
