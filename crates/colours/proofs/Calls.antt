@@ -3,38 +3,22 @@
 use Prim.Native.Nat.{ℕ, zero, suc, _*_, _≤_}
 use mathlib.Core.Path.{_≡_, refl, sym, ap, _∙_}
 use mathlib.Core.Bool.{not, _||_}
-use mathlib.Core.List.{List}
+use mathlib.Core.List.{List, [], _++_}
 use native.Mathlib.Omega.{arith}
 use lib.Dec.{ltb, eqb}
 use lib.ListN.{length, drop}
-use lib.Seq.{take-at, drop-at}
 use borrow.Author.Tests.{eqb-true, ltb-false, le-ltb, not-false}
 use Rattle.planes.specs.Refusals.{when, _▷_, sizeRefusal, greatestPixels}
 use Rattle.planes.proofs.Refusals.{when-none, ▷-none, sized}
+use Rattle.planes.specs.Replies.{Reply, gives, replied, after, overwritten}
+use Rattle.planes.proofs.Replies.{replied-gives, replied-refused, after-refused}
 use Rattle.planes.proofs.Tests.{or-none}
 use Rattle.colours.specs.declared.Status.the-variants.{Done, Refused}
 use Rattle.colours.specs.Frames.{intensity, recolour}
-use Rattle.colours.specs.Calls.{intensityRefusal, recolourRefusal, Accepted, answered}
+use Rattle.colours.specs.Calls.{intensityRefusal, recolourRefusal, Accepted, statusReply}
 use Rattle.colours.specs.Calls.{IntensityOutcome, RecolourOutcome}
 use Rattle.colours.specs.Steps.{withFrame}
 use Rattle.colours.proofs.Frames.{length-intensity, length-recolour}
-
--- ## Answers
-
--- done stands for 0 alone
-pub answered-done : (k : ℕ) → Done ≡ answered k → k ≡ 0
-answered-done zero e = refl
-answered-done (suc k) e = cc
-
-answered-refused : (k : ℕ) → (k ≡ 0 → ⊥) → answered k ≡ Refused k
-answered-refused zero h = absurd (h refl)
-answered-refused (suc k) h = refl
-
-not-done : {k : ℕ} → Refused k ≡ Done → ⊥
-not-done {k} e = let z : _≡_ {A = ℕ} 0 1 = cc in omega arith
-
-not-refused : {k : ℕ} → Done ≡ Refused k → ⊥
-not-refused {k} e = let z : _≡_ {A = ℕ} 0 1 = cc in omega arith
 
 -- ## Refusals
 
@@ -66,57 +50,69 @@ recolour-accepts w h frame plane output e room = simp (e, le-ltb output (3 * (w 
 
 -- ## Outcomes
 
-module _ (w h : ℕ) (frame plane : List ℕ) where
-  pub intensity-refused : (k : ℕ) → (k ≡ 0 → ⊥) → k ≡ intensityRefusal w h (length frame) (length plane)
-      → IntensityOutcome w h frame plane (Refused k) plane
-  intensity-refused k some e =
-      record {
-        answer = sym (answered-refused k some) ∙ ap answered e;
-        filled = λ d. absurd (not-done d);
-        refused = λ j r. refl;
-      }
+-- a status that stands for no refusal is done, and gives no values
+pub done-reply : (number : ℕ) → number ≡ 0 → statusReply Done ≡ replied number []
+done-reply number e = ap (λ (k : ℕ). replied k []) (sym e)
 
-  pub intensity-done : {plane' : List ℕ} → intensityRefusal w h (length frame) (length plane) ≡ 0
-      → plane' ≡ intensity frame → IntensityOutcome w h frame plane Done plane'
-  intensity-done e filled =
-      record {
-        answer = ap answered (sym e);
-        filled = λ d. filled;
-        refused = λ j r. absurd (not-refused r);
-      }
+module _ (w h : ℕ) (frame plane : List ℕ) where
+  abbrev filling : ℕ
+  filling = intensityRefusal w h (length frame) (length plane)
+
+  pub intensity-refused : (k : ℕ) → (k ≡ 0 → ⊥) → k ≡ filling
+      → IntensityOutcome w h frame plane (statusReply (Refused k)) plane
+  intensity-refused k some e = record {
+    answer = sym (replied-refused k [] some) ∙ ap (λ (j : ℕ). replied j []) e;
+    plane-is = sym (after-refused k plane (intensity frame) some) ∙ ap (λ (j : ℕ). after j plane (intensity frame)) e;
+  }
+
+  pub intensity-done : {plane' : List ℕ} → filling ≡ 0 → plane' ≡ intensity frame
+      → IntensityOutcome w h frame plane (statusReply Done) plane'
+  intensity-done e filled = record {
+    answer = done-reply filling e;
+    plane-is = filled ∙ ap (λ (j : ℕ). after j plane (intensity frame)) (sym e);
+  }
+
+  -- a call that gives its values was not refused, and filled the plane
+  pub intensity-given : {vs plane' : List ℕ} → IntensityOutcome w h frame plane (gives vs) plane'
+      → (filling ≡ 0) × (plane' ≡ intensity frame)
+  intensity-given o =
+      let none = replied-gives filling [] (sym (o .answer)) .0 in
+      (none, o .plane-is ∙ ap (λ (j : ℕ). after j plane (intensity frame)) none)
 
   -- a plane that was filled has one byte for each pixel
-  pub filled-length : {plane' : List ℕ} → IntensityOutcome w h frame plane Done plane' → length plane' ≡ w * h
+  pub filled-length : {vs plane' : List ℕ} → IntensityOutcome w h frame plane (gives vs) plane' → length plane' ≡ w * h
   filled-length o =
-      let none = answered-done _ (o .answer) in
-      let accepted = intensity-accepted w h (length frame) (length plane) none in
-      rw (o .filled refl) (omega (arith, length-intensity frame, accepted .channels))
+      let filled = intensity-given o in
+      let accepted = intensity-accepted w h (length frame) (length plane) (filled .0) in
+      rw (filled .1) (omega (arith, length-intensity frame, accepted .channels))
 
 module _ (w h : ℕ) (frame plane output : List ℕ) where
-  pub recolour-refused : (k : ℕ) → (k ≡ 0 → ⊥)
-      → k ≡ recolourRefusal w h (length frame) (length plane) (length output)
-      → RecolourOutcome w h frame plane output (Refused k) output
-  recolour-refused k some e =
-      record {
-        answer = sym (answered-refused k some) ∙ ap answered e;
-        written = λ d. absurd (not-done d);
-        beyond = λ d. absurd (not-done d);
-        refused = λ j r. refl;
-      }
+  abbrev colouring : ℕ
+  colouring = recolourRefusal w h (length frame) (length plane) (length output)
 
-  pub recolour-done : {output' : List ℕ} → recolourRefusal w h (length frame) (length plane) (length output) ≡ 0
-      → output' ≡ withFrame frame plane output → RecolourOutcome w h frame plane output Done output'
-  recolour-done {output'} e stored =
-      let n = w * h in
-      let new = recolour frame plane in
-      let accepted = recolour-accepted w h (length frame) (length plane) (length output) e in
-      let channels = accepted .0 .channels in
-      let long : length new ≡ 3 * n = length-recolour frame plane ∙ channels in
-      let first = take-at new (drop (length frame) output) (3 * n) long in
-      let rest = drop-at new (drop (length frame) output) (3 * n) long in
-      record {
-        answer = ap answered (sym e);
-        written = λ d. rw stored first;
-        beyond = λ d. rw stored (rest ∙ ap (λ (k : ℕ). drop k output) channels);
-        refused = λ j r. absurd (not-refused r);
-      }
+  abbrev coloured : List ℕ
+  coloured = overwritten output (recolour frame plane)
+
+  pub recolour-refused : (k : ℕ) → (k ≡ 0 → ⊥) → k ≡ colouring
+      → RecolourOutcome w h frame plane output (statusReply (Refused k)) output
+  recolour-refused k some e = record {
+    answer = sym (replied-refused k [] some) ∙ ap (λ (j : ℕ). replied j []) e;
+    output-is = sym (after-refused k output coloured some) ∙ ap (λ (j : ℕ). after j output coloured) e;
+  }
+
+  pub recolour-done : {output' : List ℕ} → colouring ≡ 0 → output' ≡ withFrame frame plane output
+      → RecolourOutcome w h frame plane output (statusReply Done) output'
+  recolour-done e stored = record {
+    answer = done-reply colouring e;
+    output-is = stored
+        ∙ ap (λ (k : ℕ). recolour frame plane ++ drop k output) (sym (length-recolour frame plane))
+        ∙ ap (λ (j : ℕ). after j output coloured) (sym e);
+  }
+
+  -- what a call that was not refused leaves: the recoloured frame, and beyond it what was there
+  pub recolour-given : {reply : Reply} {output' : List ℕ} → colouring ≡ 0
+      → RecolourOutcome w h frame plane output reply output' → (reply ≡ gives []) × (output' ≡ coloured)
+  recolour-given none o = (
+    o .answer ∙ ap (λ (j : ℕ). replied j []) none,
+    o .output-is ∙ ap (λ (j : ℕ). after j output coloured) none,
+  )

@@ -3,16 +3,17 @@
 --
 --   intensityRefusal   the number of the first refusal that applies, of 1, 2, 3; 0 where none does
 --   recolourRefusal    the same, of 1, 2, 3, 14
---   answered           the answer for a refusal's number
+--   statusReply        the reply of each case of a status
 --   IntensityOutcome   the contract of `intensity`
 --   RecolourOutcome    the contract of `recolour`
-use Prim.Native.Nat.{ℕ, zero, suc, _*_}
+use Prim.Native.Nat.{ℕ, _*_}
 use mathlib.Core.Path.{_≡_}
 use mathlib.Core.Bool.{not, _||_}
-use mathlib.Core.List.{List}
+use mathlib.Core.List.{List, []}
 use lib.Dec.{ltb, eqb}
-use lib.ListN.{length, take, drop}
+use lib.ListN.{length}
 use Rattle.planes.specs.Refusals.{when, _▷_, sizeRefusal, greatestPixels, Sized}
+use Rattle.planes.specs.Replies.{Reply, refuses, gives, replied, after, overwritten}
 use Rattle.colours.specs.Frames.{intensity, recolour}
 use Rattle.colours.specs.declared.Status.{Status}
 use Rattle.colours.specs.declared.Status.the-variants.{Done, Refused}
@@ -36,27 +37,22 @@ pub record Accepted (w h frame plane : ℕ) : Type 0 where
 
 -- ## Answers
 
--- the answer for a refusal's number, 0 where there is none
-abbrev pub answered : ℕ → Status
-answered zero = Done
-answered (suc k) = Refused (suc k)
+-- the requirements' number for each case; a status that is done gives no values
+abbrev pub statusReply : Status → Reply
+statusReply (Refused k) = refuses k
+statusReply Done = gives []
 
 -- ## Contracts
 
--- a call that is lent a frame and a plane answers r and leaves plane'
-pub record IntensityOutcome (w h : ℕ) (frame plane : List ℕ) (r : Status) (plane' : List ℕ) : Type 0 where
-  pub answer : r ≡ answered (intensityRefusal w h (length frame) (length plane))
-  -- the plane holds the frame's intensities
-  pub filled : r ≡ Done → plane' ≡ intensity frame
-  -- no byte is changed
-  pub refused : (k : ℕ) → r ≡ Refused k → plane' ≡ plane
+-- a call that is lent a frame and a plane answers, and leaves plane': the frame's intensities, unless it is refused
+pub record IntensityOutcome (w h : ℕ) (frame plane : List ℕ) (reply : Reply) (plane' : List ℕ) : Type 0 where
+  pub answer : reply ≡ replied (intensityRefusal w h (length frame) (length plane)) []
+  pub plane-is : plane' ≡ after (intensityRefusal w h (length frame) (length plane)) plane (intensity frame)
 
--- a call that is lent a frame, the plane of its new intensities and an output answers r and leaves output'
-pub record RecolourOutcome (w h : ℕ) (frame plane output : List ℕ) (r : Status) (output' : List ℕ) : Type 0 where
-  pub answer : r ≡ answered (recolourRefusal w h (length frame) (length plane) (length output))
-  -- the first 3 × n bytes of the output are the recoloured frame
-  pub written : r ≡ Done → take (3 * (w * h)) output' ≡ recolour frame plane
-  -- the bytes beyond stay, and so does the length
-  pub beyond : r ≡ Done → drop (3 * (w * h)) output' ≡ drop (3 * (w * h)) output
-  -- no byte is changed
-  pub refused : (k : ℕ) → r ≡ Refused k → output' ≡ output
+-- a call that is lent a frame, the plane of its new intensities and an output answers, and leaves output': the first
+-- 3 × n bytes are the recoloured frame and those beyond stay, unless it is refused
+pub record RecolourOutcome (w h : ℕ) (frame plane output : List ℕ) (reply : Reply) (output' : List ℕ) : Type 0 where
+  pub answer : reply ≡ replied (recolourRefusal w h (length frame) (length plane) (length output)) []
+  pub output-is : output'
+      ≡ after (recolourRefusal w h (length frame) (length plane) (length output)) output
+      (overwritten output (recolour frame plane))

@@ -11,7 +11,7 @@ ghost use Prim.Native.Nat.{_+_, _*_, _<_, max};
 ghost use lib.ListN.{length};
 ghost use Rattle.planes.specs.Rounding.{rounded};
 ghost use Rattle.colours.specs.Frames.{third, thirds, intensity};
-ghost use Rattle.colours.specs.Calls.{intensityRefusal, recolourRefusal, IntensityOutcome, RecolourOutcome};
+ghost use Rattle.colours.specs.Calls.{statusReply, intensityRefusal, recolourRefusal, IntensityOutcome, RecolourOutcome};
 ghost use Rattle.colours.specs.Steps.{Scales, Inverses, Quotient, Fitting, withPixel, withFrame};
 
 mod table;
@@ -71,7 +71,8 @@ pub fn intensity_refusal(w: usize, h: usize, frame: usize, plane: usize) -> u8
 
 // Fills the plane with the intensities of the frame.
 pub fn intensity(frame: &[u8], w: usize, h: usize, plane: &mut [u8]) -> Status
-    ensures { λ r. ⌜ IntensityOutcome w h (now (frame .entry)) (now (plane .entry)) r (now (plane .exit)) ⌝ }
+    ensures { λ r. ⌜ IntensityOutcome w h (now (frame .entry)) (now (plane .entry)) (statusReply r)
+        (now (plane .exit)) ⌝ }
 {
     let refusal = intensity_refusal(w, h, frame.len(), plane.len());
     if refusal != 0 {
@@ -211,7 +212,8 @@ fn recolour_refusal(w: usize, h: usize, frame: usize, plane: usize, output: usiz
 
 // Writes the frame, recoloured from the new intensities in the plane, to the first bytes of the output.
 pub fn recolour(frame: &[u8], w: usize, h: usize, plane: &[u8], output: &mut [u8]) -> Status
-    ensures { λ r. ⌜ RecolourOutcome w h (now (frame .entry)) (now (plane .entry)) (now (output .entry)) r (now (output .exit)) ⌝ }
+    ensures { λ r. ⌜ RecolourOutcome w h (now (frame .entry)) (now (plane .entry)) (now (output .entry))
+        (statusReply r) (now (output .exit)) ⌝ }
 {
     let refusal = recolour_refusal(w, h, frame.len(), plane.len(), output.len());
     if refusal != 0 {

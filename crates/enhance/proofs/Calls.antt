@@ -1,5 +1,5 @@
--- What an accepted enhancement has, its outcome by the number of its refusal, and that the recursion ends as the list
--- of passes level by level, each of which is accepted. Assumes nothing.
+-- What an accepted enhancement has, that the recursion ends as the list of passes level by level, each of which is
+-- accepted, and what intensity, the recursion and recolouring come to. Assumes nothing.
 use Prim.Native.Nat.{ℕ, zero, suc, _+_, _-_, _*_, _^_, _≤_, _<_}
 use mathlib.Core.Path.{_≡_, refl, sym, ap, ap₂, _∙_}
 use mathlib.Core.Bool.{Bool, true, false, _||_}
@@ -9,31 +9,26 @@ use lib.ListN.{length, take, drop}
 use lib.Pow.{pow-pos}
 use lib.Dec.{ltb, eqb}
 use borrow.Author.Tests.{le-ltb, eq-eqb, ne-eqb, ltb-false, eqb-false}
-use Rattle.planes.specs.Lists.{from, Beyond}
+use Rattle.planes.specs.Lists.{from}
 use Rattle.planes.specs.Refusals.{when, _▷_, sizeRefusal, greatestPixels, Sized}
+use Rattle.planes.specs.Replies.{Reply, after, overwritten}
 use Rattle.planes.specs.Neighbours.{four}
 use Rattle.planes.proofs.Tests.{or-none}
-use Rattle.planes.proofs.Lists.{beyond-refl}
 use Rattle.planes.proofs.Refusals.{when-none, ▷-none, ▷-right, sized-none}
 use Rattle.tones.specs.declared.Rule.{Rule}
 use Rattle.colours.specs.Frames.{intensity, recolour}
-use Rattle.colours.specs.declared.Status.{Status}
 use Rattle.colours.specs.Calls.{intensityRefusal, Accepted, IntensityOutcome, RecolourOutcome}
-use Rattle.colours.specs.Calls as colours
-use Rattle.colours.proofs.Calls.{intensity-accepted, recolour-accepts}
+use Rattle.colours.proofs.Calls.{intensity-accepted, recolour-accepts, recolour-given}
 use Rattle.model.specs.declared.Pass.{Pass}
-use Rattle.model.specs.declared.Answer.{Answer}
-use Rattle.model.specs.declared.Answer.the-variants.{Refused, Done}
 use Rattle.model.specs.Calls.{planeRefusal, roomRefusal, areaRefusal, ruleRefusal, numbersRefusal, lentRefusal, Lent}
-use Rattle.model.specs.Calls.{passRefusal, answered, planeAfter, total}
+use Rattle.model.specs.Calls.{passRefusal, total}
 use Rattle.model.specs.Runs.{All, none, more}
 use Rattle.model.specs.Enhancement.{section, level, levels, passes, callOf, enhanced}
 use Rattle.model.proofs.Recursion.{all-append}
 use Rattle.model.proofs.Enhancement.{enhanced-recursion}
 use Rattle.enhance.specs.declared.Settings.{Settings}
 use Rattle.enhance.specs.Recursion.{Ready, Run}
-use Rattle.enhance.specs.Calls.{settingsRefusal, memoryRefusal, enhanceRefusal, chainOf, Enhanced, refusalOf}
-use Rattle.enhance.specs.Calls.{EnhanceOutcome}
+use Rattle.enhance.specs.Calls.{settingsRefusal, memoryRefusal, enhanceRefusal, chainOf, Enhances}
 
 -- ## What is accepted
 
@@ -138,53 +133,27 @@ as-listed {w} {h} {t = t} {plane} size last whole area rule R =
 
 -- intensity, the recursion and recolouring, one after the other
 pub in-turn : {w h r : ℕ} {t : Settings} {frame plane marks queue output plane₁ plane' marks' queue' output' : List ℕ}
-    {first second : Status} → Fine w h (length frame) (length plane) (length marks) (length queue) (length output) t
+    {first second : Reply} → Fine w h (length frame) (length plane) (length marks) (length queue) (length output) t
     → length plane₁ ≡ length plane → length plane' ≡ length plane₁ → IntensityOutcome w h frame plane first plane₁
     → Run w h t plane₁ marks queue plane' marks' queue' r → RecolourOutcome w h frame plane' output second output'
-    → Enhanced w h t frame marks queue output r plane' marks' queue' output'
+    → Enhances w h t frame marks queue output r plane' marks' queue' output'
 in-turn {w} {h} {r} {t} {frame} {plane} {output = output} {plane₁} {plane'} F len₁ len I R C =
     let whole : length plane₁ ≡ w * h = len₁ ∙ F .given .pixels in
-    let intensities : plane₁ ≡ intensity frame = I .filled (I .answer ∙ ap colours.answered (F .shape)) in
+    let intensities : plane₁ ≡ intensity frame =
+    I .plane-is ∙ ap (λ (k : ℕ). after k plane (intensity frame)) (F .shape) in
     let chain = as-listed (F .given .size) (F .ready .last) whole (F .area) (F .rule) R in
     let same : plane' ≡ chainOf w h t frame .plane =
     chain .0 ∙ ap (λ (p : List ℕ). enhanced w h p (t .last) (t .area) (t .rule) .plane) intensities in
     let accepts = recolour-accepts w h (length frame) (length plane') (length output)
     (ap (intensityRefusal w h (length frame)) (len ∙ len₁) ∙ F .shape) (F .room) in
-    let done = C .answer ∙ ap colours.answered accepts in
+    let written = recolour-given w h frame plane' output accepts C .1 in
     record {
-      plane-is = same;
-      count-is = chain .1
-          ∙ ap (λ (p : List ℕ). total (enhanced w h p (t .last) (t .area) (t .rule) .answers)) intensities;
-      written = C .written done ∙ ap (recolour frame) same;
-      beyond = C .beyond done;
-      marks-rest = R .rest .marks-rest;
-      queue-rest = R .rest .queue-rest;
+      over = record {
+        plane-is = same;
+        count-is = chain .1
+            ∙ ap (λ (p : List ℕ). total (enhanced w h p (t .last) (t .area) (t .rule) .answers)) intensities;
+        marks-rest = R .rest .marks-rest;
+        queue-rest = R .rest .queue-rest;
+      };
+      output-is = written ∙ ap (λ (p : List ℕ). overwritten output (recolour frame p)) same;
     }
-
-pub refused-by : {w h : ℕ} {t : Settings} {frame plane marks queue output : List ℕ} (x : ℕ)
-    → x ≡ refusalOf w h t frame plane marks queue output → (x ≡ 0 → ⊥)
-    → EnhanceOutcome w h t frame plane marks queue output (Refused x) plane marks queue output
-refused-by zero e f = absurd (f refl)
-refused-by {w} {h} {t} {frame} {plane} {marks} {queue} (suc x) e f = record {
-  answer = ap (λ (k : ℕ). answered k (total (chainOf w h t frame .answers))) e;
-  plane-is = ap (λ (k : ℕ). planeAfter k plane (chainOf w h t frame .plane)) e;
-  refused = λ k q. (refl, (refl, refl));
-  written = λ q. absurd (omega arith);
-  beyond = refl;
-  marks-rest = beyond-refl (w * h) marks;
-  queue-rest = beyond-refl (w * h) queue;
-}
-
-pub done-by : {w h r : ℕ} {t : Settings} {frame plane marks queue output plane' marks' queue' output' : List ℕ}
-    → refusalOf w h t frame plane marks queue output ≡ 0
-    → Enhanced w h t frame marks queue output r plane' marks' queue' output'
-    → EnhanceOutcome w h t frame plane marks queue output (Done r) plane' marks' queue' output'
-done-by {w} {h} {r} {t} {frame} {plane} z E = record {
-  answer = ap Done (E .count-is) ∙ ap (λ (k : ℕ). answered k (total (chainOf w h t frame .answers))) (sym z);
-  plane-is = E .plane-is ∙ ap (λ (k : ℕ). planeAfter k plane (chainOf w h t frame .plane)) (sym z);
-  refused = λ k q. absurd (omega arith);
-  written = λ q. E .written;
-  beyond = E .beyond;
-  marks-rest = E .marks-rest;
-  queue-rest = E .queue-rest;
-}

@@ -8,7 +8,9 @@ ghost use mathlib.Core.Path.{_≡_};
 ghost use mathlib.Core.Bool.{true, false};
 ghost use Prim.Native.Nat.{ℕ, _+_, _-_, _*_, _^_, _≤_, _<_};
 ghost use lib.ListN.{length};
-ghost use Rattle.enhance.specs.Calls.{settingsRefusal, memoryRefusal, enhanceRefusal, Enhanced, EnhanceOutcome};
+ghost use Rattle.model.specs.Outcomes.{answerReply};
+ghost use Rattle.enhance.specs.Calls.{house, settingsRefusal, memoryRefusal, enhanceRefusal};
+ghost use Rattle.enhance.specs.Calls.{Enhances, EnhanceOutcome};
 ghost use Rattle.enhance.specs.Recursion.{Deeper, NextIs, Ready, Due, Halves, Equalised, Halved, Run};
 use model::Answer;
 use model::Pass;
@@ -33,13 +35,13 @@ impl Settings {
     pub const HOUSE_HIGH: u16 = 300;
 
     pub fn new(last: u8, area: u32, rule: Rule) -> Self
-        ensures { λ r. ⌜ (r .last ≡ last) × ((r .area ≡ area) × (r .rule ≡ rule)) ⌝ }
+        ensures { λ r. ⌜ r ≡ record { last = last; area = area; rule = rule } ⌝ }
     {
         Self { last, area, rule }
     }
 
     pub fn house() -> Self
-        ensures { λ r. ⌜ (r .last ≡ 7) × ((r .area ≡ 20) × (r .rule ≡ Rule.Plain 80 300)) ⌝ }
+        ensures { λ r. ⌜ r ≡ house ⌝ }
     {
         let rule = Rule::Plain {
             low: Self::HOUSE_LOW,
@@ -337,7 +339,7 @@ fn enhance_frame(
 ) -> u32
     requires { ⌜ enhanceRefusal w h (length (now frame)) (length (now plane)) (length (now marks))
         (length (now queue)) (length (now output)) settings ≡ 0 ⌝ }
-    ensures { λ r. ⌜ Enhanced w h settings (now (frame .entry)) (now (marks .entry)) (now (queue .entry))
+    ensures { λ r. ⌜ Enhances w h settings (now (frame .entry)) (now (marks .entry)) (now (queue .entry))
         (now (output .entry)) r (now (plane .exit)) (now (marks .exit)) (now (queue .exit)) (now (output .exit))
         ⌝ }
 {
@@ -360,8 +362,8 @@ pub fn enhance(
     output: &mut [u8],
 ) -> Answer
     ensures { λ r. ⌜ EnhanceOutcome w h settings (now (frame .entry)) (now (plane .entry)) (now (marks .entry))
-        (now (queue .entry)) (now (output .entry)) r (now (plane .exit)) (now (marks .exit)) (now (queue .exit))
-        (now (output .exit)) ⌝ }
+        (now (queue .entry)) (now (output .entry)) (answerReply r) (now (plane .exit)) (now (marks .exit))
+        (now (queue .exit)) (now (output .exit)) ⌝ }
 {
     let refusal = refusal_of(
         w,

@@ -8,6 +8,7 @@ use lib.ListN.{length}
 use lib.Dec.{ltb, eqb}
 use borrow.Author.Tests.{ltb-false, eqb-true, not-false}
 use Rattle.planes.specs.Refusals.{when, sizeRefusal, greatestPixels}
+use Rattle.planes.specs.Replies.{after}
 use Rattle.planes.specs.Neighbours.{four}
 use Rattle.planes.specs.Order.{Keeps}
 use Rattle.planes.proofs.Tests.{or-none}
@@ -17,7 +18,7 @@ use Rattle.planes.proofs.Order.{keeps-refl, keeps-trans}
 use Rattle.model.specs.declared.Pass.{Pass}
 use Rattle.model.specs.Passes.{passed}
 use Rattle.model.specs.Calls.{planeRefusal, roomRefusal, numbersRefusal, lentRefusal, passRefusal}
-use Rattle.model.specs.Calls.{Lent, Call, State, planeAfter, call, chain}
+use Rattle.model.specs.Calls.{Lent, Call, State, call, chain}
 use Rattle.model.proofs.Order.{length-passed, passed-keeps}
 
 -- ## What an accepted call has
@@ -74,7 +75,7 @@ module _ (w h : ℕ) where
   call-fine s c = go (passRefusal w h (length (s .plane)) c) refl
     where
       go : (k : ℕ) → passRefusal w h (length (s .plane)) c ≡ k
-          → Fine w (s .plane) (planeAfter k (s .plane) (passed (four w) (c .pass) (s .plane)))
+          → Fine w (s .plane) (after k (s .plane) (passed (four w) (c .pass) (s .plane)))
       go zero e =
           let ab = ordered (c .pass) (accepted w h (length (s .plane)) c e .1) in
           record {

@@ -1,28 +1,32 @@
 -- The model's enhancement is the run of its passes, and so the recursion by sections. Assumes nothing.
 use Prim.Native.Nat.{ℕ, _+_, _*_, _≤_}
-use mathlib.Core.Path.{_≡_, refl, sym, ap, _∙_}
+use mathlib.Core.Path.{_≡_, refl, sym, ap, subst, _∙_}
 use mathlib.Core.List.{List, [], _∷_, _++_, map}
 use native.Mathlib.Nat.{zero-add, add-assoc, add-zero}
 use native.Mathlib.Omega.{arith}
 use lib.ListN.{length}
+use Rattle.planes.specs.Replies.{Reply, gives}
 use Rattle.planes.specs.Neighbours.{four}
 use Rattle.planes.proofs.Neighbours.{four-sym}
 use Rattle.tones.specs.declared.Rule.{Rule}
 use Rattle.model.specs.declared.Pass.{Pass}
-use Rattle.model.specs.declared.Answer.{Answer}
-use Rattle.model.specs.declared.Answer.the-variants.{Done}
 use Rattle.model.specs.Passes.{passed, passCount}
-use Rattle.model.specs.Calls.{Call, passRefusal, answerCount, total, State, start, call, chain}
+use Rattle.model.specs.Calls.{Call, passRefusal, replyCount, total, AllAccepted, none, more, State}
+use Rattle.model.specs.Calls.{start, call, chain}
 use Rattle.model.specs.Runs.{run, runCount, All, none, more}
 use Rattle.model.specs.Enhancement.{passes, callOf, enhanced, recursive}
 use Rattle.model.proofs.Order.{length-passed}
 use Rattle.model.proofs.Recursion.{recursion-listed}
 
-total-append : (xs ys : List Answer) → total (xs ++ ys) ≡ total xs + total ys
+total-append : (xs ys : List Reply) → total (xs ++ ys) ≡ total xs + total ys
 total-append [] ys = sym (zero-add (total ys))
 total-append (x ∷ xs) ys =
-    ap (answerCount x +_) (total-append xs ys)
-    ∙ sym (add-assoc (answerCount x) (total xs) (total ys))
+    ap (replyCount x +_) (total-append xs ys)
+    ∙ sym (add-assoc (replyCount x) (total xs) (total ys))
+
+accepted-more : {xs : List Reply} (values : List ℕ) → AllAccepted xs → AllAccepted (xs ++ (gives values ∷ []))
+accepted-more values none = more none
+accepted-more values (more a) = more (accepted-more values a)
 
 -- ## Chains of accepted calls
 
@@ -38,7 +42,7 @@ module _ (w h : ℕ) (of : Pass → Call) (same : (s : Pass) → of s .pass ≡ 
   abbrev after : State → Pass → State
   after s t = record {
     plane = passed (four w) t (s .plane);
-    answers = s .answers ++ (Done (passCount (four w) t (s .plane)) ∷ []);
+    answers = s .answers ++ (gives (passCount (four w) t (s .plane) ∷ []) ∷ []);
   }
 
   one : (s : State) (t : Pass) → length (s .plane) ≡ w * h → Taken t → call w h s (of t) ≡ after s t
@@ -56,10 +60,20 @@ module _ (w h : ℕ) (of : Pass → Call) (same : (s : Pass) → of s .pass ≡ 
       let r = chain-calls ss a next (length-passed (four w) (four-sym w) t (s .plane) ∙ l) in
       let sum : total (runs next ss .answers)
       ≡ total (s .answers) + (n + runCount (four w) ss (passed (four w) t (s .plane))) =
-      omega (arith, r .1, total-append (s .answers) (Done n ∷ [])) in (
+      omega (arith, r .1, total-append (s .answers) (gives (n ∷ []) ∷ [])) in (
         ap (λ (z : State). runs z ss .plane) (one s t l e) ∙ r .0,
         ap (λ (z : State). total (runs z ss .answers)) (one s t l e) ∙ sum,
       )
+
+  -- and all of them are accepted
+  pub chain-taken : (ss : List Pass) → All Taken ss → (s : State) → length (s .plane) ≡ w * h → AllAccepted (s .answers)
+      → AllAccepted (runs s ss .answers)
+  unfolding chain
+  chain-taken [] none s l a = a
+  chain-taken (t ∷ ss) (more e rest) s l a =
+      let next = after s t in
+      subst (λ (z : State). AllAccepted (runs z ss .answers)) (sym (one s t l e))
+      (chain-taken ss rest next (length-passed (four w) (four-sym w) t (s .plane) ∙ l) (accepted-more _ a))
 
 -- ## The enhancement
 
@@ -73,7 +87,14 @@ module _ (w h : ℕ) where
   unfolding callOf
   chain-runs = chain-calls w h (callOf (w * h)) (λ s. refl)
 
-  -- an enhancement whose passes are all accepted: the recursion's plane and sum
+  -- in an enhancement whose passes are all accepted, all calls are
+  pub enhanced-accepted : (last area : ℕ) (rule : Rule) (p : List ℕ) → length p ≡ w * h
+      → All Accepted (passes last area rule) → AllAccepted (enhanced w h p last area rule .answers)
+  unfolding enhanced callOf
+  enhanced-accepted last area rule p size a =
+      chain-taken w h (callOf (w * h)) (λ s. refl) (passes last area rule) a (start p) size none
+
+  -- its plane and sum are the recursion's
   pub enhanced-recursion : (last area : ℕ) (rule : Rule) (p : List ℕ) → last ≤ 7 → length p ≡ w * h
       → All Accepted (passes last area rule)
       → (enhanced w h p last area rule .plane ≡ run (four w) (recursive last area rule) p)

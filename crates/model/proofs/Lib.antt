@@ -1,3 +1,4 @@
+pub mod Outcomes
 pub mod Components
 pub mod Order
 pub mod Chains

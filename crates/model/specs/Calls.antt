@@ -2,9 +2,11 @@
 --
 --   Call         what the model is fed of a call: the pass, and of marks and queue the lengths
 --   passRefusal  the number of the first refusal that applies, 1 to 8 in order; 0 where none does
---   answered     the answer for a refusal's number and a count
---   State        the model's plane, and the answers so far
+--   total        the sum of the counts of some replies
+--   AllAccepted  replies of calls that were all accepted
+--   State        the model's plane, and the replies so far
 --   call, chain  the state after a call, and after a chain of calls
+--   chainEffect  what a chain of calls comes to
 use Prim.Native.Nat.{ℕ, zero, suc, _+_, _*_, _≤_}
 use mathlib.Core.Path.{_≡_}
 use mathlib.Core.Bool.{not, _||_}
@@ -12,13 +14,12 @@ use mathlib.Core.List.{List, [], _∷_, _++_}
 use lib.ListN.{length}
 use lib.Dec.{ltb, eqb}
 use Rattle.planes.specs.Refusals.{when, _▷_, sizeRefusal, greatestPixels, Sized}
+use Rattle.planes.specs.Replies.{Reply, refuses, gives, replied, after}
 use Rattle.planes.specs.Neighbours.{four}
 use Rattle.tones.specs.declared.Rule.{Rule}
 use Rattle.tones.specs.declared.Rule.the-variants.{Plain, Limited}
 use Rattle.model.specs.declared.Pass.{Pass}
-use Rattle.model.specs.declared.Answer.{Answer}
-use Rattle.model.specs.declared.Answer.the-variants.{Refused, Done}
-use Rattle.model.specs.Passes.{passed, passCount}
+use Rattle.model.specs.Effects.{Effect, counts, passEffect}
 
 -- ## Refusals
 
@@ -68,46 +69,47 @@ pub record Lent (w h plane marks queue : ℕ) : Type 0 where
 
 -- ## Answers
 
--- the answer for a refusal's number, 0 where there is none, and a count
-abbrev pub answered : ℕ → ℕ → Answer
-answered zero count = Done count
-answered (suc k) count = Refused (suc k)
-
--- the count of an answer; a refused call retones nothing
-abbrev pub answerCount : Answer → ℕ
-answerCount (Refused k) = 0
-answerCount (Done count) = count
+-- the number of components that a call retoned; a refused call retones none
+abbrev pub replyCount : Reply → ℕ
+replyCount (refuses k) = 0
+replyCount (gives []) = 0
+replyCount (gives (retoned ∷ rest)) = retoned
 
 -- the sum of the counts
-abbrev pub total : List Answer → ℕ
+abbrev pub total : List Reply → ℕ
 total [] = 0
-total (x ∷ xs) = answerCount x + total xs
+total (x ∷ xs) = replyCount x + total xs
+
+-- all calls were accepted
+pub data AllAccepted : List Reply → Type 0 where
+  none : AllAccepted []
+  more : {values : List ℕ} {replies : List Reply} → AllAccepted replies → AllAccepted (gives values ∷ replies)
 
 -- ## The model
 
--- the plane as it stands, and the answers so far, first to last
+-- the plane as it stands, and the replies so far, first to last
 pub record State : Type 0 where
   pub plane : List ℕ
-  pub answers : List Answer
+  pub answers : List Reply
 
 abbrev pub start : List ℕ → State
 start p = record { plane = p; answers = [] }
-
--- the plane after a call that meets with refusal number k, 0 where it is accepted
-abbrev pub planeAfter : ℕ → List ℕ → List ℕ → List ℕ
-planeAfter zero old new = new
-planeAfter (suc k) old new = old
 
 -- a refused call answers its number and leaves the plane; any other answers its count and leaves the plane of its pass
 unfoldable pub call : ℕ → ℕ → State → Call → State
 call w h s c =
     let refusal = passRefusal w h (length (s .plane)) c in
+    let effect = passEffect (four w) (c .pass) (s .plane) in
     record {
-      plane = planeAfter refusal (s .plane) (passed (four w) (c .pass) (s .plane));
-      answers = s .answers ++ (answered refusal (passCount (four w) (c .pass) (s .plane)) ∷ []);
+      plane = after refusal (s .plane) (effect .plane);
+      answers = s .answers ++ (replied refusal (counts effect) ∷ []);
     }
 
 -- one call after the other
 unfoldable pub chain : ℕ → ℕ → State → List Call → State
 chain w h s [] = s
 chain w h s (c ∷ cs) = chain w h (call w h s c) cs
+
+-- what a chain comes to
+abbrev pub chainEffect : State → Effect
+chainEffect s = record { plane = s .plane; retoned = total (s .answers) }

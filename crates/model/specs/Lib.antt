@@ -1,4 +1,6 @@
 pub mod Passes
-pub mod Calls
 pub mod Runs
+pub mod Effects
+pub mod Outcomes
+pub mod Calls
 pub mod Enhancement

@@ -1,5 +1,5 @@
--- What an accepted call does, the outcome of a call by the number of its refusal, and that each call is a step of the
--- model; so any sequence of calls gives the model's answers and state. Assumes nothing.
+-- What an accepted call does, and that each call is a step of the model; so any sequence of calls gives the model's
+-- replies and state. Assumes nothing.
 use Prim.Native.Nat.{ℕ, zero, suc, _*_, _≤_, _<_}
 use mathlib.Core.Path.{_≡_, refl, sym, ap, ap₂, _∙_}
 use mathlib.Core.Bool.{Bool, true, false, cond, _&&_, true≢false}
@@ -9,15 +9,16 @@ use lib.ListN.{length}
 use Rattle.planes.specs.Lists.{at}
 use Rattle.planes.specs.Neighbours.{Near, four}
 use Rattle.planes.proofs.Tests.{and-left, and-right}
-use Rattle.planes.proofs.Lists.{beyond-refl, beyond-trans}
+use Rattle.planes.specs.Replies.{Reply}
+use Rattle.planes.proofs.Lists.{beyond-trans}
 use Rattle.model.specs.declared.Pass.{Pass}
-use Rattle.model.specs.declared.Answer.{Answer}
-use Rattle.model.specs.declared.Answer.the-variants.{Refused, Done}
-use Rattle.model.specs.Passes.{within, inside, passed, passCount}
-use Rattle.model.specs.Calls.{Lent, answered, planeAfter, Call, State, start, call, chain}
+use Rattle.model.specs.Passes.{within, inside}
+use Rattle.model.specs.Effects.{passEffect}
+use Rattle.model.specs.Outcomes.{Over}
+use Rattle.model.specs.Calls.{Lent, Call, State, start, call, chain}
 use Rattle.model.proofs.Order.{in-to}
 use Rattle.passes.specs.Sections.{Marked, Coded, Section, Treated}
-use Rattle.passes.specs.Calls.{callOn, refusalOf, Over, PassOutcome, Sequence, none, more}
+use Rattle.passes.specs.Calls.{callOn, PassOutcome, Sequence, none, more}
 use Rattle.passes.specs.declared.Next.{Next}
 
 -- ## A section that was marked
@@ -71,9 +72,10 @@ marked-section {w} {h} L ab M f = record {
 }
 
 -- a marked section that was treated had the pass
-pub over : {w h code r : ℕ} {s : Pass} {t : Next} {plane marks₀ marks queue plane' marks' queue' : List ℕ}
-    → Marked s plane marks₀ marks (w * h) → Treated (four w) (w * h) code s t plane marks queue plane' marks' queue' r
-    → Over w h s plane marks₀ queue plane' marks' queue' r
+pub over : {near : Near} {n code r : ℕ} {s : Pass} {t : Next}
+    {plane marks₀ marks queue plane' marks' queue' : List ℕ} → Marked s plane marks₀ marks n
+    → Treated near n code s t plane marks queue plane' marks' queue' r
+    → Over n (passEffect near s plane) marks₀ queue plane' marks' queue' r
 over M T = record {
   plane-is = T .plane-is;
   count-is = T .count-is;
@@ -81,54 +83,28 @@ over M T = record {
   queue-rest = T .queue-rest;
 }
 
--- ## Outcomes
-
--- by a number other than 0 the call is refused, and nothing changes
-pub refused-by : {w h : ℕ} {s : Pass} {plane marks queue : List ℕ} (x : ℕ) → x ≡ refusalOf w h s plane marks queue
-    → (x ≡ 0 → ⊥) → PassOutcome w h s plane marks queue (Refused x) plane marks queue
-refused-by zero e f = absurd (f refl)
-refused-by {w} {h} {s} {plane} {marks} {queue} (suc x) e f = record {
-  answer = ap (λ (k : ℕ). answered k (passCount (four w) s plane)) e;
-  plane-is = ap (λ (k : ℕ). planeAfter k plane (passed (four w) s plane)) e;
-  refused = λ k q. (refl, refl);
-  marks-rest = beyond-refl (w * h) marks;
-  queue-rest = beyond-refl (w * h) queue;
-}
-
--- by 0 the call is the pass
-pub done-by : {w h r : ℕ} {s : Pass} {plane marks queue plane' marks' queue' : List ℕ}
-    → refusalOf w h s plane marks queue ≡ 0 → Over w h s plane marks queue plane' marks' queue' r
-    → PassOutcome w h s plane marks queue (Done r) plane' marks' queue'
-done-by {w} {h} {r} {s} {plane} z O = record {
-  answer = ap Done (O .count-is) ∙ ap (λ (k : ℕ). answered k (passCount (four w) s plane)) (sym z);
-  plane-is = O .plane-is ∙ ap (λ (k : ℕ). planeAfter k plane (passed (four w) s plane)) (sym z);
-  refused = λ k q. absurd (omega arith);
-  marks-rest = O .marks-rest;
-  queue-rest = O .queue-rest;
-}
-
 -- ## A call is a step of the model
 
-pub call-is : {w h : ℕ} {s : Pass} {plane marks queue plane' marks' queue' : List ℕ} {r : Answer}
-    → PassOutcome w h s plane marks queue r plane' marks' queue' → (old : List Answer)
+pub call-is : (w h : ℕ) (s : Pass) {plane marks queue plane' marks' queue' : List ℕ} {reply : Reply}
+    → PassOutcome w h s plane marks queue reply plane' marks' queue' → (old : List Reply)
     → call w h (record { plane = plane; answers = old }) (callOn (length marks) (length queue) s)
-    ≡ record { plane = plane'; answers = old ++ (r ∷ []) }
+    ≡ record { plane = plane'; answers = old ++ (reply ∷ []) }
 unfolding call
-call-is O old =
-    ap₂ (λ (p : List ℕ) (a : Answer). record { plane = p; answers = old ++ (a ∷ []) })
+call-is w h s O old =
+    ap₂ (λ (p : List ℕ) (a : Reply). record { plane = p; answers = old ++ (a ∷ []) })
     (sym (O .plane-is)) (sym (O .answer))
 
--- any sequence of calls gives the model's answers and state
-sequence-from : {w h : ℕ} {plane last : List ℕ} {cs : List Call} {rs : List Answer} → Sequence w h plane cs rs last
-    → (old : List Answer)
+-- any sequence of calls gives the model's replies and state
+sequence-from : {w h : ℕ} {plane last : List ℕ} {cs : List Call} {rs : List Reply} → Sequence w h plane cs rs last
+    → (old : List Reply)
     → chain w h (record { plane = plane; answers = old }) cs ≡ record { plane = last; answers = old ++ rs }
 unfolding chain
-sequence-from none old = ap (λ (a : List Answer). record { plane = _; answers = a }) (sym (append-nil old))
-sequence-from {w} {h} {last = last} (more {r = r} {cs = cs} {rs = rs} O S) old =
-    ap (λ (s : State). chain w h s cs) (call-is O old)
-    ∙ sequence-from S (old ++ (r ∷ []))
-    ∙ ap (λ (a : List Answer). record { plane = last; answers = a }) (append-assoc old (r ∷ []) rs)
+sequence-from none old = ap (λ (a : List Reply). record { plane = _; answers = a }) (sym (append-nil old))
+sequence-from {w} {h} {last = last} (more {s = s} {reply = reply} {cs = cs} {rs = rs} O S) old =
+    ap (λ (z : State). chain w h z cs) (call-is w h s O old)
+    ∙ sequence-from S (old ++ (reply ∷ []))
+    ∙ ap (λ (a : List Reply). record { plane = last; answers = a }) (append-assoc old (reply ∷ []) rs)
 
-pub sequence-is : {w h : ℕ} {plane last : List ℕ} {cs : List Call} {rs : List Answer} → Sequence w h plane cs rs last
+pub sequence-is : {w h : ℕ} {plane last : List ℕ} {cs : List Call} {rs : List Reply} → Sequence w h plane cs rs last
     → chain w h (start plane) cs ≡ record { plane = last; answers = rs }
 sequence-is S = sequence-from S []

@@ -18,7 +18,9 @@ ghost use Rattle.model.specs.Passes.{within};
 ghost use Rattle.model.specs.Calls.{lentRefusal, passRefusal, Lent};
 ghost use Rattle.passes.specs.Sections.{number, oneValue, inert, Pixels, Listed, Marked, Painted};
 ghost use Rattle.passes.specs.Sections.{Done, Section, Treats};
-ghost use Rattle.passes.specs.Calls.{callOn, Over, PassOutcome};
+ghost use Rattle.model.specs.Effects.{passEffect};
+ghost use Rattle.model.specs.Outcomes.{answerReply, Over};
+ghost use Rattle.passes.specs.Calls.{callOn, PassOutcome};
 use components::Found;
 use model::Answer;
 use model::Pass;
@@ -283,8 +285,8 @@ pub fn treat(
     pass: Pass,
 ) -> u32
     requires { ⌜ Lent w h (length (now plane)) (length (now marks)) (length (now queue)) × (pass .a ≤ pass .b) ⌝ }
-    ensures { λ r. ⌜ Over w h pass
-        (now (plane .entry)) (now (marks .entry)) (now (queue .entry))
+    ensures { λ r. ⌜ Over (w * h) (passEffect (four w) pass (now (plane .entry)))
+        (now (marks .entry)) (now (queue .entry))
         (now (plane .exit)) (now (marks .exit)) (now (queue .exit)) r ⌝ }
 {
     let n = w * h;
@@ -341,7 +343,7 @@ pub fn pass(
     pass: Pass,
 ) -> Answer
     ensures { λ r. ⌜ PassOutcome w h pass
-        (now (plane .entry)) (now (marks .entry)) (now (queue .entry)) r
+        (now (plane .entry)) (now (marks .entry)) (now (queue .entry)) (answerReply r)
         (now (plane .exit)) (now (marks .exit)) (now (queue .exit)) ⌝ }
 {
     let refusal = refusal_of(w, h, plane.len(), marks.len(), queue.len(), pass);

@@ -4,6 +4,7 @@ pub mod Counts
 pub mod Rounding
 pub mod Quotients
 pub mod Refusals
+pub mod Replies
 pub mod Links
 pub mod Neighbours
 pub mod Stores

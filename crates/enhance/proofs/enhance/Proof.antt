@@ -1,7 +1,7 @@
 -- `enhance::enhance` meets its contract: refused with the first number that applies and nothing changed, or enhanced.
 -- Assumes nothing.
 use mathlib.Core.Path.{sym, _∙_}
-use Rattle.enhance.proofs.Calls.{refused-by, done-by}
+use Rattle.model.proofs.Outcomes.{output-refused-by, output-done-by}
 use borrow.Author.Needs.{needs}
 use Rattle.enhance.proofs.enhance.Statement.{statement}
 use Rattle.enhance.proofs.enhance.Tie as tie
@@ -10,7 +10,7 @@ refusal-of-requires : tie.Need-refusal-of-requires
 refusal-of-requires c κs = search needs
 
 returns : tie.Need-returns
-returns c = refused-by _ (c .before .refusal-of .ensures) (c .if1 .taken)
+returns c = output-refused-by _ (c .before .refusal-of .ensures) (c .if1 .taken)
 
 enhance-frame-requires : tie.Need-enhance-frame-requires
 enhance-frame-requires c κs =
@@ -33,7 +33,8 @@ returns-2 : tie.Need-returns-2
 returns-2 c =
     let e = c .before .before .before .before .before .before .before .before in
     let t = e .before .before .before .before .before in
-    done-by (sym (t .before .refusal-of .ensures) ∙ t .if1 .left) (e .enhance-frame .ensures)
+    let enhances = e .enhance-frame .ensures in
+    output-done-by (sym (t .before .refusal-of .ensures) ∙ t .if1 .left) (enhances .over) (enhances .output-is)
 
 pub enhance-spec : {M : Type 1} → statement M
 enhance-spec =

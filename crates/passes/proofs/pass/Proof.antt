@@ -2,8 +2,8 @@
 -- Assumes nothing.
 use mathlib.Core.Path.{sym, _∙_}
 use borrow.Author.Needs.{needs}
+use Rattle.model.proofs.Outcomes.{refused-by, done-by}
 use Rattle.model.proofs.Chains.{accepted, ordered}
-use Rattle.passes.proofs.Calls.{refused-by, done-by}
 use Rattle.passes.proofs.pass.Statement.{statement}
 use Rattle.passes.proofs.pass.Tie as tie
 
