@@ -8,7 +8,7 @@ fn spots(row: &[u8]) -> (usize, usize) {
     let mut runs = row.to_vec();
     runs.dedup();
     let count = |beyond: fn(&u8, &u8) -> bool| {
-        let alone = |i: usize, j: usize| runs.get(j).map_or(true, |beside| beyond(&runs[i], beside));
+        let alone = |i: usize, j: usize| runs.get(j).is_none_or(|beside| beyond(&runs[i], beside));
         (0..runs.len()).filter(|&i| alone(i, i.wrapping_sub(1)) && alone(i, i + 1)).count()
     };
     (count(u8::gt), count(u8::lt))
