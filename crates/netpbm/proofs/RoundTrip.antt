@@ -13,12 +13,12 @@ use native.Mathlib.Omega.{arith}
 use lib.ListN.{length, take, drop, length-append}
 use lib.Seq.{drop-at}
 use Rattle.planes.specs.Refusals.{greatestPixels}
+use Rattle.planes.specs.Replies.{gives}
 use Rattle.netpbm.specs.Bytes.{isWhite}
 use Rattle.netpbm.specs.Reading.{readAnswer}
 use Rattle.netpbm.specs.Frames.{Spaces, IsHeader, IsFrame}
-use Rattle.netpbm.specs.Writing.{decimal, heading, encoding, Wrote}
+use Rattle.netpbm.specs.Writing.{decimal, heading, encoding, WriteOutcome}
 use Rattle.netpbm.specs.declared.Header.the-variants.{Frame}
-use Rattle.netpbm.specs.declared.Written.the-variants.{Length}
 use Rattle.netpbm.proofs.Decimal.{decimal-numeral}
 use Rattle.netpbm.proofs.Frames.{accepted-iff}
 use Rattle.netpbm.proofs.Writing.{wrote-size, wrote-writable, wrote-frame}
@@ -62,7 +62,7 @@ pub record ReadsBack (raster : List ℕ) (w h limit size : ℕ) (output' : List 
   pub stands : drop (size - length raster) (take size output') ≡ raster
 
 module _ {raster : List ℕ} {w h : ℕ} {output : List ℕ} {size : ℕ} {output' : List ℕ}
-    (wrote : Wrote raster w h output (Length size) output') where
+    (wrote : WriteOutcome raster w h output (gives (size ∷ [])) output') where
   pub reads-back : (limit : ℕ) → w * h ≤ limit → ReadsBack raster w h limit size output'
   reads-back limit few =
       let frame = encoding raster w h in

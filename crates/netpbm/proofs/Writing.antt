@@ -8,7 +8,7 @@
 use Prim.Native.Nat.{ℕ, zero, suc, _+_, _*_, _≤_}
 use mathlib.Core.Path.{_≡_, refl, sym, ap, _∙_}
 use mathlib.Core.Bool.{not}
-use mathlib.Core.List.{List, _++_}
+use mathlib.Core.List.{List, [], _∷_, _++_}
 use native.Mathlib.Nat.{zero-add}
 use native.Mathlib.Omega.{arith}
 use lib.Dec.{eqb, ltb}
@@ -17,7 +17,10 @@ use lib.Seq.{take-at, drop-at}
 use borrow.Author.Tests.{ltb-false, eqb-true, not-false}
 use Rattle.planes.specs.Refusals.{when, _▷_, sizeRefusal, greatestPixels, Sized}
 use Rattle.planes.proofs.Refusals.{when-none, ▷-none, sized}
-use Rattle.netpbm.specs.Writing.{heading, encoding, writeRefusal, answer, outputAfter, Put, Wrote}
+use Rattle.planes.specs.Lists.{at}
+use Rattle.planes.specs.Replies.{refuses, gives, after, overwritten}
+use Rattle.planes.proofs.Replies.{replied-refuses, replied-gives}
+use Rattle.netpbm.specs.Writing.{heading, encoding, writeRefusal, writtenReply, WriteOutcome, Put}
 use Rattle.netpbm.specs.declared.Written.the-variants.{Refused, Length}
 
 -- what holds where writing is not refused
@@ -39,42 +42,36 @@ writable w h raster output e =
 
 module _ (raster : List ℕ) (w h : ℕ) (output : List ℕ) where
   pub wrote-refused : (k : ℕ) → k ≡ writeRefusal w h (length raster) (length output) → (k ≡ 0 → ⊥)
-      → Wrote raster w h output (Refused k) output
+      → WriteOutcome raster w h output (writtenReply (Refused k)) output
   wrote-refused zero e some = absurd (some refl)
-  wrote-refused (suc k) e some = record { answers = rw (← e); leaves = rw (← e) }
+  wrote-refused (suc k) e some = record { answer = rw (← e); output-is = rw (← e) }
 
   pub wrote-accepted : (r : ℕ) (output' : List ℕ) → writeRefusal w h (length raster) (length output) ≡ 0
-      → Put output 0 (encoding raster w h) r output' → Wrote raster w h output (Length r) output'
+      → Put output 0 (encoding raster w h) r output'
+      → WriteOutcome raster w h output (writtenReply (Length r)) output'
   wrote-accepted r output' e p =
       let size = length (encoding raster w h) in
       let whole : r ≡ size = p .next ∙ zero-add size in
       record {
-        answers = rw e (ap Length whole);
-        leaves = rw e (p .leaves ∙ ap (λ (n : ℕ). encoding raster w h ++ drop n output) (zero-add size));
+        answer = rw e (ap (λ (n : ℕ). gives (n ∷ [])) whole);
+        output-is = rw e (p .leaves ∙ ap (λ (n : ℕ). encoding raster w h ++ drop n output) (zero-add size));
       }
 
--- an answer that is a length, and one that is a refusal
-answer-length : (k n size : ℕ) → Length size ≡ answer k n → (k ≡ 0) × (size ≡ n)
-answer-length zero n size e = (refl, cc)
-answer-length (suc k) n size e = let clash : _≡_ {A = ℕ} 0 1 = cc in absurd (omega arith)
-
-kept : (k n number : ℕ) (frame output : List ℕ) → Refused number ≡ answer k n → outputAfter k frame output ≡ output
-kept zero n number frame output e = let clash : _≡_ {A = ℕ} 0 1 = cc in absurd (omega arith)
-kept (suc k) n number frame output e = refl
-
 pub wrote-nothing : {raster : List ℕ} {w h : ℕ} {output : List ℕ} {number : ℕ} {output' : List ℕ}
-    → Wrote raster w h output (Refused number) output' → output' ≡ output
-wrote-nothing {raster} {w} {h} {output} {number} wrote =
-    let refusal = writeRefusal w h (length raster) (length output) in
+    → WriteOutcome raster w h output (refuses number) output' → output' ≡ output
+wrote-nothing {raster} {w} {h} {output} wrote =
     let frame = encoding raster w h in
-    wrote .leaves ∙ kept refusal (length frame) number frame output (wrote .answers)
+    let (j, (is, _)) = replied-refuses (writeRefusal w h (length raster) (length output)) (length frame ∷ [])
+    (sym (wrote .answer)) in
+    wrote .output-is ∙ ap (λ (k : ℕ). after k output (overwritten output frame)) is
 
 module _ {raster : List ℕ} {w h : ℕ} {output : List ℕ} {size : ℕ} {output' : List ℕ}
-    (wrote : Wrote raster w h output (Length size) output') where
+    (wrote : WriteOutcome raster w h output (gives (size ∷ [])) output') where
   told : (writeRefusal w h (length raster) (length output) ≡ 0) × (size ≡ length (encoding raster w h))
   told =
       let refusal = writeRefusal w h (length raster) (length output) in
-      answer-length refusal (length (encoding raster w h)) size (wrote .answers)
+      let given = replied-gives refusal (length (encoding raster w h) ∷ []) (sym (wrote .answer)) in
+      (given .0, ap (λ (vs : List ℕ). at vs 0) (given .1))
 
   pub wrote-size : size ≡ length (encoding raster w h)
   wrote-size = told .1
@@ -85,7 +82,7 @@ module _ {raster : List ℕ} {w h : ℕ} {output : List ℕ} {size : ℕ} {outpu
   left : output' ≡ encoding raster w h ++ drop size output
   left =
       let frame = encoding raster w h in
-      wrote .leaves ∙ rw (told .0, told .1)
+      wrote .output-is ∙ rw (told .0, told .1)
 
   pub wrote-frame : take size output' ≡ encoding raster w h
   wrote-frame = ap (take size) left ∙ take-at (encoding raster w h) (drop size output) size (sym wrote-size)

@@ -2,10 +2,11 @@
 -- raster. Definitions only.
 use Prim.Native.Nat.{ℕ, zero, suc, _-_, _*_}
 use mathlib.Core.Bool.{not}
-use mathlib.Core.List.{List}
+use mathlib.Core.List.{List, [], _∷_}
 use lib.Dec.{eqb, ltb}
 use lib.ListN.{length}
 use Rattle.planes.specs.Refusals.{when, _▷_, sizeRefusal}
+use Rattle.planes.specs.Replies.{Reply, refuses, gives}
 use Rattle.netpbm.specs.Parsers.{Parsed, failed, parsed}
 use Rattle.netpbm.specs.Grammar.{Numbers, header}
 use Rattle.netpbm.specs.declared.Header.{Header}
@@ -16,6 +17,11 @@ unfoldable pub frameRefusal : ℕ → ℕ → ℕ → ℕ → ℕ → ℕ
 frameRefusal w h maxval raster limit =
     sizeRefusal w h limit ▷ when (not (eqb maxval 255)) 11
     ▷ when (ltb raster (3 * (w * h))) 12 ▷ when (ltb (3 * (w * h)) raster) 13
+
+-- the requirements' number for the case of a refusal, and width, height and offset for the other
+abbrev pub headerReply : Header → Reply
+headerReply (Refused k) = refuses k
+headerReply (Frame w h offset) = gives (w ∷ h ∷ offset ∷ [])
 
 -- the answer for a refusal's number, 0 for none, and the frame's values
 abbrev pub framed : ℕ → ℕ → ℕ → ℕ → Header

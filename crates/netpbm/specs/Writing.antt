@@ -4,7 +4,8 @@
 --   heading w h    P6, LF, width, space, height, LF, 255, LF
 --   encoding       the heading and the raster
 --   writeRefusal   the first refusal that applies, or 0
---   Wrote          the contract of writing: its answer, and the output after it
+--   writtenReply   the reply of each case of what writing answers
+--   WriteOutcome   the contract of writing: its answer, and the output after it
 --   Put            the contract of the functions that put bytes into the output
 use Prim.Native.Nat.{ℕ, zero, suc, _+_, _*_, _/_, _%_}
 use mathlib.Core.Path.{_≡_}
@@ -13,6 +14,7 @@ use mathlib.Core.List.{List, [], _∷_, _++_}
 use lib.Dec.{eqb, ltb}
 use lib.ListN.{length, take, drop}
 use Rattle.planes.specs.Refusals.{when, _▷_, sizeRefusal, greatestPixels}
+use Rattle.planes.specs.Replies.{Reply, refuses, gives, replied, after, overwritten}
 use Rattle.netpbm.specs.declared.Written.{Written}
 use Rattle.netpbm.specs.declared.Written.the-variants.{Refused, Length}
 
@@ -37,23 +39,21 @@ writeRefusal w h raster output =
     sizeRefusal w h greatestPixels
     ▷ when (not (eqb raster (3 * (w * h)))) 3 ▷ when (ltb output (length (heading w h) + raster)) 14
 
--- the answer for a refusal's number, 0 for none, and the number of bytes written
-abbrev pub answer : ℕ → ℕ → Written
-answer zero size = Length size
-answer (suc k) size = Refused (suc k)
+-- the requirements' number for the case of a refusal, and the length written for the other
+abbrev pub writtenReply : Written → Reply
+writtenReply (Refused k) = refuses k
+writtenReply (Length size) = gives (size ∷ [])
 
 -- the bytes, in the place of those that stand in the output from a place on
 abbrev pub placed : List ℕ → ℕ → List ℕ → List ℕ
 placed output at bytes = take at output ++ bytes ++ drop (at + length bytes) output
 
--- the output after writing a frame: the frame from the beginning on, and the rest as it was; a refusal changes nothing
-abbrev pub outputAfter : ℕ → List ℕ → List ℕ → List ℕ
-outputAfter zero frame output = frame ++ drop (length frame) output
-outputAfter (suc k) frame output = output
-
-pub record Wrote (raster : List ℕ) (w h : ℕ) (output : List ℕ) (r : Written) (output' : List ℕ) : Type 0 where
-  pub answers : r ≡ answer (writeRefusal w h (length raster) (length output)) (length (encoding raster w h))
-  pub leaves : output' ≡ outputAfter (writeRefusal w h (length raster) (length output)) (encoding raster w h) output
+-- the output has the frame from its beginning on, and beyond it what it had; a refusal changes nothing
+pub record WriteOutcome (raster : List ℕ) (w h : ℕ) (output : List ℕ) (reply : Reply) (output' : List ℕ) : Type 0 where
+  pub answer : reply
+      ≡ replied (writeRefusal w h (length raster) (length output)) (length (encoding raster w h) ∷ [])
+  pub output-is : output'
+      ≡ after (writeRefusal w h (length raster) (length output)) output (overwritten output (encoding raster w h))
 
 -- bytes put into the output from a place on, and the place after them
 pub record Put (output : List ℕ) (at : ℕ) (bytes : List ℕ) (r : ℕ) (output' : List ℕ) : Type 0 where

@@ -14,7 +14,7 @@ ghost use Rattle.netpbm.specs.Parsers.{takeWhile, one};
 ghost use Rattle.netpbm.specs.Grammar.{mark, number, field, header};
 ghost use Rattle.netpbm.specs.Cursors.{passed, endedNumber, numberAt, fieldsAt};
 ghost use Rattle.netpbm.specs.Reading.{frameRefusal, readAnswer};
-ghost use Rattle.netpbm.specs.Writing.{decimal, heading, writeRefusal, Put, Wrote};
+ghost use Rattle.netpbm.specs.Writing.{decimal, heading, writeRefusal, Put, writtenReply, WriteOutcome};
 
 // The greatest number of digits of a number in a header.
 const DIGITS: usize = 6;
@@ -318,7 +318,7 @@ fn put_header(output: &mut [u8], w: usize, h: usize) -> usize
 // Refused with 1, 2, 3 or 14, in that order; then `output` stays as it is. Else its first bytes are P6, LF, width,
 // space, height, LF, 255, LF and the raster, and the bytes beyond stay.
 pub fn write(raster: &[u8], w: usize, h: usize, output: &mut [u8]) -> Written
-    ensures { λ r. ⌜ Wrote (now (raster .entry)) w h (now (output .entry)) r (now (output .exit)) ⌝ }
+    ensures { λ r. ⌜ WriteOutcome (now (raster .entry)) w h (now (output .entry)) (writtenReply r) (now (output .exit)) ⌝ }
 {
     let refusal = write_refusal(w, h, raster.len(), output.len());
     if refusal != 0 {

@@ -6,6 +6,7 @@
 ghost use mathlib.Core.Path.{_≡_};
 ghost use Prim.Native.Nat.{_≤_, min};
 ghost use lib.ListN.{take};
+ghost use Rattle.model.specs.Outcomes.{answerReply};
 ghost use Rattle.passlists.specs.Outcomes.{PassesOutcome};
 use model::Answer;
 use model::Pass;
@@ -24,8 +25,8 @@ fn run_front(
     h: usize,
 ) -> Answer
     requires { ⌜ count ≤ 1025 ⌝ }
-    ensures { λ r. ⌜ PassesOutcome w h (take count list) (now (plane .entry)) (now (marks .entry)) (now (queue .entry)) r
-        (now (plane .exit)) (now (marks .exit)) (now (queue .exit)) ⌝ }
+    ensures { λ r. ⌜ PassesOutcome w h (take count list) (now (plane .entry)) (now (marks .entry)) (now (queue .entry))
+        (answerReply r) (now (plane .exit)) (now (marks .exit)) (now (queue .exit)) ⌝ }
 {
     passlists::run_passes(&list[..count], plane, marks, queue, w, h)
 }
@@ -49,8 +50,8 @@ pub fn run_array(
     w: usize,
     h: usize,
 ) -> Answer
-    ensures { λ r. ⌜ PassesOutcome w h (take count list) (now (plane .entry)) (now (marks .entry)) (now (queue .entry)) r
-        (now (plane .exit)) (now (marks .exit)) (now (queue .exit)) ⌝ }
+    ensures { λ r. ⌜ PassesOutcome w h (take count list) (now (plane .entry)) (now (marks .entry)) (now (queue .entry))
+        (answerReply r) (now (plane .exit)) (now (marks .exit)) (now (queue .exit)) ⌝ }
 {
     let end = at_most(count);
     run_front(list, end, plane, marks, queue, w, h)

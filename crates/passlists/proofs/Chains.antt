@@ -9,21 +9,22 @@ use mathlib.Core.List.{List, [], _∷_, map}
 use native.Mathlib.Nat.{zero-add}
 use lib.ListN.{length}
 use Rattle.planes.specs.Refusals.{_▷_}
+use Rattle.planes.specs.Replies.{Reply, gives, replied, after}
 use Rattle.planes.specs.Neighbours.{four}
 use Rattle.planes.proofs.Refusals.{▷-none}
 use Rattle.model.specs.declared.Pass.{Pass}
-use Rattle.model.specs.declared.Answer.{Answer}
-use Rattle.model.specs.declared.Answer.the-variants.{Done}
-use Rattle.model.specs.Calls.{Call, numbersRefusal, lentRefusal, passRefusal, answered, planeAfter, total, State, start}
-use Rattle.model.specs.Calls.{chain}
+use Rattle.model.specs.Effects.{counts, runEffect}
+use Rattle.model.specs.Outcomes.{Outcome}
+use Rattle.model.specs.Calls.{Call, numbersRefusal, lentRefusal, passRefusal, total, AllAccepted, none, State, start}
+use Rattle.model.specs.Calls.{chain, chainEffect}
 use Rattle.model.specs.Runs.{run, runCount, All, none, more}
 use Rattle.model.proofs.Chains.{lent}
 use Rattle.model.proofs.Recursion.{all-map}
-use Rattle.model.proofs.Enhancement.{chain-calls}
+use Rattle.model.proofs.Enhancement.{chain-calls, chain-taken}
 use Rattle.passes.specs.Calls.{callOn}
 use Rattle.passlists.specs.Format.{passesOf}
 use Rattle.passlists.specs.Refusals.{firstRefusal, listRefusal, passesRefusal}
-use Rattle.passlists.specs.Outcomes.{fileRefusal, memoryRefusal, Outcome, ListOutcome, PassesOutcome}
+use Rattle.passlists.specs.Outcomes.{fileRefusal, memoryRefusal, ListOutcome, PassesOutcome}
 use Rattle.passlists.proofs.Refusals.{fine-passes}
 use Rattle.passlists.proofs.Lists.{accepted-list}
 
@@ -39,8 +40,8 @@ module _ (w h : ℕ) (plane marks queue : List ℕ) where
   made = callOn (length marks) (length queue)
 
   -- the model after the calls of some passes, each with the lent marks and queue
-  abbrev pub after : List Pass → State
-  after ss = chain w h (start plane) (map made ss)
+  abbrev pub chained : List Pass → State
+  chained ss = chain w h (start plane) (map made ss)
 
   -- each of those calls is accepted
   taken : lentRefusal w h (length plane) (length marks) (length queue) ≡ 0 → length plane ≡ w * h
@@ -50,31 +51,32 @@ module _ (w h : ℕ) (plane marks queue : List ℕ) where
       let here = subst (λ (n : ℕ). lentRefusal w h n (length marks) (length queue) ≡ 0) whole e in
       all-map (λ s z. ap₂ _▷_ here z) (all-fine ss (fine-passes ss f .1))
 
-  module _ (r : Answer) (plane' marks' queue' : List ℕ) where
+  module _ (reply : Reply) (plane' marks' queue' : List ℕ) where
     -- passes that are not refused, whatever the refusal's number is called
-    accepted-chain : (refusal : ℕ) (ss : List Pass) → refusal ≡ 0
+    accepted-chain : (number : ℕ) (ss : List Pass) → number ≡ 0
         → lentRefusal w h (length plane) (length marks) (length queue) ≡ 0 → passesRefusal ss ≡ 0
-        → Outcome w h refusal ss plane marks queue r plane' marks' queue'
-        → (plane' ≡ after ss .plane) × (r ≡ Done (total (after ss .answers)))
-    accepted-chain refusal ss e l f out =
+        → Outcome (w * h) number (runEffect (four w) ss plane) plane marks queue reply plane' marks' queue'
+        → (plane' ≡ chained ss .plane) × (reply ≡ gives (counts (chainEffect (chained ss))))
+    accepted-chain number ss e l f out =
         let whole = lent w h (length plane) (length marks) (length queue) l .whole in
         let runs = chain-calls w h made (λ s. refl) ss (taken l whole ss f) (start plane) whole in
-        let sum : runCount (four w) ss plane ≡ total (after ss .answers) =
+        let sum : runCount (four w) ss plane ≡ total (chained ss .answers) =
         sym (zero-add (runCount (four w) ss plane)) ∙ sym (runs .1) in (
-          out .plane-is ∙ ap (λ (k : ℕ). planeAfter k plane (run (four w) ss plane)) e ∙ sym (runs .0),
-          out .answer ∙ ap (λ (k : ℕ). answered k (runCount (four w) ss plane)) e ∙ ap Done sum,
+          out .plane-is ∙ ap (λ (k : ℕ). after k plane (run (four w) ss plane)) e ∙ sym (runs .0),
+          out .answer ∙ ap (λ (k : ℕ). replied k (runCount (four w) ss plane ∷ [])) e
+              ∙ ap (λ (n : ℕ). gives (n ∷ [])) sum,
         )
 
     pub passes-chain : (ss : List Pass) → memoryRefusal w h ss plane marks queue ≡ 0
-        → PassesOutcome w h ss plane marks queue r plane' marks' queue'
-        → (plane' ≡ after ss .plane) × (r ≡ Done (total (after ss .answers)))
+        → PassesOutcome w h ss plane marks queue reply plane' marks' queue'
+        → (plane' ≡ chained ss .plane) × (reply ≡ gives (counts (chainEffect (chained ss))))
     passes-chain ss e out =
         let tests = ▷-none (lentRefusal w h (length plane) (length marks) (length queue)) (passesRefusal ss) e in
         accepted-chain (memoryRefusal w h ss plane marks queue) ss e (tests .0) (tests .1) out
 
     pub list-chain : (list : List ℕ) → fileRefusal w h list plane marks queue ≡ 0
-        → ListOutcome w h list plane marks queue r plane' marks' queue'
-        → (plane' ≡ after (passesOf list) .plane) × (r ≡ Done (total (after (passesOf list) .answers)))
+        → ListOutcome w h list plane marks queue reply plane' marks' queue'
+        → (plane' ≡ chained (passesOf list) .plane) × (reply ≡ gives (counts (chainEffect (chained (passesOf list)))))
     list-chain list e out =
         let tests = ▷-none (lentRefusal w h (length plane) (length marks) (length queue)) (listRefusal list) e in
         let fine = accepted-list list (tests .1) .1 in

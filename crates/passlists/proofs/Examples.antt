@@ -10,15 +10,13 @@ use mathlib.Core.Option.{some}
 use lib.ListN.{length, set}
 use borrow.Author.Tests.{le-ltb}
 use Rattle.planes.specs.Refusals.{when, _▷_, sizeRefusal}
+use Rattle.planes.specs.Replies.{Reply, gives, replied, after}
 use Rattle.planes.specs.Neighbours.{four, linked, component, first}
 use Rattle.tones.specs.declared.Rule.the-variants.{Plain}
 use Rattle.tones.specs.Tones.{tone, kept, plainTone}
 use Rattle.model.specs.declared.Pass.{Pass}
-use Rattle.model.specs.declared.Answer.{Answer}
-use Rattle.model.specs.declared.Answer.the-variants.{Done}
 use Rattle.model.specs.Passes.{inside, values, changes, retone, newTone, passed, passCount}
 use Rattle.model.specs.Calls.{planeRefusal, roomRefusal, areaRefusal, ruleRefusal, numbersRefusal, lentRefusal}
-use Rattle.model.specs.Calls.{answered, planeAfter}
 use Rattle.model.specs.Runs.{run, runCount}
 use Rattle.passlists.specs.Format.{passAt, passesOf, malformed, misnamed, miscounted, headRefusal, decode}
 use Rattle.passlists.specs.Format.{encodePass, encodePasses, encode}
@@ -53,16 +51,16 @@ unfolding decode listRefusal headRefusal misnamed miscounted malformed recordRef
 q = record { read = refl; written = refl; accepted = refl; plane = refl; count = refl }
 
 -- what `run_list` does with it, whatever marks and queue hold
-pub does-q : (marks queue : List ℕ) → 5 ≤ length marks → 5 ≤ length queue → (r : Answer)
-    (plane' marks' queue' : List ℕ) → ListOutcome 5 1 listQ rowE marks queue r plane' marks' queue'
-    → (r ≡ Done 1) × (plane' ≡ rowE')
+pub does-q : (marks queue : List ℕ) → 5 ≤ length marks → 5 ≤ length queue → (reply : Reply)
+    (plane' marks' queue' : List ℕ) → ListOutcome 5 1 listQ rowE marks queue reply plane' marks' queue'
+    → (reply ≡ gives (1 ∷ [])) × (plane' ≡ rowE')
 unfolding lentRefusal sizeRefusal planeRefusal roomRefusal
-does-q marks queue m k r plane' marks' queue' out =
+does-q marks queue m k reply plane' marks' queue' out =
     let room : lentRefusal 5 1 5 (length marks) (length queue) ≡ 0 =
     ap₂ (λ (s t : Bool). when (s || t) 4) (le-ltb (length marks) 5 m) (le-ltb (length queue) 5 k) in
     let refusal : fileRefusal 5 1 listQ rowE marks queue ≡ 0 = ap₂ _▷_ room (q .accepted) in
-    let answer = out .answer ∙ ap₂ answered refusal (q .count) in
-    (answer, out .plane-is ∙ ap₂ (λ (i : ℕ). planeAfter i rowE) refusal (q .plane))
+    let answer = out .answer ∙ ap₂ (λ (i n : ℕ). replied i (n ∷ [])) refusal (q .count) in
+    (answer, out .plane-is ∙ ap₂ (λ (i : ℕ). after i rowE) refusal (q .plane))
 
 -- ## Refusals
 

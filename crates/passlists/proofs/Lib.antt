@@ -6,6 +6,5 @@ pub mod Lists
 pub mod Chains
 pub mod Recursion
 pub mod Examples
-pub mod Outcomes
 pub mod Turns
 pub mod Walks

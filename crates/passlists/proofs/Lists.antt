@@ -3,10 +3,9 @@
 --   decoded-refusal   a list that is read meets with the refusal of its passes
 --   accepted-list     a list that is not refused is read, and its passes are not refused
 --   encoded-refusal   passes that are written meet with the refusal that they meet with in memory
---   refused-outcome   a refusal is the answer, and it changes no lent memory
 --   same-outcomes     the contract of `run_list` for passes that are written is the contract of `run_passes` for them
 --   file-and-memory   so the two calls give one answer and one plane
-use Prim.Native.Nat.{ℕ, suc, _≤_, _<_}
+use Prim.Native.Nat.{ℕ, _*_, _≤_, _<_}
 use mathlib.Core.Path.{_≡_, refl, sym, ap, ap₂, subst, _∙_}
 use mathlib.Core.Bool.{Bool, true, not, cond, _&&_}
 use mathlib.Core.List.{List, [], _∷_, map}
@@ -16,20 +15,21 @@ use lib.Dec.{ltb, eqb}
 use borrow.Author.Tests.{le-ltb, eq-eqb, not-true}
 use Rattle.planes.specs.Lists.{from, every}
 use Rattle.planes.specs.Refusals.{when, _▷_}
+use Rattle.planes.specs.Replies.{Reply, replied, after}
 use Rattle.planes.specs.Neighbours.{four}
 use Rattle.planes.proofs.Tests.{and-left, and-right, and-both}
 use Rattle.planes.proofs.Refusals.{when-none, ▷-none}
 use Rattle.model.specs.declared.Pass.{Pass}
-use Rattle.model.specs.declared.Answer.{Answer}
-use Rattle.model.specs.declared.Answer.the-variants.{Refused}
-use Rattle.model.specs.Calls.{numbersRefusal, lentRefusal, answered, planeAfter}
+use Rattle.model.specs.Effects.{runEffect}
+use Rattle.model.specs.Outcomes.{Outcome}
+use Rattle.model.specs.Calls.{numbersRefusal, lentRefusal}
 use Rattle.model.specs.Runs.{run, runCount, All}
 use Rattle.model.proofs.Chains.{lent}
 use Rattle.passlists.specs.Format.{recordStart, countOf, passesOf, greatestCount, malformed, headRefusal, decode}
 use Rattle.passlists.specs.Format.{encode, Storable}
 use Rattle.passlists.specs.Refusals.{firstRefusal, recordRefusal, recordRefusals, listRefusal, passesRefusal}
 use Rattle.passlists.specs.Steps.{Runnable}
-use Rattle.passlists.specs.Outcomes.{fileRefusal, memoryRefusal, Outcome, ListOutcome, PassesOutcome}
+use Rattle.passlists.specs.Outcomes.{fileRefusal, memoryRefusal, ListOutcome, PassesOutcome}
 use Rattle.passlists.proofs.Format.{well, passHere, headed, decoded, length-passesOf, head-encode, passes-encode}
 
 -- ## Refusals
@@ -108,17 +108,6 @@ accepted-file w h list plane marks queue e =
 
 -- ## Outcomes
 
--- a refusal is the answer, and it changes no lent memory
-pub refused-outcome : {w h refusal : ℕ} {ss : List Pass} {plane marks queue : List ℕ} {r : Answer}
-    {plane' marks' queue' : List ℕ} → Outcome w h refusal ss plane marks queue r plane' marks' queue'
-    → (k : ℕ) → refusal ≡ suc k → (r ≡ Refused (suc k)) × (plane' ≡ plane) × (marks' ≡ marks) × (queue' ≡ queue)
-refused-outcome {w} {ss = ss} {plane = plane} out k e = (
-  out .answer ∙ ap (λ (n : ℕ). answered n (runCount (four w) ss plane)) e,
-  out .plane-is ∙ ap (λ (n : ℕ). planeAfter n plane (run (four w) ss plane)) e,
-  out .refused k e .0,
-  out .refused k e .1,
-)
-
 -- any passes that a list's count can tell, also more than it may have
 module _ (ss : List Pass) (told : length ss < 65536) (fit : All Storable ss) where
   pub encoded-refusal : listRefusal (encode ss) ≡ passesRefusal ss
@@ -128,26 +117,26 @@ module _ (ss : List Pass) (told : length ss < 65536) (fit : All Storable ss) whe
       ap₂ _▷_ (head-encode ss told)
       (ap firstRefusal (records-passes (encode ss) (records .1) ∙ ap (map numbersRefusal) (records .0)))
 
-  module _ (w h : ℕ) (plane marks queue : List ℕ) (r : Answer) (plane' marks' queue' : List ℕ) where
-    pub same-outcomes : ListOutcome w h (encode ss) plane marks queue r plane' marks' queue'
-        ≡ PassesOutcome w h ss plane marks queue r plane' marks' queue'
+  module _ (w h : ℕ) (plane marks queue : List ℕ) (reply : Reply) (plane' marks' queue' : List ℕ) where
+    pub same-outcomes : ListOutcome w h (encode ss) plane marks queue reply plane' marks' queue'
+        ≡ PassesOutcome w h ss plane marks queue reply plane' marks' queue'
     same-outcomes =
         ap₂ (λ (k : ℕ) (ps : List Pass).
-        Outcome w h (lentRefusal w h (length plane) (length marks) (length queue) ▷ k) ps plane marks queue r
-        plane' marks' queue')
+        Outcome (w * h) (lentRefusal w h (length plane) (length marks) (length queue) ▷ k) (runEffect (four w) ps plane)
+        plane marks queue reply plane' marks' queue')
         encoded-refusal (passes-encode ss told fit .0)
 
-    pub file-and-memory : (marks₂ queue₂ : List ℕ) (r₂ : Answer) (plane₂' marks₂' queue₂' : List ℕ)
+    pub file-and-memory : (marks₂ queue₂ : List ℕ) (reply₂ : Reply) (plane₂' marks₂' queue₂' : List ℕ)
         → length marks₂ ≡ length marks → length queue₂ ≡ length queue
-        → ListOutcome w h (encode ss) plane marks queue r plane' marks' queue'
-        → PassesOutcome w h ss plane marks₂ queue₂ r₂ plane₂' marks₂' queue₂' → (r ≡ r₂) × (plane' ≡ plane₂')
-    file-and-memory marks₂ queue₂ r₂ plane₂' marks₂' queue₂' m q file memory =
+        → ListOutcome w h (encode ss) plane marks queue reply plane' marks' queue'
+        → PassesOutcome w h ss plane marks₂ queue₂ reply₂ plane₂' marks₂' queue₂' → (reply ≡ reply₂) × (plane' ≡ plane₂')
+    file-and-memory marks₂ queue₂ reply₂ plane₂' marks₂' queue₂' m q file memory =
         let same : fileRefusal w h (encode ss) plane marks queue ≡ memoryRefusal w h ss plane marks₂ queue₂ =
         ap₂ (λ (i j : ℕ). lentRefusal w h (length plane) i j ▷ listRefusal (encode ss)) (sym m) (sym q)
         ∙ ap (lentRefusal w h (length plane) (length marks₂) (length queue₂) ▷_) encoded-refusal in
         let passes = passes-encode ss told fit .0 in (
-          file .answer ∙ ap₂ (λ (k : ℕ) (ps : List Pass). answered k (runCount (four w) ps plane)) same passes
+          file .answer ∙ ap₂ (λ (k : ℕ) (ps : List Pass). replied k (runCount (four w) ps plane ∷ [])) same passes
               ∙ sym (memory .answer),
-          file .plane-is ∙ ap₂ (λ (k : ℕ) (ps : List Pass). planeAfter k plane (run (four w) ps plane)) same passes
+          file .plane-is ∙ ap₂ (λ (k : ℕ) (ps : List Pass). after k plane (run (four w) ps plane)) same passes
               ∙ sym (memory .plane-is),
         )

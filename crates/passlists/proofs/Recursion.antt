@@ -18,6 +18,7 @@ use lib.Dec.{ltb, eqb}
 use borrow.Author.Tests.{le-ltb, ltb-false, eq-eqb}
 use Rattle.planes.specs.Lists.{from}
 use Rattle.planes.specs.Refusals.{when, _▷_, sizeRefusal, greatestPixels}
+use Rattle.planes.specs.Replies.{Reply, gives, replied, after}
 use Rattle.planes.specs.Neighbours.{four}
 use Rattle.planes.proofs.Tests.{or-none}
 use Rattle.planes.proofs.Neighbours.{four-sym}
@@ -25,10 +26,9 @@ use Rattle.planes.proofs.Refusals.{when-none, ▷-none}
 use Rattle.tones.specs.declared.Rule.{Rule}
 use Rattle.tones.specs.declared.Rule.the-variants.{Plain, Limited}
 use Rattle.model.specs.declared.Pass.{Pass}
-use Rattle.model.specs.declared.Answer.{Answer}
-use Rattle.model.specs.declared.Answer.the-variants.{Done}
+use Rattle.model.specs.Effects.{counts}
 use Rattle.model.specs.Calls.{planeRefusal, roomRefusal, areaRefusal, ruleRefusal, numbersRefusal, lentRefusal}
-use Rattle.model.specs.Calls.{passRefusal, answered, planeAfter, total, start}
+use Rattle.model.specs.Calls.{passRefusal, total, start, chainEffect}
 use Rattle.model.specs.Runs.{run, runCount, Same, All, none, more}
 use Rattle.model.specs.Enhancement.{section, level, levels, passes, enhanced, callOf, deep, recursive}
 use Rattle.model.proofs.Chains.{lent}
@@ -208,16 +208,16 @@ module _ (w h last area : ℕ) (rule : Rule) (levels-fine : last ≤ 7) (area-fi
       (runs .0, runs .1 ∙ zero-add (runCount (four w) (passes last area rule) plane))
 
   -- the enhancement's plane and count
-  abbrev Enhances : Answer → List ℕ → Type 0
-  Enhances r plane' =
+  abbrev Enhances : Reply → List ℕ → Type 0
+  Enhances reply plane' =
       (plane' ≡ enhanced w h plane last area rule .plane)
-      × (r ≡ Done (total (enhanced w h plane last area rule .answers)))
+      × (reply ≡ gives (counts (chainEffect (enhanced w h plane last area rule))))
 
   -- the sections in any order that ends in the same planes with the same sums
   ordered-enhances : (ss : List Pass) → length ss ≤ 255 → All (Proper area rule) ss
-      → Same (four w) ss (passes last area rule) → (r : Answer) (plane' marks' queue' : List ℕ)
-      → ListOutcome w h (encode ss) plane marks queue r plane' marks' queue' → Enhances r plane'
-  ordered-enhances ss l p alike r plane' marks' queue' out =
+      → Same (four w) ss (passes last area rule) → (reply : Reply) (plane' marks' queue' : List ℕ)
+      → ListOutcome w h (encode ss) plane marks queue reply plane' marks' queue' → Enhances reply plane'
+  ordered-enhances ss l p alike reply plane' marks' queue' out =
       let told : length ss < 65536 = omega arith in
       let fit = all-map (storable-pass area rule area-fine rule-fine) p in
       let refusal : fileRefusal w h (encode ss) plane marks queue ≡ 0 =
@@ -225,21 +225,21 @@ module _ (w h last area : ℕ) (rule : Rule) (levels-fine : last ≤ 7) (area-fi
       let same = passes-encode ss told fit .0 in
       let last-plane = alike .planes plane ∙ sym (enhancement-runs .0) in
       let sum = alike .sums plane ∙ sym (enhancement-runs .1) in (
-        out .plane-is ∙ ap₂ (λ (k : ℕ) (ps : List Pass). planeAfter k plane (run (four w) ps plane)) refusal same
+        out .plane-is ∙ ap₂ (λ (k : ℕ) (ps : List Pass). after k plane (run (four w) ps plane)) refusal same
             ∙ last-plane,
-        out .answer ∙ ap₂ (λ (k : ℕ) (ps : List Pass). answered k (runCount (four w) ps plane)) refusal same
-            ∙ ap Done sum,
+        out .answer ∙ ap₂ (λ (k : ℕ) (ps : List Pass). replied k (runCount (four w) ps plane ∷ [])) refusal same
+            ∙ ap (λ (n : ℕ). gives (n ∷ [])) sum,
       )
 
-  pub list-enhances : (r : Answer) (plane' marks' queue' : List ℕ)
-      → ListOutcome w h (encode (passes last area rule)) plane marks queue r plane' marks' queue' → Enhances r plane'
+  pub list-enhances : (reply : Reply) (plane' marks' queue' : List ℕ)
+      → ListOutcome w h (encode (passes last area rule)) plane marks queue reply plane' marks' queue' → Enhances reply plane'
   list-enhances =
       ordered-enhances (passes last area rule) (few last area rule levels-fine .0) (proper area rule last levels-fine)
       (record { planes = λ p. refl; sums = λ p. refl })
 
-  pub recursion-enhances : (r : Answer) (plane' marks' queue' : List ℕ)
-      → ListOutcome w h (encode (recursive last area rule)) plane marks queue r plane' marks' queue'
-      → Enhances r plane'
+  pub recursion-enhances : (reply : Reply) (plane' marks' queue' : List ℕ)
+      → ListOutcome w h (encode (recursive last area rule)) plane marks queue reply plane' marks' queue'
+      → Enhances reply plane'
   recursion-enhances =
       ordered-enhances (recursive last area rule) (few last area rule levels-fine .1)
       (proper-recursive area rule last levels-fine) (recursion-listed (four w) (four-sym w) last area rule levels-fine)

@@ -134,7 +134,7 @@ module _ {w h : ℕ} {ss : List Pass} {plane₀ marks₀ queue₀ : List ℕ} wh
         let none : drop i ss ≡ [] = drop-of-length-le ss l in
         record {
           plane-is = ap (λ (r : List Pass). run (four w) r plane) (sym none) ∙ along .plane-is;
-          sum-is = sym (add-zero sum) ∙ ap (λ (r : List Pass). sum + runCount (four w) r plane) (sym none)
+          count-is = sym (add-zero sum) ∙ ap (λ (r : List Pass). sum + runCount (four w) r plane) (sym none)
               ∙ along .sum-is;
           marks-rest = along .marks-rest;
           queue-rest = along .queue-rest;

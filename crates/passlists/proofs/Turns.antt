@@ -10,7 +10,7 @@
 use Prim.Native.Nat.{ℕ, zero, suc, _+_, _-_, _≤_, _<_, zero-le}
 use mathlib.Core.Path.{_≡_, refl, sym, ap, subst, _∙_}
 use mathlib.Core.Bool.{Bool, true, false, not, cond, false≢true, true≢false}
-use mathlib.Core.List.{List, map}
+use mathlib.Core.List.{List, [], _∷_, map}
 use native.Mathlib.Omega.{arith}
 use lib.ListN.{length, getD, length-map}
 use lib.Dec.{ltb, eqb}
@@ -18,8 +18,10 @@ use borrow.Author.Tests.{ltb-true, ltb-false, eqb-true, eqb-false}
 use Rattle.planes.specs.Lists.{at}
 use Rattle.planes.specs.Refusals.{when, _▷_}
 use Rattle.planes.proofs.Refusals.{▷-none, ▷-right}
+use Rattle.planes.specs.Replies.{replied}
 use Rattle.model.specs.declared.Pass.{Pass}
-use Rattle.model.specs.Calls.{numbersRefusal, lentRefusal, answered}
+use Rattle.model.specs.Calls.{numbersRefusal, lentRefusal}
+use Rattle.model.proofs.Outcomes.{refused-by, done-by}
 use Rattle.model.proofs.Chains.{lent}
 use Rattle.passlists.specs.Format.{greatestCount}
 use Rattle.passlists.specs.Refusals.{firstRefusal, passesRefusal}
@@ -28,7 +30,6 @@ use Rattle.passlists.specs.Outcomes.{memoryRefusal, PassesOutcome}
 use Rattle.passlists.specs.declared.Progress.{Progress}
 use Rattle.passlists.proofs.Refusals.{Clear, clear-none, clear-more, clear-stop, clear-all, noPass, passes-at}
 use Rattle.passlists.proofs.Runs.{Along, along-none, along-more, along-all, along-ready}
-use Rattle.passlists.proofs.Outcomes.{refused-by, done-by}
 
 ▷-assoc : (x y z : ℕ) → (x ▷ y) ▷ z ≡ x ▷ (y ▷ z)
 ▷-assoc zero y z = refl
@@ -144,7 +145,7 @@ module _ (w h : ℕ) (ss : List Pass) (plane₀ marks₀ queue₀ : List ℕ) wh
   turns s plane marks queue (refused e) t r plane' marks' queue' turned = absurd (omega (arith, t))
 
   pub ends : (s : Progress) (plane marks queue : List ℕ) → Inv s plane marks queue → s .end ≤ s .at
-      → PassesOutcome w h ss plane₀ marks₀ queue₀ (answered (s .refusal) (s .sum)) plane marks queue
+      → PassesOutcome w h ss plane₀ marks₀ queue₀ (replied (s .refusal) (s .sum ∷ [])) plane marks queue
   ends s plane marks queue (checking e c l) t = absurd (omega (arith, t))
   ends s plane marks queue (running e a) t = done-by e (along-all a t)
   ends s plane marks queue (refused {k} e) t = refused-by (suc k) (sym e) (λ z. absurd (omega (arith, z)))

@@ -19,7 +19,8 @@ use Rattle.planes.specs.Neighbours.{four}
 use Rattle.model.specs.declared.Pass.{Pass}
 use Rattle.model.specs.Passes.{passed, passCount}
 use Rattle.model.specs.Calls.{numbersRefusal, Lent}
-use Rattle.model.specs.Runs.{run, runCount}
+use Rattle.model.specs.Effects.{runEffect}
+use Rattle.model.specs.Outcomes.{Over}
 use Rattle.passlists.specs.Refusals.{passesRefusal}
 use Rattle.passlists.specs.declared.Progress.{Progress}
 
@@ -45,12 +46,10 @@ pub record Runnable (w h : ℕ) (ss : List Pass) (plane marks queue : List ℕ) 
   pub fine : passesRefusal ss ≡ 0
 
 -- the plane and the sum of all passes; marks and queue keep all entries from n on
-pub record Ran (w h : ℕ) (ss : List Pass) (plane marks queue : List ℕ) (r : ℕ) (plane' marks' queue' : List ℕ)
-    : Type 0 where
-  pub plane-is : plane' ≡ run (four w) ss plane
-  pub sum-is : r ≡ runCount (four w) ss plane
-  pub marks-rest : Beyond (w * h) marks marks'
-  pub queue-rest : Beyond (w * h) queue queue'
+abbrev pub Ran : (w h : ℕ) (ss : List Pass) (plane marks queue : List ℕ) (r : ℕ) (plane' marks' queue' : List ℕ)
+    → Type 0
+Ran w h ss plane marks queue r plane' marks' queue' =
+    Over (w * h) (runEffect (four w) ss plane) marks queue plane' marks' queue' r
 
 -- ## Turns of a run over lent passes: all are checked, one after the other, and then they are run
 

@@ -7,11 +7,14 @@
 // All records or passes are checked before the first pass runs, so a refusal changes nothing.
 ghost use mathlib.Core.Path.{_≡_};
 ghost use mathlib.Core.Bool.{true};
+ghost use mathlib.Core.List.{[], _∷_};
 ghost use Prim.Native.Nat.{_+_, _*_, _≤_, _<_};
 ghost use lib.ListN.{length};
 ghost use lib.Dec.{ltb};
 ghost use Rattle.planes.specs.Refusals.{when, _▷_};
-ghost use Rattle.model.specs.Calls.{numbersRefusal, lentRefusal, answered};
+ghost use Rattle.planes.specs.Replies.{replied};
+ghost use Rattle.model.specs.Outcomes.{answerReply};
+ghost use Rattle.model.specs.Calls.{numbersRefusal, lentRefusal};
 ghost use Rattle.passlists.specs.Format.{number16, number32, ruleOf, passAt, recordStart};
 ghost use Rattle.passlists.specs.Format.{countOf, passesOf, greatestCount, malformed, misnamed, headRefusal};
 ghost use Rattle.passlists.specs.Refusals.{recordRefusal, recordRefusals, firstRefusal, listRefusal};
@@ -253,7 +256,7 @@ pub fn run_list(
     h: usize,
 ) -> Answer
     ensures { λ r. ⌜ ListOutcome w h (now (list .entry)) (now (plane .entry)) (now (marks .entry)) (now (queue .entry))
-        r (now (plane .exit)) (now (marks .exit)) (now (queue .exit)) ⌝ }
+        (answerReply r) (now (plane .exit)) (now (marks .exit)) (now (queue .exit)) ⌝ }
 {
     let refusal = list_refusal(list, w, h, plane.len(), marks.len(), queue.len());
     if refusal != 0 {
@@ -354,7 +357,7 @@ fn turn<'a>(
 
 // The answer of a run that has come to its end.
 fn answer(s: Progress) -> Answer
-    ensures { λ r. ⌜ r ≡ answered (s .refusal) (s .sum) ⌝ }
+    ensures { λ r. ⌜ answerReply r ≡ replied (s .refusal) (s .sum ∷ []) ⌝ }
 {
     if s.refusal != 0 {
         return Answer::Refused(s.refusal);
@@ -373,7 +376,7 @@ pub fn run_passes(
     h: usize,
 ) -> Answer
     ensures { λ r. ⌜ PassesOutcome w h (now (passes .entry)) (now (plane .entry)) (now (marks .entry))
-        (now (queue .entry)) r (now (plane .exit)) (now (marks .exit)) (now (queue .exit)) ⌝ }
+        (now (queue .entry)) (answerReply r) (now (plane .exit)) (now (marks .exit)) (now (queue .exit)) ⌝ }
 {
     let mut s = begin(w, h, plane.len(), marks.len(), queue.len(), passes.len());
     while s.at < s.end {

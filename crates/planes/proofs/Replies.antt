@@ -2,8 +2,9 @@
 --
 --   replied-refuses   a call that is refused with k has the number k, which is not 0
 --   replied-gives     a call that gives values has the number 0, and the values are its own
---   replied-fine      a call with the number 0 is not refused
---   after-refused     by a number other than 0 lent memory is as it was
+--   replied-none      by 0 a call gives its values
+--   replied-refused   by any other number it is refused with that
+--   after-refused     and lent memory is as it was
 use Prim.Native.Nat.{ℕ, zero, suc}
 use mathlib.Core.Path.{_≡_, refl, sym, ap, _∙_}
 use mathlib.Core.List.{List, []}
@@ -43,7 +44,9 @@ pub replied-gives : (number : ℕ) (vs : List ℕ) {ws : List ℕ} → replied n
 replied-gives zero vs e = (refl, sym (gives-same e))
 replied-gives (suc j) vs e = absurd (refuses-not-gives e)
 
--- by a number other than 0
+pub replied-none : (number : ℕ) (vs : List ℕ) → number ≡ 0 → replied number vs ≡ gives vs
+replied-none number vs e = ap (λ (k : ℕ). replied k vs) e
+
 pub replied-refused : (number : ℕ) (vs : List ℕ) → (number ≡ 0 → ⊥) → replied number vs ≡ refuses number
 replied-refused zero vs h = absurd (h refl)
 replied-refused (suc k) vs h = refl

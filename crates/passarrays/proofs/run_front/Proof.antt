@@ -54,6 +54,7 @@ use Rattle.model.proofs.Pass as pass-type
 use Rattle.model.proofs.Pass.Laws as pass-laws
 use Rattle.model.proofs.Answer as answer-type
 use Rattle.model.proofs.Answer.Laws as answer-laws
+use Rattle.model.specs.Outcomes.{answerReply}
 use Rattle.passlists.specs.Outcomes.{PassesOutcome}
 use Rattle.passlists.proofs.Walks.Locals.{Blocks, curried, enters-all, frees-all}
 use Rattle.passlists.proofs.Walks.Lent.{Loan, loan, ref, val}
@@ -177,7 +178,7 @@ module _ {M : Type 1} (𝓤 : URA M) (H : Heap 𝓤) (A : Atoms 𝓤) (W : Given
       (fsep (finally u32 (Q .γ) (x .1 .1)) (fsep ftrue (fsep ftrue ftrue))))))
 
   abbrev Did : Answer → List ℕ → List ℕ → List ℕ → Type 0
-  Did = PassesOutcome w h (take k ps) (x₀ .0) (x₀ .1 .0) (x₀ .1 .1)
+  Did r = PassesOutcome w h (take k ps) (x₀ .0) (x₀ .1 .0) (x₀ .1 .1) (answerReply r)
 
   -- an answer and last lists, as `run_passes` leaves them
   record Came (v : Val) (y : Answer × Three) : Type 0 where

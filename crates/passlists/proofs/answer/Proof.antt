@@ -1,13 +1,14 @@
 -- `passlists::answer` meets its contract: each answer follows from the test that led to it. Assumes nothing.
-use Rattle.passlists.proofs.Outcomes.{answer-refused, answer-done}
+use mathlib.Core.Path.{sym}
+use Rattle.planes.proofs.Replies.{replied-none, replied-refused}
 use Rattle.passlists.proofs.answer.Statement.{statement}
 use Rattle.passlists.proofs.answer.Tie as tie
 
 returns : tie.Need-returns
-returns c = answer-refused _ _ (c .if1 .taken)
+returns c = sym (replied-refused _ _ (c .if1 .taken))
 
 returns-2 : tie.Need-returns-2
-returns-2 c = answer-done _ _ (c .if1 .left)
+returns-2 c = sym (replied-none _ _ (c .if1 .left))
 
 pub answer-spec : {M : Type 1} → statement M
 answer-spec = tie.close (tie.spec returns returns-2)

@@ -2,8 +2,8 @@
 -- Assumes nothing.
 use mathlib.Core.Path.{sym, _∙_}
 use borrow.Author.Needs.{needs}
+use Rattle.model.proofs.Outcomes.{refused-by, done-by}
 use Rattle.passlists.proofs.Lists.{accepted-file}
-use Rattle.passlists.proofs.Outcomes.{refused-by, done-by}
 use Rattle.passlists.proofs.run_list.Statement.{statement}
 use Rattle.passlists.proofs.run_list.Tie as tie
 

@@ -53,9 +53,11 @@ use denote.Triple.Walked.{says, Stays, stay-none-slice, stay-slice, stay-none, w
 use denote.Triple.Walked.{goes-none-slice, goes-slice, goes-none, walk-meets}
 use denote.Exit.{yes}
 use Rattle.planes.specs.Refusals.{when, _▷_}
+use Rattle.planes.specs.Replies.{Reply, replied}
 use Rattle.model.specs.declared.Pass.{Pass}
 use Rattle.model.specs.declared.Answer.{Answer}
-use Rattle.model.specs.Calls.{lentRefusal, answered}
+use Rattle.model.specs.Outcomes.{answerReply}
+use Rattle.model.specs.Calls.{lentRefusal}
 use Rattle.model.proofs.Pass as pass-type
 use Rattle.model.proofs.Pass.Laws as pass-laws
 use Rattle.model.proofs.Answer as answer-type
@@ -160,10 +162,10 @@ module _ {M : Type 1} (𝓤 : URA M) (H : Heap 𝓤) (A : Atoms 𝓤) (W : Given
   Post = walkOf 𝓤 H A run-passes.ended stayed (run-passes.clauses 𝓤 H A mem run) .post bound
 
   -- the outcome of the lent passes, with the lists x of the three slices at the end
-  abbrev Out : Answer → Three → Type 0
-  Out r x = PassesOutcome w h ys (x₀ .0) (x₀ .1 .0) (x₀ .1 .1) r (x .0) (x .1 .0) (x .1 .1)
+  abbrev Out : Reply → Three → Type 0
+  Out reply x = PassesOutcome w h ys (x₀ .0) (x₀ .1 .0) (x₀ .1 .1) reply (x .0) (x .1 .0) (x .1 .1)
 
-  exits : (r : Answer) (v : Val) (x : Three) → Fit P N Q x → Out r x
+  exits : (r : Answer) (v : Val) (x : Three) → Fit P N Q x → Out (answerReply r) x
       → ent 𝓤 (sep 𝓤 (sem 𝓤 H A (Shown S ys))
       (sep 𝓤 (sem 𝓤 H A (Ours P N Q x)) (sem 𝓤 H A (answer-type.the-row .own r (v ∷ []))))) (Post v)
   exits r v x l out =
@@ -237,17 +239,17 @@ module _ {M : Type 1} (𝓤 : URA M) (H : Heap 𝓤) (A : Atoms 𝓤) (W : Given
       $ fjoin ! $ nothing ! $ join ! $ done !
 
   abbrev Made : Progress → Val → Answer → Type 0
-  Made u v r = Is answer-type.the-row r (v ∷ []) × (r ≡ answered (u .refusal) (u .sum))
+  Made u v r = Is answer-type.the-row r (v ∷ []) × (answerReply r ≡ replied (u .refusal) (u .sum ∷ []))
 
   answer-comes : (u : Progress) (v : Val) → ent 𝓤 (Answers 𝓤 H A mem run .post (to-answer u) v)
       (H .⇛ (ex 𝓤 (λ (r : Answer). guard 𝓤 (Made u v r) (sem 𝓤 H A (answer-type.the-row .own r (v ∷ []))))))
   answer-comes u v =
       qed W (raw (Answers 𝓤 H A mem run .post (to-answer u) v) ∷ []) ∵ updating !
       $ use1 W (later (some (λ (x : Answer × (Unit {0} × Unit {0})).
-      given (x .0 ≡ answered (u .refusal) (u .sum))
+      given (answerReply (x .0) ≡ replied (u .refusal) (u .sum ∷ []))
       (‵ ftrue ⊛ ‵ (answer-type.the-row .own (x .0) (v ∷ [])) ⊛ ‵ (lasts answer.ended tt (u, tt) (x .1))))))
       (told 𝓤 H A W answer.ended (answer.clauses 𝓤 H A mem run) (to-answer u) v
-      (λ r _. r ≡ answered (u .refusal) (u .sum)) (λ r ws. id⊢ 𝓤 _))
+      (λ r _. answerReply r ≡ replied (u .refusal) (u .sum ∷ [])) (λ r ws. id⊢ 𝓤 _))
       $ await ! tt $ pick ! (λ x. learn ! (λ e. split3 ! $ move ! (1 ∷ [])
       $ peeks ! answer-type.the-row (Is answer-type.the-row) (shows 𝓤 H A answer-type.the-row) (x .0) (v ∷ []) (λ is.
       at-once !
@@ -472,7 +474,7 @@ module _ {M : Type 1} (𝓤 : URA M) (H : Heap 𝓤) (A : Atoms 𝓤) (W : Given
         (EL.lawful answer-type.the-type answer-laws.the-laws 𝓤 H A W tt .typed r (v ∷ []) (m .0) .0))
         $ returns ! (look ! 0 refl) $ forget ! 0 refl $ forget ! 24 refl
         $ frees-all ! (code.function .locals) bs (held t)
-        $ by ! (exits r v (t .x) (t .fit) (subst (λ (r : Answer). Out r (t .x)) (sym (m .1)) (outcome over)))))))
+        $ by ! (exits r v (t .x) (t .fit) (subst (λ (y : Reply). Out y (t .x)) (sym (m .1)) (outcome over)))))))
       where
         pass : Pass
         pass = getD ys (t .u .at) noPass
@@ -492,7 +494,7 @@ module _ {M : Type 1} (𝓤 : URA M) (H : Heap 𝓤) (A : Atoms 𝓤) (W : Given
             subst (λ (e : Val). T (hasTy progress-laws.mir e) × WT e) (sym (c .0))
             (LL.lawful progress-type.the-type progress-laws.the-laws 𝓤 H A W .typed r (mach-s r ∷ []) (c .1) .0)
 
-        outcome : T (not (ltb (t .u .at) (t .u .end))) → Out (answered (t .u .refusal) (t .u .sum)) (t .x)
+        outcome : T (not (ltb (t .u .at) (t .u .end))) → Out (replied (t .u .refusal) (t .u .sum ∷ [])) (t .x)
         outcome over =
             ends w h ys (x₀ .0) (x₀ .1 .0) (x₀ .1 .1) (t .u) _ _ _ (t .inv) (nltb→le (t .u .at) (t .u .end) over)
 
