@@ -1,0 +1,147 @@
+//! Cases of `run_list`, and lists that `run_passes` runs too.
+
+use crate::chance::{random_plane, random_rule, random_section, random_sides};
+use crate::faults::{faulty, memory_test, plane_test, size_tests, Test};
+use crate::sound::sound;
+use mlhe_reference::cases::{answers, encode, Case, Kind};
+use mlhe_reference::random::Random;
+use mlhe_reference::{level_by_level, list_bytes, Pass, Rule, Settings};
+
+/// Example E as a pass.
+pub const EXAMPLE: Pass = Pass { a: 0, b: 127, area: 1, rule: Rule::Plain { low: 0, high: 25_500 } };
+
+/// A pass that changes no plane.
+pub const STILL: Pass = Pass { a: 7, b: 7, area: 1, rule: Rule::Plain { low: 0, high: 25_500 } };
+
+/// A random pass of a list that runs on this plane.
+fn random_record(random: &mut Random, plane: &[u8]) -> Pass {
+    let (rule, [first, second]) = random_rule(random);
+    let [a, b] = random_section(random, plane);
+    let (first, second) = (u32::from(first), u32::from(second));
+    let rule = if rule == 0 { Rule::Plain { low: first, high: second } } else { Rule::Limited { k: first } };
+    Pass { a, b, area: random.one_of(&[1, 1, 1, 2, 3]), rule }
+}
+
+/// Planes of at most 5 by 3 pixels, each with a short random list.
+pub fn random_lists(random: &mut Random, number: usize) -> Vec<(usize, usize, Vec<u8>, Vec<Pass>)> {
+    let mut lists = Vec::new();
+    for _ in 0..number {
+        let (w, h) = random_sides(random, 5, 3);
+        let plane = random_plane(random, w, w * h);
+        let passes = (0..random.between(0, 6)).map(|_| random_record(random, &plane)).collect();
+        lists.push((w, h, plane, passes));
+    }
+    lists
+}
+
+pub fn cases() -> Vec<Case> {
+    let list =
+        |w: usize, h: usize, passes: &[Pass], plane: &[u8]| sound(Kind::List, w, h, list_bytes(passes), plane.to_vec());
+    let parts = [10, 20, 200, 10, 10];
+    let free = Settings { last_level: 7, area: 1, rule: EXAMPLE.rule };
+    let mut cases = vec![
+        list(5, 1, &[EXAMPLE], &parts),
+        list(5, 1, &[], &parts),
+        list(2, 1, &level_by_level(&free), &[10, 20]),
+        list(5, 1, &level_by_level(&Settings { last_level: 5, area: 2, ..free }), &parts),
+        list(2, 2, &[STILL; 1_024], &[1, 2, 3, 4]),
+        list(2, 2, &[STILL; 1_025], &[1, 2, 3, 4]),
+    ];
+    let short = |bytes: &[u8]| sound(Kind::List, 5, 1, bytes.to_vec(), parts.to_vec());
+    cases.extend([
+        short(b""),
+        short(b"MLP"),
+        short(b"MLQ\x01\0\0\0"),
+        short(b"MLP\x01\0\0"),
+        short(b"MLQ\x01\0\x01\0"),
+    ]);
+    // A list of no passes asks for marks and queue all the same.
+    cases.push(Case { queue: 4, ..list(5, 1, &[], &parts) });
+    let mut random = Random::new(60);
+    for (w, h, plane, passes) in random_lists(&mut random, 80) {
+        cases.push(list(w, h, &passes, &plane));
+    }
+    // Lists of three passes with bytes of the third record changed.
+    for _ in 0..50 {
+        let passes = [EXAMPLE, random_record(&mut random, &parts), random_record(&mut random, &parts)];
+        let mut case = list(5, 1, &passes, &parts);
+        for _ in 0..random.between(1, 2) {
+            let at = random.between(31, 42);
+            case.bytes[at] = random.one_of(&[0, 1, 2, 16, 255]);
+        }
+        cases.push(case);
+    }
+    // A sound list with each of its bytes changed in turn, a little and much.
+    let whole = list(5, 1, &[EXAMPLE, Pass { area: 2, ..EXAMPLE }], &parts);
+    for at in 0..whole.bytes.len() {
+        for change in [1, 128] {
+            let mut case = whole.clone();
+            case.bytes[at] ^= change;
+            cases.push(case);
+        }
+    }
+    let sound_list = list(2, 2, &[EXAMPLE, EXAMPLE], &[10, 20, 200, 10]);
+    let mut tests = size_tests();
+    tests.extend([plane_test(), memory_test()]);
+    tests.extend(list_head_tests());
+    tests.extend(first_record_tests());
+    cases.extend(faulty(&sound_list, &tests, [7, 8]));
+    let tests: Vec<Test> = list_head_tests().into_iter().chain(second_record_tests()).collect();
+    cases.extend(faulty(&sound_list, &tests, [7, 8]));
+    // Every fault of the first record before every fault of the second.
+    for (number, first) in first_record_tests() {
+        for (_, second) in second_record_tests() {
+            let mut case = sound_list.clone();
+            first[0](&mut case);
+            second[0](&mut case);
+            assert!(answers(&encode(&case)).starts_with(&format!("-{number} ")));
+            cases.push(case);
+        }
+    }
+    cases
+}
+
+fn list_head_tests() -> Vec<Test> {
+    vec![
+        (16, vec![|case| case.bytes.truncate(6), |case| case.bytes.clear()]),
+        (15, vec![|case| case.bytes[2] = b'Q', |case| case.bytes[0] = b'm', |case| case.bytes[1] = b'P']),
+        (15, vec![|case| case.bytes[3] = 2, |case| case.bytes[4] = 1, |case| case.bytes[3] = 0]),
+        (
+            16,
+            vec![
+                |case| case.bytes[5] = 3,
+                |case| case.bytes[5] = 1,
+                |case| case.bytes[6] = 4,
+                |case| case.bytes.push(0),
+                |case| case.bytes.truncate(30),
+            ],
+        ),
+    ]
+}
+
+/// The first record of a list starts at byte 7.
+fn first_record_tests() -> Vec<Test> {
+    vec![
+        (
+            17,
+            vec![|case| case.bytes[7 + 2] = 2, |case| case.bytes[7 + 3] = 1, |case| case.bytes[7 + 2] = 1, |case| {
+                (case.bytes[7 + 2], case.bytes[7 + 10], case.bytes[7 + 11]) = (1, 0, 1)
+            }],
+        ),
+        (5, vec![|case| (case.bytes[7], case.bytes[7 + 1]) = (9, 8)]),
+        (6, vec![|case| case.bytes[7 + 4] = 0, |case| case.bytes[7 + 6] = 16, |case| case.bytes[7 + 7] = 1]),
+        (7, vec![|case| case.bytes[7 + 8..7 + 12].copy_from_slice(&[81, 0, 80, 0]), |case| case.bytes[7 + 10] += 1]),
+        (8, vec![|case| case.bytes[7 + 2..7 + 12].copy_from_slice(&[1, 0, 1, 0, 0, 0, 0xE9, 0x03, 0, 0])]),
+    ]
+}
+
+/// The second record of a list starts at byte 19.
+fn second_record_tests() -> Vec<Test> {
+    vec![
+        (17, vec![|case| case.bytes[19 + 2] = 255, |case| case.bytes[19 + 3] = 128]),
+        (5, vec![|case| (case.bytes[19], case.bytes[19 + 1]) = (255, 0)]),
+        (6, vec![|case| case.bytes[19 + 4] = 0]),
+        (7, vec![|case| case.bytes[19 + 11] = 255]),
+        (8, vec![|case| case.bytes[19 + 2..19 + 12].copy_from_slice(&[1, 0, 1, 0, 0, 0, 0xFF, 0xFF, 0, 0])]),
+    ]
+}
