@@ -20,7 +20,8 @@ fail() {
     exit 1
 }
 
-rt check mlhe > "$out/check.log" 2>&1 || { cat "$out/check.log" && fail "mlhe is not proved. Next: rt check mlhe"; }
+rt check mlhe > "$out/check.log" 2>&1 ||
+    { cat "$out/check.log" && tools/next "$out/check.log" mlhe && fail "mlhe is not proved"; }
 cargo build --quiet --release --locked -p mlhe_reference
 
 # prints the name, length and expected answer of each file, separated by tabs
@@ -40,7 +41,7 @@ Next: cmp $out/answer $out/reference; look at crates/frames and reference/src/pr
 
 # the answer is not the expected one
 wrong() {
-    fail "$2: expected '$1', answered '$(head -c 40 "$out/answer" | tr -c '[:print:]' ' ')'. Next: the requirements decide \
+    fail "$2: expected '$1', answered '$(head -c 14 "$out/answer" | tr '\n' ' ' | tr -cd '[:print:]')'. Next: the requirements decide \
 whether column $column of $manifest or crates/netpbm and crates/frames are wrong"
 }
 

@@ -13,7 +13,8 @@ fail() {
 if [ -z "${MLHE_FRAMES:-}" ]; then
     log=target/hostile.log
     mkdir -p target
-    rt staticlib frames > "$log" 2>&1 || { cat "$log" && fail "frames is not proved. Next: rt check frames"; }
+    rt staticlib frames > "$log" 2>&1 ||
+        { cat "$log" && tools/next "$log" frames && fail "frames is not proved"; }
     MLHE_FRAMES=$PWD/target/staticlib/libframes.a
 fi
 export MLHE_FRAMES

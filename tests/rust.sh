@@ -19,7 +19,7 @@ fail() {
 # The library is proved and built once, here, unless it is named, and all that follows links it.
 if [ -z "${MLHE_LIBRARY:-}" ]; then
     rt staticlib capi > "$out/staticlib.log" 2>&1 ||
-        { cat "$out/staticlib.log" && fail "capi is not proved. Next: rt check capi"; }
+        { cat "$out/staticlib.log" && tools/next "$out/staticlib.log" capi && fail "capi is not proved"; }
     MLHE_LIBRARY=$PWD/target/staticlib/libcapi.a
 fi
 export MLHE_LIBRARY

@@ -14,6 +14,6 @@ cargo fmt --all --check || fail "Rust is not in the layout. Next: cargo fmt --al
 MLHE_LIBRARY=none MLHE_FRAMES=none cargo clippy --quiet --locked --workspace --all-targets -- -D warnings ||
     fail "clippy warns. Next: MLHE_LIBRARY=none MLHE_FRAMES=none cargo clippy --workspace --all-targets"
 if command -v shellcheck > /dev/null; then
-    shellcheck .ci/run .ci/report .ci/budget .ci/next tests/*.sh bench/run tools/edits || fail "shellcheck warns"
+    shellcheck .ci/run .ci/report .ci/budget tests/*.sh bench/run tools/edits tools/next || fail "shellcheck warns"
 fi
 echo "style: the layout and the lints are in order"
