@@ -35,6 +35,22 @@ pub fn faulty(sound: &Case, tests: &[Test], apart: [u8; 2]) -> Vec<Case> {
     made
 }
 
+/// The sound call with a fault of each test of a first record and one of each test of a second. The answers are checked:
+/// the first record is the one that answers.
+pub fn faulty_records(sound: &Case, first: &[Test], second: &[Test]) -> Vec<Case> {
+    let mut made = Vec::new();
+    for (number, earlier) in first {
+        for (_, later) in second {
+            let mut case = sound.clone();
+            earlier[0](&mut case);
+            later[0](&mut case);
+            assert!(answers(&encode(&case)).starts_with(&format!("-{number} ")), "{case:?}");
+            made.push(case);
+        }
+    }
+    made
+}
+
 pub fn size_tests() -> Vec<Test> {
     let sides: Vec<fn(&mut Case)> = vec![
         |case| case.w = 0,

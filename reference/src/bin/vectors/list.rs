@@ -1,9 +1,9 @@
 //! Cases of `run_list`, and lists that `run_passes` runs too.
 
 use crate::chance::{random_plane, random_rule, random_section, random_sides};
-use crate::faults::{faulty, memory_test, plane_test, size_tests, Test};
+use crate::faults::{faulty, faulty_records, memory_test, plane_test, size_tests, Test};
 use crate::sound::sound;
-use mlhe_reference::cases::{answers, encode, Case, Kind};
+use mlhe_reference::cases::{Case, Kind};
 use mlhe_reference::random::Random;
 use mlhe_reference::{level_by_level, list_bytes, Pass, Rule, Settings};
 
@@ -12,6 +12,9 @@ pub const EXAMPLE: Pass = Pass { a: 0, b: 127, area: 1, rule: Rule::Plain { low:
 
 /// A pass that changes no plane.
 pub const STILL: Pass = Pass { a: 7, b: 7, area: 1, rule: Rule::Plain { low: 0, high: 25_500 } };
+
+/// Example E's plane.
+pub const PARTS: [u8; 5] = [10, 20, 200, 10, 10];
 
 /// A random pass of a list that runs on this plane.
 fn random_record(random: &mut Random, plane: &[u8]) -> Pass {
@@ -34,45 +37,62 @@ pub fn random_lists(random: &mut Random, number: usize) -> Vec<(usize, usize, Ve
     lists
 }
 
+/// A sound call that runs these passes as a list.
+fn list(w: usize, h: usize, passes: &[Pass], plane: &[u8]) -> Case {
+    sound(Kind::List, w, h, list_bytes(passes), plane.to_vec())
+}
+
 pub fn cases() -> Vec<Case> {
-    let list =
-        |w: usize, h: usize, passes: &[Pass], plane: &[u8]| sound(Kind::List, w, h, list_bytes(passes), plane.to_vec());
-    let parts = [10, 20, 200, 10, 10];
+    let mut random = Random::new(60);
+    let mut cases = written();
+    for (w, h, plane, passes) in random_lists(&mut random, 80) {
+        cases.push(list(w, h, &passes, &plane));
+    }
+    cases.extend(damaged(&mut random));
+    cases.extend(changed());
+    cases.extend(refused());
+    cases
+}
+
+fn written() -> Vec<Case> {
     let free = Settings { last_level: 7, area: 1, rule: EXAMPLE.rule };
-    let mut cases = vec![
-        list(5, 1, &[EXAMPLE], &parts),
-        list(5, 1, &[], &parts),
+    let short = |bytes: &[u8]| sound(Kind::List, 5, 1, bytes.to_vec(), PARTS.to_vec());
+    vec![
+        list(5, 1, &[EXAMPLE], &PARTS),
+        list(5, 1, &[], &PARTS),
         list(2, 1, &level_by_level(&free), &[10, 20]),
-        list(5, 1, &level_by_level(&Settings { last_level: 5, area: 2, ..free }), &parts),
+        list(5, 1, &level_by_level(&Settings { last_level: 5, area: 2, ..free }), &PARTS),
         list(2, 2, &[STILL; 1_024], &[1, 2, 3, 4]),
         list(2, 2, &[STILL; 1_025], &[1, 2, 3, 4]),
-    ];
-    let short = |bytes: &[u8]| sound(Kind::List, 5, 1, bytes.to_vec(), parts.to_vec());
-    cases.extend([
         short(b""),
         short(b"MLP"),
         short(b"MLQ\x01\0\0\0"),
         short(b"MLP\x01\0\0"),
         short(b"MLQ\x01\0\x01\0"),
-    ]);
-    // A list of no passes asks for marks and queue all the same.
-    cases.push(Case { queue: 4, ..list(5, 1, &[], &parts) });
-    let mut random = Random::new(60);
-    for (w, h, plane, passes) in random_lists(&mut random, 80) {
-        cases.push(list(w, h, &passes, &plane));
-    }
-    // Lists of three passes with bytes of the third record changed.
+        // A list of no passes asks for marks and queue all the same.
+        Case { queue: 4, ..list(5, 1, &[], &PARTS) },
+    ]
+}
+
+/// Lists of three passes with bytes of the third record changed.
+fn damaged(random: &mut Random) -> Vec<Case> {
+    let mut cases = Vec::new();
     for _ in 0..50 {
-        let passes = [EXAMPLE, random_record(&mut random, &parts), random_record(&mut random, &parts)];
-        let mut case = list(5, 1, &passes, &parts);
+        let passes = [EXAMPLE, random_record(random, &PARTS), random_record(random, &PARTS)];
+        let mut case = list(5, 1, &passes, &PARTS);
         for _ in 0..random.between(1, 2) {
             let at = random.between(31, 42);
             case.bytes[at] = random.one_of(&[0, 1, 2, 16, 255]);
         }
         cases.push(case);
     }
-    // A sound list with each of its bytes changed in turn, a little and much.
-    let whole = list(5, 1, &[EXAMPLE, Pass { area: 2, ..EXAMPLE }], &parts);
+    cases
+}
+
+/// A sound list with each of its bytes changed in turn, a little and much.
+fn changed() -> Vec<Case> {
+    let mut cases = Vec::new();
+    let whole = list(5, 1, &[EXAMPLE, Pass { area: 2, ..EXAMPLE }], &PARTS);
     for at in 0..whole.bytes.len() {
         for change in [1, 128] {
             let mut case = whole.clone();
@@ -80,24 +100,19 @@ pub fn cases() -> Vec<Case> {
             cases.push(case);
         }
     }
+    cases
+}
+
+fn refused() -> Vec<Case> {
     let sound_list = list(2, 2, &[EXAMPLE, EXAMPLE], &[10, 20, 200, 10]);
     let mut tests = size_tests();
     tests.extend([plane_test(), memory_test()]);
     tests.extend(list_head_tests());
     tests.extend(first_record_tests());
-    cases.extend(faulty(&sound_list, &tests, [7, 8]));
+    let mut cases = faulty(&sound_list, &tests, [7, 8]);
     let tests: Vec<Test> = list_head_tests().into_iter().chain(second_record_tests()).collect();
     cases.extend(faulty(&sound_list, &tests, [7, 8]));
-    // Every fault of the first record before every fault of the second.
-    for (number, first) in first_record_tests() {
-        for (_, second) in second_record_tests() {
-            let mut case = sound_list.clone();
-            first[0](&mut case);
-            second[0](&mut case);
-            assert!(answers(&encode(&case)).starts_with(&format!("-{number} ")));
-            cases.push(case);
-        }
-    }
+    cases.extend(faulty_records(&sound_list, &first_record_tests(), &second_record_tests()));
     cases
 }
 
