@@ -17,6 +17,7 @@ if [ -z "${MLHE_FRAMES:-}" ]; then
         { cat "$log" && tools/next "$log" frames && fail "frames is not proved"; }
     MLHE_FRAMES=$PWD/target/staticlib/libframes.a
 fi
+MLHE_FRAMES=$(realpath "$MLHE_FRAMES")
 export MLHE_FRAMES
 cargo test --quiet --release --locked -p mlhe_hostile ||
     fail "the program's function answers otherwise than the second implementation. Next: the input's number and seed stand \

@@ -22,6 +22,7 @@ if [ -z "${MLHE_LIBRARY:-}" ]; then
         { cat "$out/staticlib.log" && tools/next "$out/staticlib.log" capi && fail "capi is not proved"; }
     MLHE_LIBRARY=$PWD/target/staticlib/libcapi.a
 fi
+MLHE_LIBRARY=$(realpath "$MLHE_LIBRARY")
 export MLHE_LIBRARY
 cargo=(cargo --quiet --locked)
 
