@@ -22,6 +22,11 @@ fn every_stored_case_is_answered_as_stored() {
     let mut output = Box::new([0; OUTPUT]);
     for (index, (case, answer)) in cases.iter().zip(answers.lines()).enumerate() {
         let size = program(&case.bytes, &mut output);
-        assert_eq!(hexadecimal(&output[..size]), answer, "case {}", index + 1);
+        assert!(
+            hexadecimal(&output[..size]) == answer,
+            "case {}: line {} of program.out differs",
+            index + 1,
+            index + 1
+        );
     }
 }
