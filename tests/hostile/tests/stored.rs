@@ -22,11 +22,7 @@ fn every_stored_case_is_answered_as_stored() {
     let mut output = Box::new([0; OUTPUT]);
     for (index, (case, answer)) in cases.iter().zip(answers.lines()).enumerate() {
         let size = program(&case.bytes, &mut output);
-        assert!(
-            hexadecimal(&output[..size]) == answer,
-            "case {}: line {} of program.out differs",
-            index + 1,
-            index + 1
-        );
+        let line = index + 1;
+        assert!(hexadecimal(&output[..size]) == answer, "line {line} of tests/vectors/program.out differs");
     }
 }
