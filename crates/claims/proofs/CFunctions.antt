@@ -32,7 +32,7 @@ use Rattle.netpbm.specs.declared.Written.{Written}
 use Rattle.netpbm.specs.declared.Written.the-variants as Written
 use Rattle.netpbm.specs.Reading.{readAnswer}
 use Rattle.netpbm.specs.Writing.{writtenReply, WriteOutcome}
-use Rattle.netpbm.proofs.Replies.{refused-some}
+use Rattle.netpbm.proofs.Replies.{refused-answer, framed-answer, refused-some}
 use Rattle.capi.specs.Numbers.{encoded, numberReply, doneReply, statusNumber, answerNumber, writtenNumber}
 use Rattle.capi.specs.Numbers.{formRefusal, passOf, settingsOf}
 use Rattle.capi.specs.Calls.{passRefusalOf, enhanceRefusalOf, readNumber, numbersAfter, ReadNumber}
@@ -189,7 +189,7 @@ c-functions = record {
       (output-number (enhance-by w h rule second t frame plane marks queue output 17 bad) O);
   of-write = λ w h {raster} {output} {output'} r O.
       stands-written (λ y. WriteOutcome raster w h output y output') r O;
-  of-read-refused = λ bytes numbers r k e R. read-refuses bytes numbers r R k e;
-  of-read = λ bytes numbers r w h offset e R. reads bytes numbers r R w h offset e;
-  of-read-short = λ bytes numbers r w h offset e R. short bytes numbers r R w h offset e;
+  of-read-refused = λ bytes numbers r k e R. read-refuses bytes numbers r R k (refused-answer bytes greatestPixels e);
+  of-read = λ bytes numbers r w h offset e R. reads bytes numbers r R w h offset (framed-answer bytes greatestPixels e);
+  of-read-short = λ bytes numbers r w h offset e R. short bytes numbers r R w h offset (framed-answer bytes greatestPixels e);
 }

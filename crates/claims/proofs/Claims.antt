@@ -1,45 +1,36 @@
 -- The demands hold: `demand-1`, `demand-2` and `demand-3`; and `lists-are-chains`. Assumes nothing.
-use Prim.Native.Nat.{ℕ, suc, _-_, _*_, _/_, _≤_, _<_}
+use Prim.Native.Nat.{ℕ, _-_, _*_, _/_, _≤_}
 use mathlib.Core.Path.{_≡_, refl, sym, ap, subst, _∙_}
-use mathlib.Core.Logic.{_↔_}
 use mathlib.Core.List.{List, [], _∷_}
-use native.Mathlib.Omega.{arith}
 use native.Mathlib.Nat.{le-of-lt}
 use lib.ListN.{length, take, drop}
 use lib.Seq.{take-at}
 use Rattle.planes.specs.Lists.{at}
 use Rattle.planes.specs.Replies.{Reply, refuses, gives, replied, after, overwritten}
-use Rattle.planes.specs.Neighbours.{four}
 use Rattle.planes.proofs.Replies.{refuses-not-gives, gives-same, replied-refuses, replied-gives}
 use Rattle.colours.specs.Frames.{intensity, recolour}
 use Rattle.colours.specs.Calls.{intensityRefusal, recolourRefusal, IntensityOutcome, RecolourOutcome}
 use Rattle.colours.proofs.Calls.{intensity-given, intensity-accepted, recolour-accepts, recolour-given, filled-length}
-use Rattle.colours.proofs.Frames.{length-recolour, recolour-at, recolour-bytes, channels-ordered, length-intensity}
+use Rattle.colours.proofs.Frames.{length-recolour, recolour-at, recolour-bytes, channels-ordered}
 use Rattle.model.specs.declared.Pass.{Pass}
-use Rattle.model.specs.Effects.{Effect, counts, runEffect}
+use Rattle.model.specs.Effects.{Effect, counts}
 use Rattle.model.specs.Outcomes.{Outcome, OutputOutcome}
-use Rattle.model.specs.Calls.{Call, AllAccepted, State, start, chain, chainEffect}
+use Rattle.model.specs.Calls.{AllAccepted, State, start, chain, chainEffect}
 use Rattle.model.specs.Enhancement.{enhanced}
-use Rattle.model.proofs.Outcomes.{outcome-given, outcome-stays, output-given, output-stays}
+use Rattle.model.proofs.Outcomes.{outcome-given, outcome-stays, output-given}
 use Rattle.model.proofs.Chains.{Fine, chain-fine}
-use Rattle.passes.specs.Calls.{Sequence}
 use Rattle.passes.proofs.Calls.{sequence-is}
 use Rattle.enhance.specs.declared.Settings.{Settings}
 use Rattle.enhance.specs.Calls.{chainOf, EnhanceOutcome}
-use Rattle.enhance.specs.Calls as enhance
 use Rattle.enhance.proofs.Calls.{fine, chain-accepted}
 use Rattle.enhance.proofs.Published.{chain-published}
-use Rattle.netpbm.specs.Reading.{frameRefusal, headerReply, readAnswer}
-use Rattle.netpbm.specs.Frames.{IsHeader, IsFrame}
-use Rattle.netpbm.specs.Writing.{encoding, writeRefusal, WriteOutcome}
+use Rattle.netpbm.specs.Reading.{readReply}
+use Rattle.netpbm.specs.Writing.{encoding, writeRefusal}
 use Rattle.netpbm.proofs.Replies.{malformed-reply, headed-reply, framed-reply}
-use Rattle.netpbm.proofs.Writing.{wrote-nothing}
-use Rattle.passlists.specs.Format.{passesOf}
-use Rattle.passlists.specs.Outcomes.{fileRefusal, memoryRefusal, ListOutcome, PassesOutcome}
 use Rattle.passlists.proofs.Chains.{list-taken, list-chain, passes-taken, passes-chain}
-use Rattle.frames.specs.Program.{programOutput, Emitted}
+use Rattle.frames.specs.Program.{programOutput}
 use Rattle.frames.proofs.Program.{long-output, frame-output, refused-output}
-use Rattle.claims.specs.Claims.{AsListed, ReadAsListed, Writes, Demand1, Had, Demand2, Shapes, Coloured, Demand3}
+use Rattle.claims.specs.Claims.{AsListed, ReadAsListed, Writes, Demand1, Had, Demand2, Shapes, Coloured}
 use Rattle.claims.specs.Claims.{Demand3Holds, passesChain, Chained, ListsAreChains}
 use Rattle.claims.proofs.Shapes.{fine-shapes, grey-file}
 
@@ -77,7 +68,7 @@ module _ {n number : ℕ} {e : Effect} {bytes plane marks queue output plane' ma
       let same = stays number (counts e) output (overwritten output bytes) (O .retoned .answer) (O .output-is) k q in
       (memory .0, (memory .1 .0, (memory .1 .1, same)))
 
-reads : (bytes : List ℕ) (limit : ℕ) → ReadAsListed bytes limit (headerReply (readAnswer bytes limit))
+reads : (bytes : List ℕ) (limit : ℕ) → ReadAsListed bytes limit (readReply bytes limit)
 reads bytes limit = record {
   malformed = malformed-reply bytes limit;
   headed = λ w h maxval raster p. headed-reply limit p;

@@ -11,13 +11,12 @@ use Rattle.planes.proofs.Lists.{beyond-refl}
 use Rattle.tones.specs.Tones.{plainTone, clipped, limitedTone, tone, kept}
 use Rattle.colours.specs.Frames.{third, pixelIntensity, intensity, greatestChannel, newChannel, recolour}
 use Rattle.colours.specs.Calls.{intensityRefusal}
-use Rattle.model.specs.declared.Pass.{Pass}
 use Rattle.model.specs.Passes.{inside, values, changes, retone, newTone, passed, passCount}
 use Rattle.model.specs.Runs.{run, runCount}
 use Rattle.model.specs.Calls.{planeRefusal, roomRefusal, areaRefusal, ruleRefusal, numbersRefusal, lentRefusal}
 use Rattle.model.specs.Calls.{passRefusal, call, chain}
 use Rattle.model.specs.Enhancement.{section, level, levels, passes, callOf, enhanced}
-use Rattle.model.specs.PublishedExamples.{anyRatio}
+use Rattle.tones.specs.Examples.{anyRatio}
 use Rattle.model.proofs.PublishedExamples.{published-examples}
 use Rattle.passes.specs.Calls.{none, more}
 use Rattle.passlists.specs.Format.{passAt, passesOf, malformed, misnamed, miscounted, headRefusal, encodePass}

@@ -5,23 +5,18 @@
 --   CFunctions      one claim for each function; a pass and an enhancement by numbers that stand for no rule get 17
 use Prim.Native.Nat.{ℕ, _*_, _≤_, _<_}
 use mathlib.Core.Path.{_≡_}
-use mathlib.Core.List.{List, _∷_}
+use mathlib.Core.List.{List, [], _∷_}
 use lib.IntN.{ℤ, pos}
 use lib.ListN.{length, drop}
 use Rattle.planes.specs.Refusals.{_▷_, greatestPixels}
-use Rattle.planes.specs.Replies.{Reply, refuses, gives}
-use Rattle.colours.specs.declared.Status.{Status}
+use Rattle.planes.specs.Replies.{refuses, gives}
 use Rattle.colours.specs.Calls.{statusReply, intensityRefusal, IntensityOutcome, RecolourOutcome}
-use Rattle.model.specs.declared.Answer.{Answer}
 use Rattle.model.specs.Outcomes.{answerReply}
 use Rattle.model.specs.Calls.{lentRefusal}
 use Rattle.passes.specs.Calls.{PassOutcome}
 use Rattle.enhance.specs.Calls.{memoryRefusal, EnhanceOutcome}
 use Rattle.passlists.specs.Outcomes.{ListOutcome}
-use Rattle.netpbm.specs.declared.Header.{Header}
-use Rattle.netpbm.specs.declared.Header.the-variants.{Refused, Frame}
-use Rattle.netpbm.specs.declared.Written.{Written}
-use Rattle.netpbm.specs.Reading.{readAnswer}
+use Rattle.netpbm.specs.Reading.{readReply}
 use Rattle.netpbm.specs.Writing.{writtenReply, WriteOutcome}
 use Rattle.capi.specs.Numbers.{numberReply, doneReply, statusNumber, answerNumber, writtenNumber}
 use Rattle.capi.specs.Numbers.{formRefusal, passOf, settingsOf}
@@ -73,12 +68,12 @@ pub record CFunctions : Type 0 where
       → Stands writtenNumber (λ s. WriteOutcome raster w h output (writtenReply s) output') r
   -- a refusal of reading is answered, and the lent numbers stay
   pub of-read-refused : (bytes numbers : List ℕ) {numbers' : List ℕ} (r : ℤ) (k : ℕ)
-      → readAnswer bytes greatestPixels ≡ Refused k → ReadNumber bytes numbers r numbers'
+      → readReply bytes greatestPixels ≡ refuses k → ReadNumber bytes numbers r numbers'
       → (numberReply r ≡ refuses k) × (numbers' ≡ numbers)
   -- width, height and offset stand in three lent numbers; fewer get 14, and stay
   pub of-read : (bytes numbers : List ℕ) {numbers' : List ℕ} (r : ℤ) (w h offset : ℕ)
-      → readAnswer bytes greatestPixels ≡ Frame w h offset → ReadNumber bytes numbers r numbers' → 3 ≤ length numbers
+      → readReply bytes greatestPixels ≡ gives (w ∷ h ∷ offset ∷ []) → ReadNumber bytes numbers r numbers' → 3 ≤ length numbers
       → (r ≡ pos 0) × (numbers' ≡ w ∷ h ∷ offset ∷ drop 3 numbers)
   pub of-read-short : (bytes numbers : List ℕ) {numbers' : List ℕ} (r : ℤ) (w h offset : ℕ)
-      → readAnswer bytes greatestPixels ≡ Frame w h offset → ReadNumber bytes numbers r numbers' → length numbers < 3
+      → readReply bytes greatestPixels ≡ gives (w ∷ h ∷ offset ∷ []) → ReadNumber bytes numbers r numbers' → length numbers < 3
       → (numberReply r ≡ refuses 14) × (numbers' ≡ numbers)

@@ -21,6 +21,7 @@
 --   IntensityOutcome, RecolourOutcome, PassOutcome, EnhanceOutcome, ListOutcome, PassesOutcome, WriteOutcome   what the
 --                      calls ensure, by the reply of their answer
 --   Sequence           calls of `pass`, each lent the plane as the one before left it (passes/specs/Calls)
+--   readReply          what reading replies to some bytes (netpbm/specs/Reading)
 --   IsHeader, IsFrame  a list of bytes begins with a P6 header, is a P6 frame, by its parts (netpbm/specs/Frames)
 --   Emitted            what the program's function ensures: some bytes at the beginning of the output (frames)
 use Prim.Native.Nat.{ℕ, suc, _-_, _*_, _/_, _≤_, _<_}
@@ -45,7 +46,7 @@ use Rattle.enhance.specs.declared.Settings.{Settings}
 use Rattle.enhance.specs.Calls.{chainOf, EnhanceOutcome}
 use Rattle.enhance.specs.Calls as enhance
 use Rattle.enhance.specs.Published.{publishedOf}
-use Rattle.netpbm.specs.Reading.{frameRefusal, headerReply, readAnswer}
+use Rattle.netpbm.specs.Reading.{frameRefusal, readReply}
 use Rattle.netpbm.specs.Frames.{IsHeader, IsFrame}
 use Rattle.netpbm.specs.Writing.{encoding, writeRefusal, WriteOutcome}
 use Rattle.passlists.specs.Format.{passesOf}
@@ -78,7 +79,7 @@ pub record Writes (input written : List ℕ) : Type 0 where
   pub frame : length input ≤ program.greatestInput → (w h offset : ℕ)
       → IsFrame input program.greatestPixels w h offset → written ≡ enhancedFrame (drop offset input) w h
   pub refused : length input ≤ program.greatestInput → (k : ℕ)
-      → headerReply (readAnswer input program.greatestPixels) ≡ refuses k → written ≡ refusalLine k
+      → readReply input program.greatestPixels ≡ refuses k → written ≡ refusalLine k
 
 pub record Demand1 : Type 0 where
   pub of-intensity : (w h : ℕ) {frame plane plane' : List ℕ} {reply : Reply}
@@ -112,7 +113,7 @@ pub record Demand1 : Type 0 where
       → AsListed (writeRefusal w h (length raster) (length output)) reply
       × ((k : ℕ) → reply ≡ refuses k → output' ≡ output)
   -- reading lends no memory that could change
-  pub of-read : (bytes : List ℕ) (limit : ℕ) → ReadAsListed bytes limit (headerReply (readAnswer bytes limit))
+  pub of-read : (bytes : List ℕ) (limit : ℕ) → ReadAsListed bytes limit (readReply bytes limit)
   -- of the output the program takes the first r bytes
   pub of-program : (input : List ℕ) {output output' : List ℕ} {r : ℕ}
       → Emitted (programOutput input) output r output' → Writes input (take r output')

@@ -8,7 +8,6 @@
 --               contract is that of `run_passes` for the passes of an array: a function over a slice of structs has no
 --               plain reading
 --   CContracts  the functions for C
-use Prim.Native.Nat.{ℕ}
 use mathlib.Core.Path.{_≡_}
 use lib.ListN.{take}
 use contract.Lifetimes.{Lfts}
@@ -25,7 +24,7 @@ use Rattle.model.specs.Outcomes.{answerReply}
 use Rattle.passes.specs.Calls.{PassOutcome}
 use Rattle.passes.proofs.pass as pass
 use Rattle.passes.proofs.pass.Reads as pass-reads
-use Rattle.enhance.specs.Calls.{house, EnhanceOutcome}
+use Rattle.enhance.specs.Calls.{EnhanceOutcome}
 use Rattle.enhance.proofs.enhance as enhance
 use Rattle.enhance.proofs.enhance.Reads as enhance-reads
 use Rattle.passlists.specs.Outcomes.{ListOutcome, PassesOutcome}
@@ -33,7 +32,7 @@ use Rattle.passlists.proofs.run_list as run-list
 use Rattle.passlists.proofs.run_list.Reads as run-list-reads
 use Rattle.passarrays.proofs.run_array as run-array
 use Rattle.passarrays.proofs.run_array.Reads as run-array-reads
-use Rattle.netpbm.specs.Reading.{readAnswer}
+use Rattle.netpbm.specs.Reading.{headerReply, readReply}
 use Rattle.netpbm.specs.Writing.{writtenReply, WriteOutcome}
 use Rattle.netpbm.proofs.read as read
 use Rattle.netpbm.proofs.read.Reads as read-reads
@@ -105,10 +104,11 @@ pub record Contracts : Type 0 where
   pub passes-asks : (κs : Lfts 3) (a : ArgsD run-array.signature κs) → run-array-reads.Asked κs a
   -- read(bytes), read_within(bytes, limit)
   pub of-read : (κs : Lfts 1) (a : ArgsD read.signature κs) (r : ResD read.signature κs) (s : AtExit read.ended κs)
-      → read-reads.Learnt κs a r s → r ≡ readAnswer (now (a .0)) greatestPixels
+      → read-reads.Learnt κs a r s → headerReply r ≡ readReply (now (a .0)) greatestPixels
   pub read-asks : (κs : Lfts 1) (a : ArgsD read.signature κs) → read-reads.Asked κs a
   pub of-read-within : (κs : Lfts 1) (a : ArgsD read-within.signature κs) (r : ResD read-within.signature κs)
-      (s : AtExit read-within.ended κs) → read-within-reads.Learnt κs a r s → r ≡ readAnswer (now (a .0)) (a .1 .0)
+      (s : AtExit read-within.ended κs) → read-within-reads.Learnt κs a r s
+      → headerReply r ≡ readReply (now (a .0)) (a .1 .0)
   pub read-within-asks : (κs : Lfts 1) (a : ArgsD read-within.signature κs) → read-within-reads.Asked κs a
   -- write(raster, w, h, output)
   pub of-write : (κs : Lfts 2) (a : ArgsD write.signature κs) (r : ResD write.signature κs) (s : AtExit write.ended κs)

@@ -21,11 +21,13 @@ use Rattle.model.specs.declared.Pass.{Pass}
 use Rattle.model.specs.Effects.{passEffect, runEffect}
 use Rattle.model.specs.Calls.{chainEffect}
 use Rattle.model.specs.Enhancement.{enhanced}
-use Rattle.model.specs.PublishedExamples.{anyRatio, PublishedExamples}
+use Rattle.tones.specs.Examples.{anyRatio}
+use Rattle.model.specs.PublishedExamples.{PublishedExamples}
 use Rattle.passes.specs.Calls.{callOn, Sequence}
 use Rattle.passlists.specs.Format.{passesOf, encode}
 use Rattle.passlists.specs.Refusals.{listRefusal}
-use Rattle.frames.specs.Program.{ascii, programOutput}
+use Rattle.netpbm.specs.Bytes.{ascii}
+use Rattle.frames.specs.Program.{programOutput}
 
 -- ## Passes
 

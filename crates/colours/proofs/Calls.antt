@@ -1,7 +1,7 @@
 -- Calls of `intensity` and `recolour`: what it means that none of their refusals applies, and the outcomes of a call
 -- that is refused and of one that is done. Assumes nothing.
-use Prim.Native.Nat.{ℕ, zero, suc, _*_, _≤_}
-use mathlib.Core.Path.{_≡_, refl, sym, ap, _∙_}
+use Prim.Native.Nat.{ℕ, _*_, _≤_}
+use mathlib.Core.Path.{_≡_, sym, ap, _∙_}
 use mathlib.Core.Bool.{not, _||_}
 use mathlib.Core.List.{List, [], _++_}
 use native.Mathlib.Omega.{arith}

@@ -6,20 +6,20 @@
 --   grey-recoloured  the intensity of a recoloured grey frame
 --   grey-mono        which never falls in the old and the new intensity
 use Prim.Native.Nat.{ℕ, zero, suc, _+_, _*_, _/_, _≤_, _<_, zero-le}
-use mathlib.Core.Path.{_≡_, refl, sym, ap, _∙_}
+use mathlib.Core.Path.{_≡_, refl, ap, _∙_}
 use mathlib.Core.Bool.{Bool, true, false, cond}
 use mathlib.Core.List.{List}
 use native.Mathlib.Nat.{le-refl, mul-comm, mul-le-mul-right}
 use native.Mathlib.Omega.{arith}
-use lib.Dec.{leb, eqb}
+use lib.Dec.{leb}
 use lib.ListN.{length}
 use borrow.Author.Tests.{leb-true, leb-false, ne-eqb}
 use Rattle.planes.specs.Lists.{at}
 use Rattle.planes.specs.Rounding.{rounded}
 use Rattle.planes.proofs.Rounding.{rounded-exact}
-use Rattle.colours.specs.Frames.{red, green, blue, third, pixelIntensity, intensity, greatestChannel, newChannel}
+use Rattle.colours.specs.Frames.{red, third, pixelIntensity, intensity, greatestChannel, newChannel}
 use Rattle.colours.specs.Frames.{recolour, Grey}
-use Rattle.colours.proofs.Frames.{length-intensity, intensity-at, length-recolour, recolour-at}
+use Rattle.colours.proofs.Frames.{intensity-at, length-recolour, recolour-at}
 
 third-of : (g : ℕ) → third (g + g + g) ≡ g
 unfolding third

@@ -1,27 +1,26 @@
 -- What an accepted enhancement has, that the recursion ends as the list of passes level by level, each of which is
 -- accepted, and what intensity, the recursion and recolouring come to. Assumes nothing.
-use Prim.Native.Nat.{ℕ, zero, suc, _+_, _-_, _*_, _^_, _≤_, _<_}
-use mathlib.Core.Path.{_≡_, refl, sym, ap, ap₂, _∙_}
-use mathlib.Core.Bool.{Bool, true, false, _||_}
-use mathlib.Core.List.{List, [], _∷_, _++_, map}
+use Prim.Native.Nat.{ℕ, zero, suc, _-_, _*_, _^_, _≤_}
+use mathlib.Core.Path.{_≡_, refl, sym, ap, _∙_}
+use mathlib.Core.Bool.{_||_}
+use mathlib.Core.List.{List, [], _∷_, map}
 use native.Mathlib.Omega.{arith}
-use lib.ListN.{length, take, drop}
+use lib.ListN.{length}
 use lib.Pow.{pow-pos}
-use lib.Dec.{ltb, eqb}
-use borrow.Author.Tests.{le-ltb, eq-eqb, ne-eqb, ltb-false, eqb-false}
+use lib.Dec.{ltb}
+use borrow.Author.Tests.{le-ltb, eq-eqb, ltb-false}
 use Rattle.planes.specs.Lists.{from}
-use Rattle.planes.specs.Refusals.{when, _▷_, sizeRefusal, greatestPixels, Sized}
+use Rattle.planes.specs.Refusals.{when, _▷_, greatestPixels, Sized}
 use Rattle.planes.specs.Replies.{Reply, after, overwritten}
-use Rattle.planes.specs.Neighbours.{four}
 use Rattle.planes.proofs.Tests.{or-none}
-use Rattle.planes.proofs.Refusals.{when-none, ▷-none, ▷-right, sized-none}
+use Rattle.planes.proofs.Refusals.{when-none, ▷-none, sized-none}
 use Rattle.tones.specs.declared.Rule.{Rule}
 use Rattle.colours.specs.Frames.{intensity, recolour}
 use Rattle.colours.specs.Calls.{intensityRefusal, Accepted, IntensityOutcome, RecolourOutcome}
 use Rattle.colours.proofs.Frames.{length-intensity}
 use Rattle.colours.proofs.Calls.{intensity-accepted, recolour-accepts, recolour-given}
 use Rattle.model.specs.declared.Pass.{Pass}
-use Rattle.model.specs.Calls.{planeRefusal, roomRefusal, areaRefusal, ruleRefusal, numbersRefusal, lentRefusal, Lent}
+use Rattle.model.specs.Calls.{planeRefusal, roomRefusal, areaRefusal, ruleRefusal, numbersRefusal, lentRefusal}
 use Rattle.model.specs.Calls.{passRefusal, total, AllAccepted}
 use Rattle.model.specs.Runs.{All, none, more}
 use Rattle.model.specs.Enhancement.{section, level, levels, passes, callOf, enhanced}

@@ -3,13 +3,13 @@
 use Prim.Native.Nat.{ℕ, zero, suc, _+_, _-_, _*_, _/_, _^_, _≤_, _<_}
 use mathlib.Core.Path.{_≡_, refl, sym, ap, ap₂, _∙_}
 use mathlib.Core.Bool.{Bool, true, false, true≢false, false≢true}
-use mathlib.Core.List.{List, [], _∷_, _++_}
+use mathlib.Core.List.{List, _++_}
 use native.Mathlib.Nat.{suc-add}
 use native.Mathlib.Omega.{arith}
 use lib.ListN.{length}
 use lib.Pow.{pow-pos}
 use lib.Count.{trailingZeros}
-use Rattle.planes.specs.Lists.{from, count, Beyond}
+use Rattle.planes.specs.Lists.{from, Beyond}
 use Rattle.planes.specs.Neighbours.{Near, four}
 use Rattle.planes.proofs.Counts.{count-le, length-from}
 use Rattle.planes.proofs.Lists.{beyond-refl, beyond-trans}
@@ -17,7 +17,6 @@ use Rattle.planes.proofs.Neighbours.{four-sym}
 use Rattle.tones.specs.declared.Rule.{Rule}
 use Rattle.model.specs.declared.Pass.{Pass}
 use Rattle.model.specs.Passes.{passed, counted, passCount}
-use Rattle.model.specs.Calls.{Lent}
 use Rattle.model.specs.Runs.{run, runCount}
 use Rattle.model.specs.Enhancement.{section, deep, recursive}
 use Rattle.model.proofs.Recursion.{run-append, count-append, double}

@@ -3,7 +3,7 @@
 use Prim.Native.Nat.{ℕ, zero, suc, _+_, _-_, _*_, _/_, _^_, _≤_, _<_}
 use mathlib.Core.Path.{_≡_, refl, sym, ap, ap₂, subst, _∙_}
 use mathlib.Core.Logic.{_⊎_, inl, inr}
-use mathlib.Core.Bool.{Bool, true, false, cond, _&&_, true≢false, false≢true}
+use mathlib.Core.Bool.{Bool, true, false, cond, _&&_}
 use mathlib.Core.List.{List, [], _∷_}
 use native.Mathlib.Nat.{pow-suc, suc-add}
 use native.Mathlib.Numerals.{add-one}
@@ -28,7 +28,7 @@ use Rattle.passes.specs.declared.Next.{Next}
 use Rattle.passes.specs.declared.Treatment.{Treatment}
 use Rattle.passes.proofs.Inert.{Part, part-within, was-within, inside-part, inert-part}
 use Rattle.enhance.specs.declared.Settings.{Settings}
-use Rattle.enhance.specs.Recursion.{Wide, passOn, Ready, Away, NextIs, Numbered, Due, Halves, Apart}
+use Rattle.enhance.specs.Recursion.{passOn, Ready, Away, NextIs, Numbered, Due, Halves, Apart}
 use Rattle.enhance.proofs.Levels.{low-half, high-half}
 
 -- ## Values

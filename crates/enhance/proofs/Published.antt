@@ -8,7 +8,7 @@ use mathlib.Core.List.{List}
 use native.Mathlib.Omega.{arith}
 use lib.ListN.{length}
 use Rattle.planes.specs.Lists.{at}
-use Rattle.planes.specs.Replies.{Reply, gives}
+use Rattle.planes.specs.Replies.{gives}
 use Rattle.colours.specs.Frames.{intensity, recolour}
 use Rattle.colours.proofs.Frames.{length-intensity, intensity-bytes}
 use Rattle.model.specs.Effects.{Effect}

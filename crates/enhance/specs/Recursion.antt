@@ -16,7 +16,6 @@ use mathlib.Core.Path.{_≡_}
 use mathlib.Core.Logic.{_⊎_}
 use mathlib.Core.Bool.{Bool, true, false}
 use mathlib.Core.List.{List, _++_}
-use lib.ListN.{length}
 use Rattle.planes.specs.Lists.{at, Beyond}
 use Rattle.planes.specs.Neighbours.{four}
 use Rattle.components.specs.Search.{None}

@@ -12,12 +12,11 @@ use mathlib.Core.List.{List}
 use lib.ListN.{length, drop}
 use borrow.Author.Tests.{lt-ltb, le-ltb}
 use Rattle.planes.specs.Replies.{refuses}
-use Rattle.netpbm.specs.Reading.{headerReply, readAnswer}
+use Rattle.netpbm.specs.Reading.{readReply, readAnswer}
 use Rattle.netpbm.specs.Frames.{IsFrame}
 use Rattle.netpbm.specs.declared.Header.{Header}
-use Rattle.netpbm.specs.declared.Header.the-variants.{Frame}
 use Rattle.netpbm.proofs.Frames.{accepted-iff}
-use Rattle.netpbm.proofs.Replies.{header-refuses}
+use Rattle.netpbm.proofs.Replies.{refused-answer}
 use Rattle.frames.specs.Program.{greatestInput, greatestPixels, refusalLine, enhancedFrame, outputFor}
 use Rattle.frames.specs.Program.{programOutput, Emitted}
 
@@ -36,8 +35,8 @@ module _ (input : List ℕ) where
   frame-output {w} {h} {offset} short f = read-output short (accepted-iff input greatestPixels w h offset .1 f)
 
   pub refused-output : {k : ℕ} → length input ≤ greatestInput
-      → headerReply (readAnswer input greatestPixels) ≡ refuses k → programOutput input ≡ refusalLine k
-  refused-output short e = read-output short (header-refuses (readAnswer input greatestPixels) e)
+      → readReply input greatestPixels ≡ refuses k → programOutput input ≡ refusalLine k
+  refused-output short e = read-output short (refused-answer input greatestPixels e)
 
   module _ {output output' : List ℕ} {r : ℕ} where
     pub long-emitted : greatestInput < length input → Emitted (refusalLine 13) output r output'

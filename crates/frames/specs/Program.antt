@@ -5,8 +5,6 @@
 --   programOutput   what the program writes for an input
 --   Emitted         the contract of what is written into the output
 use Prim.Native.Nat.{ℕ, _≤_}
-use Prim.Native.Char.{code}
-use Prim.Native.String.{String, [] as none, _∷_ as _then_}
 use mathlib.Core.Path.{_≡_}
 use mathlib.Core.Bool.{cond}
 use mathlib.Core.List.{List, [], _∷_, _++_}
@@ -14,6 +12,7 @@ use lib.Dec.{ltb}
 use lib.ListN.{length, take, drop}
 use Rattle.colours.specs.Frames.{recolour}
 use Rattle.enhance.specs.Calls.{house, chainOf}
+use Rattle.netpbm.specs.Bytes.{ascii}
 use Rattle.netpbm.specs.Reading.{readAnswer}
 use Rattle.netpbm.specs.Writing.{decimal, encoding}
 use Rattle.netpbm.specs.declared.Header.{Header}
@@ -25,11 +24,6 @@ greatestInput = 65536
 
 abbrev pub greatestPixels : ℕ
 greatestPixels = 16384
-
--- the bytes of a text
-abbrev pub ascii : String → List ℕ
-ascii none = []
-ascii (c then text) = code c ∷ ascii text
 
 unfoldable pub refusalLine : ℕ → List ℕ
 refusalLine number = ascii "refused " ++ decimal number ++ (10 ∷ [])

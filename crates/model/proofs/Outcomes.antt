@@ -6,11 +6,11 @@
 --   outcome-given   a call that gives values was not refused, and had its effect
 --   outcome-stays   a call that was refused left all memory as it was
 --   output-number, output-refused-by, output-done-by, output-given, output-stays   the same with an output
-use Prim.Native.Nat.{ℕ, zero, suc}
+use Prim.Native.Nat.{ℕ}
 use mathlib.Core.Path.{_≡_, refl, sym, ap, subst, _∙_}
 use mathlib.Core.List.{List, [], _∷_}
 use native.Mathlib.Omega.{arith}
-use Rattle.planes.specs.Replies.{Reply, refuses, gives, replied, after, overwritten}
+use Rattle.planes.specs.Replies.{Reply, refuses, gives, after, overwritten}
 use Rattle.planes.proofs.Lists.{beyond-refl}
 use Rattle.planes.proofs.Replies.{replied-refuses, replied-gives, replied-refused, after-refused}
 use Rattle.model.specs.declared.Answer.the-variants.{Refused, Done}

@@ -7,7 +7,7 @@
 --   State        the model's plane, and the replies so far
 --   call, chain  the state after a call, and after a chain of calls
 --   chainEffect  what a chain of calls comes to
-use Prim.Native.Nat.{ℕ, zero, suc, _+_, _*_, _≤_}
+use Prim.Native.Nat.{ℕ, _+_, _*_, _≤_}
 use mathlib.Core.Path.{_≡_}
 use mathlib.Core.Bool.{not, _||_}
 use mathlib.Core.List.{List, [], _∷_, _++_}

@@ -8,15 +8,12 @@ use mathlib.Core.List.{List, [], _∷_}
 use Rattle.planes.specs.Neighbours.{four}
 use Rattle.tones.specs.declared.Rule.{Rule}
 use Rattle.tones.specs.declared.Rule.the-variants.{Plain, Limited}
+use Rattle.tones.specs.Examples.{anyRatio}
 use Rattle.model.specs.Published.{published}
 
 -- in a plane p of w columns
 abbrev pub Leaves : ℕ → List ℕ → ℕ → ℕ → Rule → List ℕ → ℕ → Type 0
 Leaves w p last area rule q k = published (four w) last area rule p ≡ record { plane = q; retoned = k }
-
--- low 0 and high 25,500: whatever the ratio of the spreads, only components of one value are kept back
-abbrev pub anyRatio : Rule
-anyRatio = Plain 0 25500
 
 abbrev pub grey : List ℕ
 grey = 10 ∷ 20 ∷ []

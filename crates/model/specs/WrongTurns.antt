@@ -22,7 +22,8 @@ use Rattle.tones.specs.Tones.{kept}
 use Rattle.model.specs.Effects.{Effect}
 use Rattle.model.specs.Published.{Procedure, levelSet, connectedComponents, painted}
 use Rattle.model.specs.Published.{histogramEqualization, readingOrder, forEach, processLevelSet, published}
-use Rattle.model.specs.PublishedExamples.{anyRatio, grey}
+use Rattle.tones.specs.Examples.{anyRatio}
+use Rattle.model.specs.PublishedExamples.{grey}
 
 -- ## The wrong turns
 

@@ -1,10 +1,17 @@
 -- The bytes of a header, in ASCII: digits, whitespace and the rest, and the value of a run of digits. Definitions only.
 use Prim.Native.Nat.{ℕ, _+_, _-_, _*_}
+use Prim.Native.Char.{code}
+use Prim.Native.String.{String, [] as none, _∷_ as _then_}
 use mathlib.Core.Bool.{Bool, _&&_, _||_, cond}
 use mathlib.Core.List.{List, [], _∷_}
 use lib.Dec.{eqb, leb}
 use Rattle.netpbm.specs.declared.Move.{Move}
 use Rattle.netpbm.specs.declared.Move.the-variants.{Take, Skip, Stop}
+
+-- the bytes of a text
+abbrev pub ascii : String → List ℕ
+ascii none = []
+ascii (c then text) = code c ∷ ascii text
 
 -- 0 to 9
 unfoldable pub isDigit : ℕ → Bool

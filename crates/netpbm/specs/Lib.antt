@@ -5,3 +5,4 @@ pub mod Cursors
 pub mod Reading
 pub mod Frames
 pub mod Writing
+pub mod Examples

@@ -6,7 +6,7 @@ use mathlib.Core.List.{List, [], _∷_}
 use lib.Dec.{eqb, ltb}
 use lib.ListN.{length}
 use Rattle.planes.specs.Refusals.{when, _▷_, sizeRefusal}
-use Rattle.planes.specs.Replies.{Reply, refuses, gives}
+use Rattle.planes.specs.Replies.{Reply, refuses, gives, replied}
 use Rattle.netpbm.specs.Parsers.{Parsed, failed, parsed}
 use Rattle.netpbm.specs.Grammar.{Numbers, header}
 use Rattle.netpbm.specs.declared.Header.{Header}
@@ -35,6 +35,17 @@ answered bytes limit (parsed n raster) =
     framed (frameRefusal (n .width) (n .height) (n .maxval) (length raster) limit)
     (n .width) (n .height) (length bytes - length raster)
 
--- the answer for a list of bytes
+-- the same as a reply
+abbrev pub replyFor : List ℕ → ℕ → Parsed Numbers → Reply
+replyFor bytes limit failed = refuses 10
+replyFor bytes limit (parsed n raster) =
+    replied (frameRefusal (n .width) (n .height) (n .maxval) (length raster) limit)
+    (n .width ∷ n .height ∷ (length bytes - length raster) ∷ [])
+
+-- the reply to a list of bytes
+unfoldable pub readReply : List ℕ → ℕ → Reply
+readReply bytes limit = replyFor bytes limit (header bytes)
+
+-- the answer to a list of bytes, whose reply that is (`read-reply`)
 unfoldable pub readAnswer : List ℕ → ℕ → Header
 readAnswer bytes limit = answered bytes limit (header bytes)

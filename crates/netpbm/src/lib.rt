@@ -13,7 +13,7 @@ ghost use Rattle.netpbm.specs.Bytes.{isWhite, moveFor};
 ghost use Rattle.netpbm.specs.Parsers.{takeWhile, one};
 ghost use Rattle.netpbm.specs.Grammar.{mark, number, field, header};
 ghost use Rattle.netpbm.specs.Cursors.{passed, endedNumber, numberAt, fieldsAt};
-ghost use Rattle.netpbm.specs.Reading.{frameRefusal, readAnswer};
+ghost use Rattle.netpbm.specs.Reading.{frameRefusal, headerReply, readReply};
 ghost use Rattle.netpbm.specs.Writing.{decimal, heading, writeRefusal, Put, writtenReply, WriteOutcome};
 
 // The greatest number of digits of a number in a header.
@@ -217,7 +217,7 @@ fn frame_refusal(w: usize, h: usize, maxval: usize, raster: usize, limit: usize)
 
 // Refused with 10 where the header is malformed or ended, and else with 1, 2, 11, 12 or 13, in that order.
 pub fn read_within(bytes: &[u8], limit: usize) -> Header
-    ensures { λ r. ⌜ r ≡ readAnswer (now (bytes .entry)) limit ⌝ }
+    ensures { λ r. ⌜ headerReply r ≡ readReply (now (bytes .entry)) limit ⌝ }
 {
     let Fields::Whole {
         w,
@@ -237,7 +237,7 @@ pub fn read_within(bytes: &[u8], limit: usize) -> Header
 
 // Refused as above, with 2 for more than 1,048,576 pixels.
 pub fn read(bytes: &[u8]) -> Header
-    ensures { λ r. ⌜ r ≡ readAnswer (now (bytes .entry)) greatestPixels ⌝ }
+    ensures { λ r. ⌜ headerReply r ≡ readReply (now (bytes .entry)) greatestPixels ⌝ }
 {
     read_within(bytes, planes::PIXELS)
 }

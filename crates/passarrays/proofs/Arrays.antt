@@ -18,7 +18,7 @@ use base.Logic.{SProp, ent, sep, ex}
 use base.Fml.{Lft, GName, Share, Fml, fsep, fat, froom, flft, fdead, flent}
 use prog.Wp.{Heap}
 use ghost.Atoms.{Atoms, sem}
-use types.Kit.{Given, ‵, _⊛_, some, later, _$_, _∵_, !, qed, move, keep, use1, use2, split, split3, pick, rewrite}
+use types.Kit.{Given, ‵, _⊛_, some, later, _$_, _∵_, !, qed, move, keep, use1, use2, split, pick, rewrite}
 use types.Kit.{fsplit, fjoin, fpick, fpack, feqL, feqI, await, updating, now as at-once, show, done}
 use types.Tokens.{lent-back}
 use types.Share.{arr-parts}

@@ -1,13 +1,13 @@
 -- What an accepted call does, and that each call is a step of the model; so any sequence of calls gives the model's
 -- replies and state. Assumes nothing.
-use Prim.Native.Nat.{ℕ, zero, suc, _*_, _≤_, _<_}
+use Prim.Native.Nat.{ℕ, _*_, _≤_, _<_}
 use mathlib.Core.Path.{_≡_, refl, sym, ap, ap₂, _∙_}
 use mathlib.Core.Bool.{Bool, true, false, cond, _&&_, true≢false}
 use mathlib.Core.List.{List, [], _∷_, _++_, append-assoc, append-nil}
 use native.Mathlib.Omega.{arith}
 use lib.ListN.{length}
 use Rattle.planes.specs.Lists.{at}
-use Rattle.planes.specs.Neighbours.{Near, four}
+use Rattle.planes.specs.Neighbours.{Near}
 use Rattle.planes.proofs.Tests.{and-left, and-right}
 use Rattle.planes.specs.Replies.{Reply}
 use Rattle.planes.proofs.Lists.{beyond-trans}

@@ -6,7 +6,7 @@
 --   replied-refused   by any other number it is refused with that
 --   after-refused     and lent memory is as it was
 use Prim.Native.Nat.{ℕ, zero, suc}
-use mathlib.Core.Path.{_≡_, refl, sym, ap, _∙_}
+use mathlib.Core.Path.{_≡_, refl, sym, ap}
 use mathlib.Core.List.{List, []}
 use native.Mathlib.Omega.{arith}
 use Rattle.planes.specs.Replies.{Reply, refuses, gives, replied, after}

@@ -1,3 +1,4 @@
 pub mod Tones
 pub mod Sound
 pub mod Histograms
+pub mod Examples

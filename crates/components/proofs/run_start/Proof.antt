@@ -8,8 +8,6 @@ use Rattle.planes.specs.Lists.{at}
 use Rattle.planes.proofs.Tests.{less-or-not}
 use Rattle.components.proofs.run_start.Statement.{statement}
 use Rattle.components.proofs.run_start.Tie as tie
-use Rattle.components.proofs.run_start.Reads as reads
-use Rattle.components.proofs.run_start.Lts as lts
 
 abbrev Inv-loop : tie.InvT-loop
 Inv-loop marks code row q first₀ first =

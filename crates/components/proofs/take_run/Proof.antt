@@ -10,8 +10,6 @@ use Rattle.components.proofs.Taken.{room-for}
 use Rattle.components.proofs.Runs.{run-room}
 use Rattle.components.proofs.take_run.Statement.{statement}
 use Rattle.components.proofs.take_run.Tie as tie
-use Rattle.components.proofs.take_run.Reads as reads
-use Rattle.components.proofs.take_run.Lts as lts
 
 abbrev Inv-loop : tie.InvT-loop
 Inv-loop marks₀ queue₀ code at end tail next₀ p₀ marks queue next p =

@@ -3,6 +3,7 @@
 use mathlib.Core.Path.{sym, _∙_}
 use borrow.Author.Needs.{needs}
 use Rattle.netpbm.proofs.Frames.{accepted-iff}
+use Rattle.netpbm.proofs.Replies.{read-back}
 use Rattle.frames.proofs.Program.{long-emitted, read-emitted}
 use Rattle.frames.proofs.program_output.Statement.{statement}
 use Rattle.frames.proofs.program_output.Tie as tie
@@ -29,20 +30,20 @@ put-enhanced-requires : tie.Need-put-enhanced-requires
 put-enhanced-requires c κs =
     let case = c .before .before in
     let reading = case .before .before in
-    accepted-iff _ _ _ _ _ .0 (sym (reading .read-within .ensures) ∙ case .header2 .given .1)
+    accepted-iff _ _ _ _ _ .0 (sym (read-back _ _ (reading .read-within .result) (reading .read-within .ensures)) ∙ case .header2 .given .1)
 
 returns-2 : tie.Need-returns-2
 returns-2 c =
     let case = c .before .before .before in
     let reading = case .before .before in
-    let answer = sym (reading .read-within .ensures) ∙ case .header .given .1 in
+    let answer = sym (read-back _ _ (reading .read-within .result) (reading .read-within .ensures)) ∙ case .header .given .1 in
     read-emitted _ (reading .before .if1 .left) answer (c .put-refusal2 .ensures)
 
 returns-3 : tie.Need-returns-3
 returns-3 c =
     let case = c .before .before .before in
     let reading = case .before .before in
-    let answer = sym (reading .read-within .ensures) ∙ case .header2 .given .1 in
+    let answer = sym (read-back _ _ (reading .read-within .result) (reading .read-within .ensures)) ∙ case .header2 .given .1 in
     read-emitted _ (reading .before .if1 .left) answer (c .put-enhanced .ensures)
 
 pub program-output-spec : {M : Type 1} → statement M

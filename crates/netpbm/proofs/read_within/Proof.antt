@@ -3,13 +3,16 @@
 use Prim.Native.Nat.{_≤_}
 use mathlib.Core.Path.{_≡_, sym, _∙_}
 use borrow.Author.Needs.{needs}
+use mathlib.Core.List.{[], _∷_}
 use lib.ListN.{length, drop}
 use denote.Ref.{now}
 use Rattle.netpbm.specs.Parsers.{parsed}
 use Rattle.netpbm.specs.Grammar.{header}
-use Rattle.netpbm.specs.Reading.{framed, readAnswer}
+use Rattle.planes.specs.Replies.{replied}
+use Rattle.planes.proofs.Replies.{replied-none, replied-refused}
+use Rattle.netpbm.specs.Reading.{readReply}
 use Rattle.netpbm.proofs.Cursors.{header-lost, header-read}
-use Rattle.netpbm.proofs.Answers.{framed-refused, answer-framed}
+use Rattle.netpbm.proofs.Answers.{reply-headed}
 use Rattle.netpbm.proofs.read_within.Statement.{statement}
 use Rattle.netpbm.proofs.read_within.Tie as tie
 
@@ -35,7 +38,7 @@ header-is c =
     (sym (c .before .before .read-header .ensures) ∙ c .w .given .1)
 
 returns : tie.Need-returns
-unfolding readAnswer
+unfolding readReply
 returns c =
     let reading = c .before .before in
     let bytes = now (reading .before .before .args .bytes) in
@@ -47,22 +50,23 @@ sub-frame-refusal c = header-is (c .before) .1
 frame-refusal-requires : tie.Need-frame-refusal-requires
 frame-refusal-requires c κs = search needs
 
--- the answer, by the refusal's number
-answer-is : (c : tie.After-frame-refusal)
-    → readAnswer (now (c .before .before .before .before .before .before .args .bytes))
+-- the reply, by the refusal's number
+reply-is : (c : tie.After-frame-refusal)
+    → readReply (now (c .before .before .before .before .before .before .args .bytes))
     (c .before .before .before .before .before .before .args .limit)
-    ≡ framed (c .frame-refusal .result) (c .before .before .w .given .0 .0) (c .before .before .w .given .0 .1 .0)
-    (c .before .before .w .given .0 .1 .1 .1 .0)
-answer-is c =
+    ≡ replied (c .frame-refusal .result)
+    (c .before .before .w .given .0 .0 ∷ c .before .before .w .given .0 .1 .0
+    ∷ c .before .before .w .given .0 .1 .1 .1 .0 ∷ [])
+reply-is c =
     let args = c .before .before .before .before .before .before .args in
     let known = header-is (c .before .before) in
-    answer-framed (now (args .bytes)) (args .limit) _ _ _ _ (known .0) (known .1) ∙ rw (← c .frame-refusal .ensures)
+    reply-headed (now (args .bytes)) (args .limit) _ _ _ _ (known .0) (known .1) ∙ rw (← c .frame-refusal .ensures)
 
 returns-2 : tie.Need-returns-2
-returns-2 c = sym (answer-is (c .before) ∙ framed-refused (c .before .frame-refusal .result) _ _ _ (c .if1 .taken))
+returns-2 c = sym (reply-is (c .before) ∙ replied-refused (c .before .frame-refusal .result) _ (c .if1 .taken))
 
 returns-3 : tie.Need-returns-3
-returns-3 c = sym (answer-is (c .before) ∙ rw (c .if1 .left))
+returns-3 c = sym (reply-is (c .before) ∙ replied-none (c .before .frame-refusal .result) _ (c .if1 .left))
 
 pub read-within-spec : {M : Type 1} → statement M
 read-within-spec =

@@ -66,7 +66,7 @@ use Rattle.passlists.proofs.run_passes as run-passes
 use Rattle.passlists.proofs.run_passes.Symbol as run-passes-def
 use Rattle.passlists.proofs.run_passes.Symbol.{name as #passlists·run-passes}
 use Rattle.passlists.proofs.run_passes.Met as run-passes-thm
-use Rattle.passarrays.proofs.Arrays.{Kept, at-start, lends-front, array-back}
+use Rattle.passarrays.proofs.Arrays.{Kept, lends-front, array-back}
 use Rattle.passarrays.proofs.run_front.Key.{name as #passarrays·run-front}
 use Rattle.passarrays.proofs.run_front as run-front
 use Rattle.passarrays.proofs.run_front.Statement as stated

@@ -1,7 +1,6 @@
 -- `passes::treat_component` meets its contract: an inert component is left alone, another gets its tones and its next
 -- marks. Assumes nothing.
 use mathlib.Core.Path.{refl, sym, _∙_}
-use native.Mathlib.Omega.{arith}
 use borrow.Author.Needs.{needs}
 use Rattle.passes.proofs.Steps.{queue-size, least-area, left-alone, done}
 use Rattle.passes.proofs.treat_component.Statement.{statement}

@@ -1,11 +1,8 @@
 -- `passes::treat_plane` meets its contract: the plane is one component, and once it is treated all is done. Assumes
 -- nothing.
-use Prim.Native.Nat.{_*_, _≤_, _<_}
-use native.Mathlib.Omega.{arith}
+use Prim.Native.Nat.{_*_, _≤_}
 use native.Mathlib.Nat.{mul-le-mul}
 use borrow.Author.Needs.{needs}
-use lib.ListN.{length}
-use Rattle.planes.specs.Neighbours.{four}
 use Rattle.components.proofs.Whole.{plane-region}
 use Rattle.passes.proofs.Passing.{treatable, pass-begin, component, alike, listed, one-component}
 use Rattle.passes.proofs.treat_plane.Statement.{statement}

@@ -2,7 +2,6 @@
 -- length. Assumes nothing.
 use Prim.Native.Nat.{_-_}
 use native.Mathlib.Omega.{arith}
-use borrow.Author.Needs.{needs}
 use Rattle.cases.proofs.lines.bytes.Statement.{statement}
 use Rattle.cases.proofs.lines.bytes.Tie as tie
 
