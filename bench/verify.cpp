@@ -1,5 +1,5 @@
 // Holds the published structure against stored cases of the second implementation: of the files CASES.in and CASES.out
-// all accepted passes and enhancements with the plain rule. The format is described in reference/src/bin/vectors.rs.
+// all accepted passes and enhancements with the plain rule. The format is described in reference/src/cases.rs.
 //
 //   verify CASES.in CASES.out
 

@@ -1,6 +1,7 @@
 //! Finds the static library, or builds it with `rt staticlib capi`, which proves every crate under it first. Offline.
 //!
 //! - `MLHE_LIBRARY` names a library that is there, `path/to/libcapi.a`: it is linked as it is.
+//! - `MLHE_LIBRARY=none` links nothing, which is enough for `cargo check`, `cargo clippy` and `cargo doc`.
 //! - Otherwise `rt staticlib capi` runs in the repository; what is unchanged since it was proved is not proved again.
 //! - Where there is no `rt`, `target/staticlib/libcapi.a` of the repository is linked, if it is there.
 
@@ -11,6 +12,7 @@ use std::process::Command;
 fn main() {
     println!("cargo:rerun-if-env-changed=MLHE_LIBRARY");
     let library = match env::var_os("MLHE_LIBRARY") {
+        Some(path) if path == "none" => return,
         Some(path) => PathBuf::from(path),
         None => built(),
     };
@@ -29,7 +31,7 @@ fn built() -> PathBuf {
     let library = repository.join("target/staticlib/libcapi.a");
     match Command::new("rt").args(["staticlib", "capi"]).current_dir(repository).output() {
         Ok(output) if output.status.success() => {}
-        Ok(output) => panic!("rt staticlib capi: {}", String::from_utf8_lossy(&output.stdout)),
+        Ok(output) => panic!("rt staticlib capi failed: {}", String::from_utf8_lossy(&output.stdout)),
         Err(error) => assert!(library.exists(), "rt: {error}, and there is no {}", library.display()),
     }
     library

@@ -10,8 +10,7 @@ column=expected
 
 out=target/corpus
 mkdir -p "$out"
-rt check mlhe > "$out/check.log" || { cat "$out/check.log"; exit 1; }
-cargo build --quiet --release --offline --manifest-path reference/Cargo.toml --target-dir target/cargo
+export CARGO_TARGET_DIR=$PWD/target/cargo
 program=target/bin/mlhe
 reference=target/cargo/release/program
 manifest=tests/corpus/MANIFEST.tsv
@@ -20,6 +19,10 @@ fail() {
     echo "corpus: $1" >&2
     exit 1
 }
+
+rt check mlhe > "$out/check.log" 2>&1 ||
+    { cat "$out/check.log" && tools/next "$out/check.log" mlhe && fail "mlhe is not proved"; }
+cargo build --quiet --release --locked -p mlhe_reference
 
 # prints the name, length and expected answer of each file, separated by tabs
 entries() {
@@ -32,12 +35,19 @@ entries() {
 answer() {
     "$program" < "$1" > "$out/answer"
     "$reference" < "$1" > "$out/reference"
-    cmp "$out/answer" "$out/reference" || fail "$1: the second implementation answers otherwise"
+    cmp "$out/answer" "$out/reference" || fail "$1: the program and the second implementation answer otherwise. \
+Next: cmp $out/answer $out/reference; look at crates/frames and reference/src/program.rs"
+}
+
+# the answer is not the expected one
+wrong() {
+    fail "$2: expected '$1', answered '$(head -c 14 "$out/answer" | tr '\n' ' ' | tr -cd '[:print:]')'. Next: the requirements decide \
+whether column $column of $manifest or crates/netpbm and crates/frames are wrong"
 }
 
 # the program answered the line
 answered() {
-    printf '%s\n' "$1" | cmp "$out/answer" - || fail "$2: not $1"
+    printf '%s\n' "$1" | cmp -s "$out/answer" - || wrong "$1" "$2"
 }
 
 entries > "$out/entries" || fail "$manifest has no column $column"
@@ -45,13 +55,13 @@ accepted=0
 refused=0
 while IFS=$'\t' read -r name length expected; do
     file=tests/corpus/$name
-    [ "$(stat -c %s "$file")" = "$length" ] || fail "$name does not have $length bytes"
+    [ "$(stat -c %s "$file")" = "$length" ] || fail "$name does not have the $length bytes that $manifest says"
     answer "$file"
     case $expected in
     "accept "*)
         sides=${expected#accept }
         printf 'P6\n%s\n255\n' "${sides/x/ }" > "$out/header"
-        cmp -n "$(stat -c %s "$out/header")" "$out/answer" "$out/header" || fail "$name: not $expected"
+        cmp -n "$(stat -c %s "$out/header")" "$out/answer" "$out/header" > /dev/null 2>&1 || wrong "$expected" "$name"
         accepted=$((accepted + 1))
         ;;
     *)

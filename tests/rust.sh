@@ -9,31 +9,39 @@ set -euo pipefail
 cd "$(dirname "$0")/.."
 out=target/rust
 mkdir -p "$out"
+export CARGO_TARGET_DIR=$PWD/target/cargo
 
-# The library is proved and built once, here, and all that follows links it.
+fail() {
+    echo "rust: $1" >&2
+    exit 1
+}
+
+# The library is proved and built once, here, unless it is named, and all that follows links it.
 if [ -z "${MLHE_LIBRARY:-}" ]; then
-    rt staticlib capi > "$out/staticlib.log" 2>&1 || { cat "$out/staticlib.log"; exit 1; }
+    rt staticlib capi > "$out/staticlib.log" 2>&1 ||
+        { cat "$out/staticlib.log" && tools/next "$out/staticlib.log" capi && fail "capi is not proved"; }
     MLHE_LIBRARY=$PWD/target/staticlib/libcapi.a
 fi
+MLHE_LIBRARY=$(realpath "$MLHE_LIBRARY")
 export MLHE_LIBRARY
-export CARGO_TARGET_DIR=$PWD/target/cargo
-cargo=(cargo --quiet --offline --locked)
+cargo=(cargo --quiet --locked)
 
-for package in reference rust tests/differential tools/evidence bench/checker; do
-    cargo fmt --check --manifest-path "$package/Cargo.toml"
-done
-"${cargo[@]}" test --manifest-path reference/Cargo.toml
-"${cargo[@]}" test --manifest-path rust/Cargo.toml
-"${cargo[@]}" test --manifest-path tools/evidence/Cargo.toml
-"${cargo[@]}" run --release --manifest-path tests/differential/Cargo.toml -- "$@"
-"${cargo[@]}" run --release --manifest-path tools/evidence/Cargo.toml -- --check
+# tests/hostile.sh has the package that links another library.
+"${cargo[@]}" test --release --workspace --exclude mlhe_hostile ||
+    fail "a test failed. Next: cargo test --release -p PACKAGE NAME, with the names above"
+"${cargo[@]}" run --release -p mlhe_differential -- "$@" ||
+    fail "library and second implementation differ. Next: cargo run --release -p mlhe_differential -- --case K --seed S, \
+with the numbers above"
+"${cargo[@]}" run --release -p mlhe_evidence -- --check ||
+    fail "docs/EVIDENCE.md and its pictures are made from tools/evidence, not by hand. Next: \
+cargo run --release -p mlhe_evidence, and read the difference"
 
 # Both examples, as their documentation says: frames of the corpus with the house setting and with a list, the same
 # bytes from both; and what is wrong with a file is said, with a status that is not 0.
 make --quiet -C examples/c MLHE_LIBRARY="$MLHE_LIBRARY"
-"${cargo[@]}" build --release --manifest-path rust/Cargo.toml --example enhance
+"${cargo[@]}" build --release -p mlhe --example enhance
 c=examples/c/enhance
-rust=$CARGO_TARGET_DIR/release/examples/enhance
+rust=target/cargo/release/examples/enhance
 frames=(tests/corpus/pil.ppm tests/corpus/imagemagick-4096x4.ppm tests/corpus/column-1x1024.ppm)
 # One limited pass on [0, 255], area 1, clip 10.
 printf 'MLP\1\0\1\0\0\377\1\0\1\0\0\0\12\0\0\0' > "$out/limited.mlp"
@@ -46,9 +54,9 @@ done
 for frame in "${frames[@]}"; do
     name=$(basename "$frame")
     "$c" "$frame" "$out/c.ppm"
-    cmp "$out/c.ppm" "$out/house/$name"
+    cmp "$out/c.ppm" "$out/house/$name" || fail "$name: examples/c and rust/examples differ with the house setting"
     "$c" "$out/limited.mlp" "$frame" "$out/c.ppm"
-    cmp "$out/c.ppm" "$out/list/$name"
+    cmp "$out/c.ppm" "$out/list/$name" || fail "$name: examples/c and rust/examples differ with a list"
 done
 
 # A command that has to end with status 1 and to name the file and the refusal on standard error.
@@ -57,8 +65,7 @@ refused() {
     shift 2
     "$@" > /dev/null 2> "$out/error.txt" || status=$?
     if [ "$status" != 1 ] || ! grep -q "$file: refused $number: " "$out/error.txt"; then
-        echo "$*: status $status, and $(cat "$out/error.txt")"
-        exit 1
+        fail "$*: not refused with $number, but status $status and: $(cat "$out/error.txt")"
     fi
 }
 short=tests/corpus/truncated-middle.ppm
@@ -66,4 +73,4 @@ refused "$short" 12 "$c" "$short" "$out/c.ppm"
 refused "$short" 12 "$rust" --to "$out/house" "${frames[0]}" "$short"
 refused "$short" 15 "$c" "$short" "${frames[0]}" "$out/c.ppm"
 refused "$short" 15 "$rust" --list "$short" --to "$out/house" "${frames[0]}"
-echo "tests/rust.sh: all passed"
+echo "rust: tests, differential test, examples and evidence are in order"

@@ -1,5 +1,59 @@
-//! Test cases in files: how a case is stored and which line answers it. The format is described at the head of
-//! `src/bin/vectors.rs`.
+//! Test cases in files: how a case is stored and which line answers it. `src/bin/vectors` makes the stored ones.
+//!
+//! # A case
+//!
+//! A file is a sequence of cases with nothing before, between or after them. A case has a head of 36 bytes, then
+//! `bytes`, then `plane`; the next case starts at 36 + length of bytes + length of plane. Numbers are stored low byte
+//! first. A call uses the fields that it needs; the others are there and mean nothing.
+//!
+//! | At | Size | Field |
+//! |---|---|---|
+//! | 0 | 1 | kind: 0 intensity, 1 pass, 2 recolour, 3 enhance, 4 list, 5 passes, 6 read, 7 write, 8 program |
+//! | 1 | 1 | a |
+//! | 2 | 1 | b |
+//! | 3 | 1 | rule: 0 plain, 1 limited; no other number occurs |
+//! | 4 | 2 | low of the plain rule, or k of the limited rule |
+//! | 6 | 2 | high of the plain rule, or 0 |
+//! | 8 | 4 | least area |
+//! | 12 | 1 | L, the last level |
+//! | 13 | 1 | same plane: 1 if the plane is the one that the case before left, else 0 |
+//! | 14 | 2 | length of marks |
+//! | 16 | 2 | length of queue |
+//! | 18 | 2 | length of output |
+//! | 20 | 4 | w |
+//! | 24 | 4 | h |
+//! | 28 | 4 | pixel limit of the reader |
+//! | 32 | 2 | length of bytes, at most 12,320 |
+//! | 34 | 2 | length of plane, at most 288 |
+//! | 36 | | bytes: the frame (0, 2, 3), the list (4), the passes (5), the input (6, 8) or the raster (7) |
+//! | | | plane: the plane's bytes before the call (0 to 5) |
+//!
+//! Passes in memory (kind 5) are given by 12 bytes each: a, b, rule (0 or 1), 0, area (4 bytes), then low and high or
+//! k and 0 (2 bytes each). The list in memory has as many passes as `bytes` has twelves, at most 1,025.
+//!
+//! # Running a case
+//!
+//! 1. If `same plane` is 0, the plane becomes the case's plane; its length is the length of that field. If it is 1,
+//!    the field is empty, and the plane and its length are as the case before left them. The first case has 0.
+//! 2. marks gets its length (at most 320), entry i being (i + 1) mod 256; queue its length (at most 320), entry i
+//!    being 3 × i + 5; output its length (at most 3,200), every byte being 170.
+//! 3. The call is made with parts of exactly these lengths.
+//! 4. A line is printed, ended by LF:
+//!
+//! | Kind | Line after acceptance | Line after refusal N |
+//! |---|---|---|
+//! | 0 intensity | `+0 PLANE` | `-N PLANE` |
+//! | 1 pass, 4 list, 5 passes | `+COUNT PLANE STRAYS` | `-N PLANE STRAYS` |
+//! | 2 recolour | `+0 OUTPUT` | `-N OUTPUT` |
+//! | 3 enhance | `+COUNT PLANE OUTPUT STRAYS` | `-N PLANE OUTPUT STRAYS` |
+//! | 6 read | `+W H OFFSET` | `-N` |
+//! | 7 write | `+LENGTH OUTPUT` | `-N OUTPUT` |
+//! | 8 program | `OUTPUT` | `OUTPUT` |
+//!
+//! One space stands between the parts, also where a part is empty. Numbers are decimal. PLANE and OUTPUT are all bytes
+//! of the lent plane and of the lent output after the call, as two lower-case hexadecimal digits each; the program's
+//! OUTPUT is what it would print, be it a frame or `refused N` and LF. STRAYS is the number of entries of marks and
+//! queue that had to stay and did not: after acceptance those from w × h on, after refusal all of them. It is 0.
 
 use crate::{enhance, intensity, pass, program, read, recolour, run_list, run_passes, write};
 use crate::{Pass, Rule, Settings};
@@ -17,7 +71,7 @@ pub const GREATEST_OUTPUT: usize = 3_200;
 pub const OUTPUT_FILL: u8 = 170;
 
 /// The call that a case makes. The stored number is the place in this list, from 0 on.
-#[derive(Clone, Copy, Debug, PartialEq, Eq)]
+#[derive(Clone, Copy, Debug, PartialEq, Eq, PartialOrd, Ord)]
 pub enum Kind {
     Intensity,
     Pass,

@@ -6,18 +6,28 @@ use std::fs;
 use std::path::PathBuf;
 use std::process::Command;
 
-fn folder() -> PathBuf {
-    PathBuf::from(env!("CARGO_MANIFEST_DIR")).join("../tests/vectors")
+fn repository() -> PathBuf {
+    PathBuf::from(env!("CARGO_MANIFEST_DIR")).join("..")
 }
 
-/// The cases and the answers of a stored file.
-fn stored(name: &str) -> (Vec<Case>, Vec<String>) {
-    let file = fs::read(folder().join(format!("{name}.in"))).expect("the cases are there");
-    let lines = fs::read_to_string(folder().join(format!("{name}.out"))).expect("the answers are there");
+/// The cases and the answers of two stored files.
+fn stored(input: &str, output: &str) -> (Vec<Case>, Vec<String>) {
+    let file = fs::read(repository().join(input)).expect("the cases are there");
+    let lines = fs::read_to_string(repository().join(output)).expect("the answers are there");
     let lines: Vec<String> = lines.lines().map(str::to_string).collect();
     let cases = cases(&file);
     assert_eq!(cases.len(), lines.len());
     (cases, lines)
+}
+
+fn stored_calls() -> (Vec<Case>, Vec<String>) {
+    stored("crates/vectors/stdin", "crates/vectors/stdout")
+}
+
+/// The cases of one call with a plane of their own, and their answers.
+fn stored_of(kind: Kind) -> (Vec<Case>, Vec<String>) {
+    let (cases, lines) = stored_calls();
+    cases.into_iter().zip(lines).filter(|(case, _)| case.kind == kind && !case.same_plane).unzip()
 }
 
 /// The first word of the line that answers a case.
@@ -27,34 +37,34 @@ fn first_word(case: &Case) -> String {
 
 #[test]
 fn the_stored_files_are_what_the_generator_makes() {
-    let status = Command::new(env!("CARGO_BIN_EXE_vectors")).arg("--check").arg(folder()).status();
-    assert!(status.expect("the generator runs").success());
+    let status = Command::new(env!("CARGO_BIN_EXE_vectors")).arg("--check").arg(repository()).status();
+    assert!(status.expect("the generator runs").success(), "tests/vectors.sh --make makes the stored files again");
 }
 
 #[test]
 fn every_refusal_of_every_call_is_there() {
-    let refusals: [(&str, &[u8]); 8] = [
-        ("intensity", &[1, 2, 3]),
-        ("pass", &[1, 2, 3, 4, 5, 6, 7, 8]),
-        ("recolour", &[1, 2, 3, 14]),
-        ("enhance", &[1, 2, 3, 4, 6, 7, 8, 9, 14]),
-        ("list", &[1, 2, 3, 4, 5, 6, 7, 8, 15, 16, 17]),
-        ("passes", &[1, 2, 3, 4, 5, 6, 7, 8, 16]),
-        ("read", &[1, 2, 10, 11, 12, 13]),
-        ("write", &[1, 2, 3, 14]),
+    let refusals: [(Kind, &[u8]); 8] = [
+        (Kind::Intensity, &[1, 2, 3]),
+        (Kind::Pass, &[1, 2, 3, 4, 5, 6, 7, 8]),
+        (Kind::Recolour, &[1, 2, 3, 14]),
+        (Kind::Enhance, &[1, 2, 3, 4, 6, 7, 8, 9, 14]),
+        (Kind::List, &[1, 2, 3, 4, 5, 6, 7, 8, 15, 16, 17]),
+        (Kind::Passes, &[1, 2, 3, 4, 5, 6, 7, 8, 16]),
+        (Kind::Read, &[1, 2, 10, 11, 12, 13]),
+        (Kind::Write, &[1, 2, 3, 14]),
     ];
-    for (name, expected) in refusals {
-        let (_, lines) = stored(name);
+    for (kind, expected) in refusals {
+        let (_, lines) = stored_of(kind);
         let number = |line: &String| line.strip_prefix('-')?.split(' ').next()?.parse().ok();
         let found: BTreeSet<u8> = lines.iter().filter_map(number).collect();
-        assert_eq!(found, expected.iter().copied().collect(), "{name}");
+        assert_eq!(found, expected.iter().copied().collect(), "{kind:?}");
     }
 }
 
 /// Each level changes some count and some plane: so does the last one, with low 0 and with the limited rule.
 #[test]
 fn every_level_shows() {
-    let (cases, lines) = stored("enhance");
+    let (cases, lines) = stored_of(Kind::Enhance);
     for last_level in 1..=7 {
         for rule in [0, 1] {
             let (mut counts, mut planes) = (0, 0);
@@ -74,7 +84,7 @@ fn every_level_shows() {
 /// Both rules retone; the plain rule keeps back by each of its limits; the area decides.
 #[test]
 fn every_part_of_a_pass_shows() {
-    let (cases, lines) = stored("pass");
+    let (cases, lines) = stored_of(Kind::Pass);
     let accepted: Vec<(&Case, &String)> = cases.iter().zip(&lines).filter(|(_, line)| line.starts_with('+')).collect();
     let differs = |change: fn(&mut Case), rule: u8| {
         let changed = |&&(case, line): &&(&Case, &String)| {
@@ -97,24 +107,26 @@ fn every_part_of_a_pass_shows() {
     }
 }
 
-/// A chain starts with intensity and goes on with the same plane.
+/// A chain starts with intensity and goes on with the same plane, through passes to recolouring.
 #[test]
 fn chains_go_on_with_the_same_plane() {
-    let (cases, _) = stored("chain");
-    for case in &cases {
-        assert_eq!(case.same_plane, case.kind != Kind::Intensity);
-        assert!(!case.same_plane || case.plane.is_empty());
+    let (cases, _) = stored_calls();
+    let mut links = BTreeSet::new();
+    for pair in cases.windows(2).filter(|pair| pair[1].same_plane) {
+        assert!(pair[1].plane.is_empty());
+        links.insert((pair[0].kind, pair[1].kind));
     }
-    assert!(cases.windows(2).any(|pair| pair[0].kind == Kind::Intensity && pair[1].kind == Kind::Recolour));
+    let (start, middle, end) = (Kind::Intensity, Kind::Pass, Kind::Recolour);
+    assert_eq!(links, BTreeSet::from([(start, middle), (start, end), (middle, middle), (middle, end)]));
 }
 
 /// The reader sees both sides of its limits, and the program both frames and refusals.
 #[test]
 fn frames_are_read_and_refused() {
-    let (cases, lines) = stored("read");
+    let (cases, lines) = stored_of(Kind::Read);
     assert!(lines.iter().filter(|line| line.starts_with('+')).count() > 100);
     assert!(cases.iter().any(|case| case.limit == 6 && first_word(case) == "+3"));
-    let (cases, lines) = stored("program");
+    let (cases, lines) = stored("tests/vectors/program.in", "tests/vectors/program.out");
     let same = |case: &Case, line: &str| answers(&encode(case)).trim_end() == line;
     assert!(cases.iter().zip(&lines).all(|(case, line)| same(case, line)));
     let frames = lines.iter().filter(|line| line.starts_with("5036")).count();

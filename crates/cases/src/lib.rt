@@ -1,5 +1,5 @@
 // Stored test cases: reading them from standard input, making the call that each one describes, and printing the line
-// that answers it. The format of the cases and of the lines is described at the head of reference/src/bin/vectors.rs.
+// that answers it. The format of the cases and of the lines is described at the head of reference/src/cases.rs.
 //
 // run_cases   answers all cases on standard input
 //

@@ -25,7 +25,9 @@ fn every_input_is_answered_as_by_the_second_implementation() {
         let before = index as u8;
         output.fill(before);
         let size = program(&input, &mut output);
-        assert_eq!(output[..size], mlhe_reference::program(&input), "input {index} of seed {SEED}");
+        let (answer, expected) = (&output[..size], mlhe_reference::program(&input));
+        let kinds = || format!("{} and {}", kind(answer), kind(&expected));
+        assert!(answer == expected, "input {index} of seed {SEED}: the answers differ, {}", kinds());
         assert!(output[size..].iter().all(|&byte| byte == before), "input {index}: the output beyond the answer");
         *answers.entry(kind(&output[..size])).or_default() += 1;
     }

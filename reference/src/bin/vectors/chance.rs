@@ -1,0 +1,100 @@
+//! Random calls, and parts of them.
+
+use crate::sound::{enhance_grey, pass_on};
+use mlhe_reference::cases::Case;
+use mlhe_reference::random::Random;
+use mlhe_reference::Components;
+
+/// A random plane of w columns: noise, few values, narrow ranges, ramps or neighbouring pairs of values.
+pub fn random_plane(random: &mut Random, w: usize, n: usize) -> Vec<u8> {
+    let style = random.below(5);
+    let (start, step) = (random.byte(), random.between(1, 40));
+    let values: Vec<u8> = (0..random.between(2, 5)).map(|_| random.byte()).collect();
+    let pixel = |p: usize| match style {
+        0 => random.byte(),
+        1 => random.one_of(&values),
+        2 => start.saturating_add(random.below(9) as u8),
+        3 => start.wrapping_add((step * (p % w + p / w)) as u8),
+        _ => (start & 0xFE) + random.below(2) as u8,
+    };
+    (0..n).map(pixel).collect()
+}
+
+/// A random rule and its numbers, which are sound.
+pub fn random_rule(random: &mut Random) -> (u8, [u16; 2]) {
+    if random.below(5) < 3 {
+        (
+            0,
+            [
+                random.one_of(&[0, 0, 0, 50, 80, 100]),
+                random.one_of(&[100, 150, 300, 300, 1_000, 2_550, 25_500, 25_500]),
+            ],
+        )
+    } else {
+        let random_clip = random.between(0, 1_000) as u16;
+        (1, [random.one_of(&[0, 1, 10, 30, 100, 300, 999, 1_000, random_clip]), 0])
+    }
+}
+
+/// A random section: of the recursion, any at all, or most often one laid around two values of the plane.
+pub fn random_section(random: &mut Random, plane: &[u8]) -> [u8; 2] {
+    let level = random.below(40);
+    if level < 8 {
+        let width = 256 >> level;
+        let a = random.below(256 / width) * width;
+        return [a as u8, (a + width - 1) as u8];
+    }
+    let two = if level < 10 { [random.byte(), random.byte()] } else { [random.one_of(plane), random.one_of(plane)] };
+    let margin = random.one_of(&[0, 1, 5, 60]);
+    [two[0].min(two[1]).saturating_sub(margin), two[0].max(two[1]).saturating_add(margin)]
+}
+
+/// Sides up to these.
+pub fn random_sides(random: &mut Random, w: usize, h: usize) -> (usize, usize) {
+    (random.between(1, w), random.between(1, h))
+}
+
+/// A random pass on a plane of at most these sides. Most least areas are about the size of a component.
+pub fn random_pass(random: &mut Random, w: usize, h: usize) -> Case {
+    let (w, h) = random_sides(random, w, h);
+    let plane = random_plane(random, w, w * h);
+    let (rule, numbers) = random_rule(random);
+    let section = random_section(random, &plane);
+    let components = Components::new(w, h).of_section(&plane, section[0], section[1]);
+    let mut areas = vec![1, 1, 1];
+    areas.extend(components.iter().map(|component| component.len() as u32));
+    let area = random.one_of(&areas) + random.one_of(&[0, 0, 0, 1]);
+    let mut case = pass_on(&plane, w, section, area, rule, numbers);
+    case.marks += random.one_of(&[0, 0, 1, 9]);
+    case.queue += random.one_of(&[0, 0, 1, 9]);
+    case
+}
+
+/// A random enhancement of a frame of at most these sides, grey or coloured.
+pub fn random_enhance(random: &mut Random, w: usize, h: usize) -> Case {
+    let (w, h) = random_sides(random, w, h);
+    let n = w * h;
+    let (rule, numbers) = random_rule(random);
+    let last_level = random.one_of(&[0, 1, 2, 3, 4, 5, 6, 7, 7, 7, 7]);
+    let area = random.one_of(&[1, 1, 2, 3, 6, 20]);
+    let greys = random_plane(random, w, n);
+    let mut case = enhance_grey(&greys, w, last_level, area, rule, numbers);
+    if random.below(2) == 0 {
+        case.bytes = random_plane(random, w, 3 * n);
+    }
+    case.output += random.one_of(&[0, 0, 0, 1, 5]);
+    case.marks += random.one_of(&[0, 0, 3]);
+    case.queue += random.one_of(&[0, 0, 3]);
+    case
+}
+
+/// Enhancements and passes on planes of up to 20 by 14 pixels.
+pub fn random_cases(number: usize, seed: u64) -> Vec<Case> {
+    let mut random = Random::new(seed);
+    let mut cases = Vec::new();
+    for _ in 0..number {
+        cases.push(random_enhance(&mut random, 20, 14));
+        cases.push(random_pass(&mut random, 20, 14));
+    }
+    cases
+}

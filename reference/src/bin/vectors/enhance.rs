@@ -1,0 +1,46 @@
+//! Cases of `enhance`.
+
+use crate::chance::{random_enhance, random_plane};
+use crate::faults::{area_test, faulty, lengths_test, memory_test, output_test, rule_tests, size_tests};
+use crate::sound::{enhance_grey, FREE};
+use mlhe_reference::cases::Case;
+use mlhe_reference::random::Random;
+
+pub fn cases() -> Vec<Case> {
+    let mut cases = vec![
+        enhance_grey(&[10, 20], 2, 0, 20, 0, FREE),
+        enhance_grey(&[10, 20], 2, 1, 1, 0, FREE),
+        enhance_grey(&[10, 20], 2, 7, 1, 0, FREE),
+        enhance_grey(&[10, 20], 2, 7, 20, 0, [80, 300]),
+        enhance_grey(&[40, 100, 255], 3, 0, 1, 0, [80, 300]),
+        enhance_grey(&[40, 100, 255], 3, 1, 1, 0, [80, 300]),
+    ];
+    let mut random = Random::new(50);
+    // The same planes at every level.
+    for (w, h) in [(5, 3), (4, 2), (3, 3)] {
+        let greys = random_plane(&mut random, w, w * h);
+        for last_level in 0..=7 {
+            for (rule, numbers) in [(0, FREE), (0, [80, 300]), (1, [300, 0])] {
+                cases.push(enhance_grey(&greys, w, last_level, 1, rule, numbers));
+            }
+        }
+    }
+    cases.extend((0..280).map(|_| random_enhance(&mut random, 5, 3)));
+    for _ in 0..24 {
+        let case = random_enhance(&mut random, 16, 16);
+        cases.push(Case { last_level: 7, area: random.one_of(&[1, 5, 20]), ..case });
+    }
+    // The house setting on pictures that it changes.
+    for _ in 0..4 {
+        let base = random.byte() / 2;
+        let greys: Vec<u8> = (0..144).map(|p| base + (3 * (p % 12 + p / 12) + random.below(6)) as u8).collect();
+        cases.push(enhance_grey(&greys, 12, 7, 20, 0, [80, 300]));
+    }
+    let mut tests = size_tests();
+    tests.extend([lengths_test(), memory_test(), output_test()]);
+    tests.push((9, vec![|case| case.last_level = 8, |case| case.last_level = 255]));
+    tests.push(area_test());
+    tests.extend(rule_tests());
+    cases.extend(faulty(&enhance_grey(&[10, 20, 30, 40], 2, 7, 20, 0, FREE), &tests, [7, 8]));
+    cases
+}

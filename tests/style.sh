@@ -1,0 +1,19 @@
+#!/usr/bin/env bash
+# The layout of all sources, and the lints of the Rust packages. Proves nothing and links nothing.
+set -euo pipefail
+cd "$(dirname "$0")/.."
+export CARGO_TARGET_DIR=$PWD/target/cargo
+
+fail() {
+    echo "style: $1" >&2
+    exit 1
+}
+
+rt fmt --check || fail "a crate is not in the layout. Next: rt fmt"
+cargo fmt --all --check || fail "Rust is not in the layout. Next: cargo fmt --all"
+MLHE_LIBRARY=none MLHE_FRAMES=none cargo clippy --quiet --locked --workspace --all-targets -- -D warnings ||
+    fail "clippy warns. Next: MLHE_LIBRARY=none MLHE_FRAMES=none cargo clippy --workspace --all-targets"
+if command -v shellcheck > /dev/null; then
+    shellcheck .ci/run .ci/report .ci/budget tests/*.sh bench/run tools/edits tools/next || fail "shellcheck warns"
+fi
+echo "style: the layout and the lints are in order"
