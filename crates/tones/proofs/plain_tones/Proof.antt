@@ -1,6 +1,7 @@
 -- `tones::plain_tones` meets its contract: the test says whether the rule keeps the values, and the table has the
 -- values or their tones. Assumes nothing.
 use Rattle.tones.specs.Tones.{tone}
+use Rattle.tones.proofs.Stores.{outside-none, refilled-outside}
 use Rattle.tones.proofs.Histograms.{ruled-kept, ruled-toned}
 use borrow.Author.Needs.{needs}
 use Rattle.tones.proofs.plain_tones.Statement.{statement}
@@ -14,8 +15,10 @@ fill-same-requires c κs = search needs
 
 returns : tie.Need-returns
 returns c =
-    let test = c .before .before in
-    ruled-kept (test .before .plain-keeps .ensures) (test .if1 .taken) (c .fill-same .ensures)
+    let test = c .before .before in (
+      ruled-kept (test .before .plain-keeps .ensures) (test .if1 .taken) (c .fill-same .ensures),
+      record { counts-rest = outside-none _; table-rest = refilled-outside (c .fill-same .ensures) },
+    )
 
 plain-table-requires : tie.Need-plain-table-requires
 plain-table-requires c κs = search needs
@@ -24,7 +27,8 @@ returns-2 : tie.Need-returns-2
 unfolding tone
 returns-2 c =
     let test = c .before .before .before in
-    ruled-toned (test .before .plain-keeps .ensures) (test .if1 .left) (c .plain-table .ensures)
+    let tabled = c .plain-table .ensures in
+    (ruled-toned (test .before .plain-keeps .ensures) (test .if1 .left) (tabled .0), tabled .1)
 
 pub plain-tones-spec : {M : Type 1} → statement M
 plain-tones-spec =
