@@ -96,12 +96,9 @@ grow {a} {b} {vs} {counts} x h ax xb small = record {
       (λ o. omega (arith, h .entry v av vb, no-more (eqb v) vs x (ne-eqb v x o)));
 }
 
-pub tally-none : {a b : ℕ} (plane queue : List ℕ) {l counts : List ℕ} → Refilled (λ v. 0) a (b + 1) l counts
-    → length l ≡ 256 → Tally a b (values plane queue 0) counts
-tally-none plane queue h size = record {
-  size = h .size ∙ size;
-  entry = λ v av vb. h .new v av (omega arith);
-}
+pub tally-none : {a b : ℕ} (plane queue : List ℕ) {counts : List ℕ} → length counts ≡ 256
+    → ((v : ℕ) → a ≤ v → v ≤ b → at counts v ≡ 0) → Tally a b (values plane queue 0) counts
+tally-none plane queue size zeros = record { size = size; entry = zeros }
 
 pub tally-more : (plane queue : List ℕ) (i : ℕ) {a b : ℕ} {counts : List ℕ} → Tally a b (values plane queue i) counts
     → i < length queue → a ≤ at plane (at queue i) → at plane (at queue i) ≤ b → at plane (at queue i) < 256

@@ -24,7 +24,14 @@ clear-requires c κs = search needs
 loop-holds : tie.Need-loop-holds Inv-loop μ-loop
 loop-holds c =
     let a = c .before .before .before .before .args in
-    (omega arith, (tally-none (a .plane .now) (a .queue .now) (c .clear .ensures) (omega arith), outside-none _))
+    let zeros = c .clear .ensures in (
+      omega arith,
+      (
+        tally-none (a .plane .now) (a .queue .now) (omega (arith, zeros .size))
+            (λ v av vb. zeros .new v (omega arith) (omega arith)),
+        outside-none _,
+      ),
+    )
 
 mul-p : tie.Need-mul-p Inv-loop μ-loop
 mul-p c = omega arith

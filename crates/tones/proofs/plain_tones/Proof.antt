@@ -4,6 +4,7 @@ use Rattle.tones.specs.Tones.{tone}
 use Rattle.tones.proofs.Stores.{outside-none, refilled-outside}
 use Rattle.tones.proofs.Histograms.{ruled-kept, ruled-toned}
 use borrow.Author.Needs.{needs}
+use native.Mathlib.Omega.{arith}
 use Rattle.tones.proofs.plain_tones.Statement.{statement}
 use Rattle.tones.proofs.plain_tones.Tie as tie
 
@@ -15,9 +16,11 @@ fill-same-requires c κs = search needs
 
 returns : tie.Need-returns
 returns c =
-    let test = c .before .before in (
-      ruled-kept (test .before .plain-keeps .ensures) (test .if1 .taken) (c .fill-same .ensures),
-      record { counts-rest = outside-none _; table-rest = refilled-outside (c .fill-same .ensures) },
+    let test = c .before .before in
+    let same = c .fill-same .ensures in (
+      ruled-kept (test .before .plain-keeps .ensures) (test .if1 .taken)
+          (λ v av vb. same .new v (omega arith) (omega arith)),
+      record { counts-rest = outside-none _; table-rest = refilled-outside same },
     )
 
 plain-table-requires : tie.Need-plain-table-requires
