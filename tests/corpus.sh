@@ -87,3 +87,11 @@ done
 { head -c 12; sleep 0.2; head -c 5000; sleep 0.2; cat; } < tests/corpus/pil.ppm | "$program" > "$out/answer"
 "$program" < tests/corpus/pil.ppm | cmp - "$out/answer" || fail "a frame in pieces"
 echo "corpus: inputs at the limit of length, and one in pieces, as they should be"
+
+# an output that is not written whole is told on standard error, and nothing else is
+"$program" < samples/dusk.ppm > /dev/full 2> "$out/errors"
+printf 'mlhe: output not written whole\n' | cmp "$out/errors" - || fail "an output that cannot be written. \
+Next: look at crates/mlhe/src/main.rt"
+"$program" < samples/dusk.ppm 2> "$out/errors" > "$out/answer"
+[ ! -s "$out/errors" ] || fail "an output that was written whole: $(head -c 80 "$out/errors")"
+echo "corpus: an output that cannot be written is told of"
