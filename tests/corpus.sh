@@ -1,7 +1,7 @@
 #!/usr/bin/env bash
 # Runs the program on every file of the corpus. Each answer is the one that the manifest names, and byte for byte that
-# of the second implementation. Inputs at the limit of length, and one that arrives in pieces, follow. Proves and builds
-# the program first, unless nothing has changed since.
+# of the second implementation. Inputs at the limit of length, one that arrives in pieces, and an output that cannot be
+# written follow. Proves and builds the program first, unless nothing has changed since.
 set -euo pipefail
 cd "$(dirname "$0")/.."
 
