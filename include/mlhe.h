@@ -4,6 +4,13 @@
  * Built by `rt staticlib capi`, which writes target/staticlib/libcapi.a for x86-64 Linux. Every function is proved to
  * meet the contract that crates/capi states, and this page says the same in words.
  *
+ * What is guaranteed. Through any chain of passes on a plane that mlhe_intensity filled, and in the plane that
+ * mlhe_enhance leaves, equal four-neighbours stay equal, unequal ones are never reversed, and each regional maximum or
+ * minimum contains a whole one of the first plane. This is said of the plane, not of a recoloured frame: recolouring
+ * holds a channel at 255 and rounds, so that the frame's own intensity is another plane, in which neighbours may be
+ * reversed and spots be new. Match spots on the plane. Where all pixels of the frame are grey, the same holds of the
+ * recoloured frame's own intensity too.
+ *
  * Planes and frames. A plane has w columns and h rows, each 1 to 4,096, and n = w * h pixels, at most 1,048,576: one
  * byte each, row by row, left to right. A frame has the bytes red, green, blue for each pixel: 3 * n bytes.
  *
@@ -132,7 +139,9 @@ int64_t mlhe_run_list(const uint8_t *list, size_t list_length, uint8_t *plane, s
                       size_t marks_length, uint32_t *queue, size_t queue_length, size_t w, size_t h);
 
 /*
- * Recolours a frame from new intensities, such as passes leave them in the plane that mlhe_intensity filled.
+ * Recolours a frame from new intensities, such as passes leave them in the plane that mlhe_intensity filled. The three
+ * channels of a pixel are scaled alike and rounded, and held so that none is above 255; a pixel of intensity 0 becomes
+ * black. So the recoloured frame's own intensity may differ from the plane.
  *
  * frame     3 * n bytes
  * plane     n bytes
@@ -151,7 +160,7 @@ int64_t mlhe_recolour(const uint8_t *frame, size_t frame_length, size_t w, size_
  * last      0 to 7
  * area      the least area of a component from level 1 on
  * rule, first, second   as in enum mlhe_rule
- * plane     n bytes, which become the new intensity
+ * plane     n bytes, which become the new intensity: the plane to match spots on
  * marks     working memory, at least n elements
  * queue     working memory, at least n elements
  * output    at least 3 * n bytes, of which the first 3 * n become the recoloured frame

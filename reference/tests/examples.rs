@@ -1,4 +1,4 @@
-//! The examples A to Q of the requirements.
+//! The examples A to Q of the requirements (docs/REQUIREMENTS.md).
 
 use mlhe_reference::{enhance, intensity, level_by_level, pass, program, recolour, run_list, run_passes};
 use mlhe_reference::{list_bytes, Pass, Rule, Settings};

@@ -1,12 +1,14 @@
 //! Enhances P6 frames of any allowed size.
 //!
-//!     cargo run --release --example enhance -- [--list LIST.mlp] [--to FOLDER] FILE...
+//!     cargo run --release --example enhance -- [--list LIST.mlp] [--to FOLDER] [--planes] FILE...
 //!
 //! Each file is enhanced with the house setting, or with the passes of a list, and written to a file of the same name
-//! in the folder, or beside it as NAME.mlhe.ppm. One line for each file says how far the run is. What is wrong with a
-//! file goes to standard error; the others are still enhanced, and the exit status is then 1. Wrong arguments give 2.
+//! in the folder, or beside it as NAME.mlhe.ppm. With --planes the plane, on which spots are to be matched, is written
+//! beside the result, as the grey frame RESULT.plane.ppm. One line for each file says how far the run is. What is wrong
+//! with a file goes to standard error; the others are still enhanced, and the exit status is then 1. Wrong arguments
+//! give 2.
 
-use mlhe::{Frame, Memory, PassList, Settings};
+use mlhe::{Enhanced, Frame, Memory, PassList, Plane, Refusal, Settings};
 use std::error::Error;
 use std::path::{Path, PathBuf};
 use std::process::ExitCode;
@@ -15,12 +17,13 @@ use std::{env, fs};
 struct Arguments {
     list: Option<PathBuf>,
     folder: Option<PathBuf>,
+    planes: bool,
     files: Vec<PathBuf>,
 }
 
 fn main() -> ExitCode {
     let Some(arguments) = arguments() else {
-        eprintln!("usage: enhance [--list LIST.mlp] [--to FOLDER] FILE...");
+        eprintln!("usage: enhance [--list LIST.mlp] [--to FOLDER] [--planes] FILE...");
         return ExitCode::from(2);
     };
     match run(&arguments) {
@@ -30,12 +33,13 @@ fn main() -> ExitCode {
 }
 
 fn arguments() -> Option<Arguments> {
-    let mut arguments = Arguments { list: None, folder: None, files: Vec::new() };
+    let mut arguments = Arguments { list: None, folder: None, planes: false, files: Vec::new() };
     let mut words = env::args_os().skip(1);
     while let Some(word) = words.next() {
         match word.to_str() {
             Some("--list") => arguments.list = Some(words.next()?.into()),
             Some("--to") => arguments.folder = Some(words.next()?.into()),
+            Some("--planes") => arguments.planes = true,
             Some(option) if option.starts_with("--") => return None,
             _ => arguments.files.push(word.into()),
         }
@@ -56,7 +60,7 @@ fn run(arguments: &Arguments) -> usize {
     let mut wrong = 0;
     for (done, file) in arguments.files.iter().enumerate() {
         let progress = format!("{}/{}", done + 1, arguments.files.len());
-        match enhance(file, list.as_ref(), arguments.folder.as_deref(), &mut memory) {
+        match enhance(file, list.as_ref(), arguments, &mut memory) {
             Ok(report) => println!("{progress} {}: {report}", file.display()),
             Err(error) => {
                 eprintln!("{progress} {error}");
@@ -78,23 +82,27 @@ fn read_list(file: &Path) -> Result<PassList, String> {
 }
 
 /// Enhances one file and answers what was done.
-fn enhance(file: &Path, list: Option<&PassList>, folder: Option<&Path>, memory: &mut Memory) -> Result<String, String> {
+fn enhance(file: &Path, list: Option<&PassList>, arguments: &Arguments, memory: &mut Memory) -> Result<String, String> {
     let frame = Frame::from_p6(&fs::read(file).map_err(about(file))?).map_err(about(file))?;
-    let (enhanced, retoned) = match list {
-        None => {
-            let enhanced = frame.enhanced(&Settings::HOUSE, memory).map_err(about(file))?;
-            (enhanced.frame, enhanced.retoned)
-        }
-        Some(list) => {
-            let mut plane = frame.intensity();
-            let retoned = plane.run(list, memory);
-            (frame.recoloured(&plane).map_err(about(file))?, retoned)
-        }
-    };
-    let target = target(file, folder)?;
-    fs::write(&target, enhanced.to_p6()).map_err(about(&target))?;
+    let (recoloured, plane, retoned) = enhanced(&frame, list, memory).map_err(about(file))?;
+    let target = target(file, arguments.folder.as_deref())?;
+    write(&target, &recoloured)?;
+    if arguments.planes {
+        write(&target.with_extension("plane.ppm"), &plane.to_frame())?;
+    }
     let sides = format!("{} x {}", frame.width(), frame.height());
     Ok(format!("{sides}, {retoned} components retoned, {}", target.display()))
+}
+
+/// The recoloured frame, the plane that it is recoloured from, and the number of retoned components.
+fn enhanced(frame: &Frame, list: Option<&PassList>, memory: &mut Memory) -> Result<(Frame, Plane, u32), Refusal> {
+    let Some(list) = list else {
+        let Enhanced { frame, plane, retoned } = frame.enhanced(&Settings::HOUSE, memory)?;
+        return Ok((frame, plane, retoned));
+    };
+    let mut plane = frame.intensity();
+    let retoned = plane.run(list, memory);
+    Ok((frame.recoloured(&plane)?, plane, retoned))
 }
 
 fn target(file: &Path, folder: Option<&Path>) -> Result<PathBuf, String> {
@@ -103,4 +111,8 @@ fn target(file: &Path, folder: Option<&Path>) -> Result<PathBuf, String> {
         Some(folder) => folder.join(name),
         None => file.with_extension("mlhe.ppm"),
     })
+}
+
+fn write(target: &Path, frame: &Frame) -> Result<(), String> {
+    fs::write(target, frame.to_p6()).map_err(about(target))
 }

@@ -17,9 +17,10 @@ pub struct Frame {
 /// What an enhancement leaves.
 #[derive(Clone, Debug, PartialEq, Eq)]
 pub struct Enhanced {
-    /// The recoloured frame.
+    /// The frame, recoloured from the plane. Its own intensity is not the plane and keeps less: recolouring holds a
+    /// channel at 255 and rounds.
     pub frame: Frame,
-    /// Its new intensity.
+    /// The new intensity. What is guaranteed is guaranteed of this plane: match spots here.
     pub plane: Plane,
     /// The number of retoned components, on all levels.
     pub retoned: u32,
@@ -90,6 +91,9 @@ impl Frame {
     }
 
     /// The frame, recoloured from new intensities. [`Refusal::Lengths`] where the plane has other sides.
+    ///
+    /// The channels of a pixel keep their order. Each is scaled alike and rounded, and held so that none is above 255;
+    /// a pixel of intensity 0 becomes black. So the new frame's own intensity may differ from the plane.
     ///
     /// ```
     /// use mlhe::{Frame, Plane, Refusal};

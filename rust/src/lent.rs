@@ -1,5 +1,6 @@
 //! The calls on memory that the caller lends, with nothing allocated: one safe function for each C function. What is
-//! too short or does not fit is refused, and a refused call changes nothing.
+//! too short or does not fit is refused, and a refused call changes nothing. What is guaranteed is guaranteed of the
+//! plane, as the crate's page says.
 //!
 //! A plane has w columns and h rows, each 1 to 4,096, and n = w × h bytes, at most 1,048,576; a frame has 3 × n bytes,
 //! red, green, blue. Marks and queue are working memory of at least n elements with any content; the first n elements
@@ -35,6 +36,7 @@ pub struct Header {
 /// Reads the header of a P6 frame and measures the rest. Refusals, in order: 10, 1, 2, 11, 12, 13.
 pub fn read(bytes: &[u8]) -> Result<Header, Refusal> {
     let mut numbers = [0; 3];
+    // SAFETY: each pointer goes with the length of its memory; `numbers` is writable and apart from `bytes`.
     let answer = unsafe { ffi::mlhe_read(bytes.as_ptr(), bytes.len(), numbers.as_mut_ptr(), numbers.len()) };
     Refusal::of_answer(answer)?;
     let [w, h, offset] = numbers;
@@ -43,12 +45,14 @@ pub fn read(bytes: &[u8]) -> Result<Header, Refusal> {
 
 /// Writes a P6 frame and answers the number of bytes written. Refusals, in order: 1, 2, 3, 14.
 pub fn write(raster: &[u8], w: usize, h: usize, output: &mut [u8]) -> Result<usize, Refusal> {
+    // SAFETY: each pointer goes with the length of its slice; what is writable is borrowed alone.
     let answer = unsafe { ffi::mlhe_write(raster.as_ptr(), raster.len(), w, h, output.as_mut_ptr(), output.len()) };
     Refusal::of_answer(answer).map(|length| length as usize)
 }
 
 /// Fills a plane with the intensities of a frame. Refusals, in order: 1, 2, 3.
 pub fn intensity(frame: &[u8], w: usize, h: usize, plane: &mut [u8]) -> Result<(), Refusal> {
+    // SAFETY: each pointer goes with the length of its slice; what is writable is borrowed alone.
     let answer = unsafe { ffi::mlhe_intensity(frame.as_ptr(), frame.len(), w, h, plane.as_mut_ptr(), plane.len()) };
     Refusal::of_answer(answer).map(|_| ())
 }
@@ -63,6 +67,7 @@ pub fn pass(
     pass: &Pass,
 ) -> Result<u32, Refusal> {
     let (rule, first, second) = pass.rule.numbers();
+    // SAFETY: each pointer goes with the length of its slice; what is writable is borrowed alone.
     let answer = unsafe {
         ffi::mlhe_pass(
             plane.as_mut_ptr(),
@@ -94,6 +99,7 @@ pub fn run_list(
     w: usize,
     h: usize,
 ) -> Result<u32, Refusal> {
+    // SAFETY: each pointer goes with the length of its slice; what is writable is borrowed alone.
     let answer = unsafe {
         ffi::mlhe_run_list(
             list.as_ptr(),
@@ -114,6 +120,7 @@ pub fn run_list(
 /// Recolours a frame from the new intensities in a plane, into the first bytes of the output. Refusals, in order: 1, 2,
 /// 3, 14.
 pub fn recolour(frame: &[u8], w: usize, h: usize, plane: &[u8], output: &mut [u8]) -> Result<(), Refusal> {
+    // SAFETY: each pointer goes with the length of its slice; what is writable is borrowed alone.
     let answer = unsafe {
         ffi::mlhe_recolour(
             frame.as_ptr(),
@@ -129,8 +136,9 @@ pub fn recolour(frame: &[u8], w: usize, h: usize, plane: &[u8], output: &mut [u8
     Refusal::of_answer(answer).map(|_| ())
 }
 
-/// Enhances a frame: the new intensity is left in the plane and the recoloured frame in the output. Answers the number
-/// of retoned components, on all levels. Refusals, in order: 1, 2, 3, 4, 14, 9, 6, 7, 8.
+/// Enhances a frame: the new intensity is left in the plane and the recoloured frame in the output. The guarantee is of
+/// the plane, not of the output's own intensity. Answers the number of retoned components, on all levels. Refusals, in
+/// order: 1, 2, 3, 4, 14, 9, 6, 7, 8.
 #[allow(clippy::too_many_arguments)]
 pub fn enhance(
     frame: &[u8],
@@ -143,6 +151,7 @@ pub fn enhance(
     output: &mut [u8],
 ) -> Result<u32, Refusal> {
     let (rule, first, second) = settings.rule.numbers();
+    // SAFETY: each pointer goes with the length of its slice; what is writable is borrowed alone.
     let answer = unsafe {
         ffi::mlhe_enhance(
             frame.as_ptr(),

@@ -1,8 +1,20 @@
 //! Morpho-local histogram equalisation (MLHE) of frames: safe calls of the proved library.
 //!
 //! The library is written in Rattle and proved to do what its contracts say; this crate links it and gives its calls
-//! the types that a Rust user expects. Whatever a caller may do, no two neighbours of a plane are reversed by a chain
-//! of passes, and there are no more regional maxima and minima afterwards than before.
+//! the types that a Rust user expects.
+//!
+//! # What is guaranteed, and of what
+//!
+//! Of the **plane**: whatever passes a [`Plane`] goes through, one after the other, equal four-neighbours stay equal,
+//! unequal ones are never reversed, and each regional maximum or minimum contains a whole one of the first plane; so
+//! there are no more of either. An enhancement leaves such a plane of the frame's intensity, [`Enhanced::plane`].
+//!
+//! Not of the recoloured frame, [`Enhanced::frame`]: recolouring holds a channel at 255 and rounds, so that its own
+//! intensity is another plane, in which neighbours may be reversed and spots be new. **Match spots on the plane, not on
+//! the recoloured frame.** Where all pixels of the frame are grey, the same holds of the recoloured frame's own
+//! intensity too.
+//!
+//! # What there is
 //!
 //! - [`Frame`] and [`Plane`] own their bytes and always have the length of their sides.
 //! - [`Pass`], [`Rule`] and [`Settings`] say what to do, and [`PassList`] is a list of passes that has been checked.

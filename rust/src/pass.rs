@@ -5,8 +5,8 @@ use crate::{lent, Refusal};
 /// A tone rule with its own numbers.
 #[derive(Clone, Copy, Debug, PartialEq, Eq, Hash)]
 pub enum Rule {
-    /// Histogram equalisation; a component keeps its old values where the ratio of the value ranges after and before is
-    /// outside low to high, in hundredths. low ≤ high ≤ 25,500.
+    /// Histogram equalisation; a component keeps its old values where they are all one, or where the ratio of the value
+    /// ranges after and before is outside low to high, in hundredths. low ≤ high ≤ 25,500.
     Plain { low: u16, high: u16 },
     /// Contrast-limited equalisation with the clip k in thousandths, 0 to 1,000.
     Limited { k: u16 },

@@ -1,9 +1,10 @@
 //! Planes of intensities.
 
-use crate::{lent, Memory, Pass, PassList, Refusal};
+use crate::{lent, Frame, Memory, Pass, PassList, Refusal};
 
 /// A plane: w columns and h rows of values, row by row, left to right. Its sides are 1 to 4,096, and it has at most
-/// 1,048,576 pixels.
+/// 1,048,576 pixels. Passes never reverse two four-neighbours of it, part equal ones, or invent a regional maximum or
+/// minimum, however many of them run.
 #[derive(Clone, Debug, PartialEq, Eq, Hash)]
 pub struct Plane {
     w: usize,
@@ -37,6 +38,21 @@ impl Plane {
 
     pub fn into_values(self) -> Vec<u8> {
         self.values
+    }
+
+    /// The plane as a grey frame, to keep it in a file: its intensity is this plane again.
+    ///
+    /// ```
+    /// use mlhe::{Plane, Refusal};
+    ///
+    /// let plane = Plane::new(3, 1, vec![0, 43, 255])?;
+    /// assert_eq!(plane.to_frame().bytes(), [0, 0, 0, 43, 43, 43, 255, 255, 255]);
+    /// assert_eq!(plane.to_frame().intensity(), plane);
+    /// # Ok::<(), Refusal>(())
+    /// ```
+    pub fn to_frame(&self) -> Frame {
+        let bytes = self.values.iter().flat_map(|&value| [value; 3]).collect();
+        Frame::new(self.w, self.h, bytes).expect("the frame has the plane's sides")
     }
 
     /// Runs one pass and answers the number of retoned components. Refusals, in order: [`Refusal::Interval`],

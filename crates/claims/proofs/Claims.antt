@@ -1,292 +1,250 @@
--- The demands hold: `demand-1`, `demand-2` and `demand-3`. Assumes nothing.
-use Prim.Native.Nat.{ℕ, zero, suc, _*_, _/_, _≤_, _<_}
+-- The demands hold: `demand-1`, `demand-2` and `demand-3`; and `lists-are-chains`. Assumes nothing.
+use Prim.Native.Nat.{ℕ, suc, _-_, _*_, _/_, _≤_, _<_}
 use mathlib.Core.Path.{_≡_, refl, sym, ap, subst, _∙_}
-use mathlib.Core.Bool.{true}
-use mathlib.Core.List.{List}
+use mathlib.Core.Logic.{_↔_}
+use mathlib.Core.List.{List, [], _∷_}
 use native.Mathlib.Omega.{arith}
 use native.Mathlib.Nat.{le-of-lt}
 use lib.ListN.{length, take, drop}
-use lib.Dec.{leb, ltb}
-use borrow.Author.Tests.{leb-true, le-leb}
-use Rattle.planes.specs.Lists.{at, Beyond}
+use lib.Seq.{take-at}
+use Rattle.planes.specs.Lists.{at}
+use Rattle.planes.specs.Replies.{Reply, refuses, gives, replied, after, overwritten}
 use Rattle.planes.specs.Neighbours.{four}
-use Rattle.planes.specs.Order.{Keeps}
-use Rattle.planes.specs.Extrema.{extreme, gtb, maxima, minima, Contains}
-use Rattle.planes.proofs.Neighbours.{four-sym}
-use Rattle.planes.proofs.Order.{equal-stay, never-reversed}
-use Rattle.planes.proofs.Extrema.{geb, leb-order, geb-order, contained}
-use Rattle.planes.proofs.Fewer.{no-more-maxima, no-more-minima}
-use Rattle.colours.specs.declared.Status.{Status}
-use Rattle.colours.specs.declared.Status.the-variants as status
-use Rattle.colours.specs.Frames.{intensity, newChannelAt, recolour}
-use Rattle.colours.specs.Calls.{intensityRefusal, recolourRefusal, Accepted, IntensityOutcome, RecolourOutcome}
-use Rattle.colours.specs.Calls as colours
-use Rattle.colours.proofs.Calls.{answered-done, intensity-accepted, recolour-accepts, filled-length}
-use Rattle.colours.proofs.Frames.{recolour-at, recolour-bytes, channels-ordered, length-intensity}
+use Rattle.planes.proofs.Replies.{refuses-not-gives, gives-same, replied-refuses, replied-gives}
+use Rattle.colours.specs.Frames.{intensity, recolour}
+use Rattle.colours.specs.Calls.{intensityRefusal, recolourRefusal, IntensityOutcome, RecolourOutcome}
+use Rattle.colours.proofs.Calls.{intensity-given, intensity-accepted, recolour-accepts, recolour-given, filled-length}
+use Rattle.colours.proofs.Frames.{length-recolour, recolour-at, recolour-bytes, channels-ordered, length-intensity}
 use Rattle.model.specs.declared.Pass.{Pass}
-use Rattle.model.specs.declared.Answer.{Answer}
-use Rattle.model.specs.declared.Answer.the-variants.{Refused, Done}
-use Rattle.model.specs.Passes.{passed, passCount}
-use Rattle.model.specs.Calls.{Call, answered, planeAfter, total, State, start, chain}
-use Rattle.model.specs.Runs.{run, runCount}
+use Rattle.model.specs.Effects.{Effect, counts, runEffect}
+use Rattle.model.specs.Outcomes.{Outcome, OutputOutcome}
+use Rattle.model.specs.Calls.{Call, AllAccepted, State, start, chain, chainEffect}
 use Rattle.model.specs.Enhancement.{enhanced}
+use Rattle.model.proofs.Outcomes.{outcome-given, outcome-stays, output-given, output-stays}
 use Rattle.model.proofs.Chains.{Fine, chain-fine}
-use Rattle.passes.specs.Calls.{PassOutcome, Sequence}
-use Rattle.passes.specs.Calls as passes
+use Rattle.passes.specs.Calls.{Sequence}
 use Rattle.passes.proofs.Calls.{sequence-is}
 use Rattle.enhance.specs.declared.Settings.{Settings}
 use Rattle.enhance.specs.Calls.{chainOf, EnhanceOutcome}
 use Rattle.enhance.specs.Calls as enhance
-use Rattle.netpbm.specs.declared.Written.{Written}
-use Rattle.netpbm.specs.declared.Written.the-variants as written
-use Rattle.netpbm.specs.Writing.{encoding, writeRefusal, Wrote}
-use Rattle.netpbm.specs.Writing as writing
-use Rattle.netpbm.proofs.Frames.{accepted-iff}
-use Rattle.netpbm.proofs.Writing.{wrote-nothing, wrote-size, wrote-frame, wrote-beyond}
-use Rattle.passlists.specs.Outcomes.{Outcome}
-use Rattle.claims.specs.Claims.{RefusedAsListed, StatusAsListed, WrittenAsListed, Demand1, Demand2, Shapes}
-use Rattle.claims.specs.Claims.{Coloured, Demand3, Demand3Holds}
-
--- ## Answers by number
-
-number-of : (number count k : ℕ) → answered number count ≡ Refused k → number ≡ k
-number-of zero count k e = let z : _≡_ {A = ℕ} 0 1 = cc in absurd (omega arith)
-number-of (suc number) count k e = cc
-
-not-refused : (count k : ℕ) → Done count ≡ Refused k → ⊥
-not-refused count k e = let z : _≡_ {A = ℕ} 0 1 = cc in omega arith
-
-as-listed : (number count : ℕ) {r : Answer} → r ≡ answered number count → RefusedAsListed number r
-as-listed number count e = record {
-  refused = λ k q. e ∙ ap (λ (x : ℕ). answered x count) q;
-  listed = λ k q. number-of number count k (sym e ∙ q);
-  accepted = λ q k f. not-refused count k (sym (e ∙ ap (λ (x : ℕ). answered x count) q) ∙ f);
-}
-
--- a refused call has a number other than 0
-refused-number : (number count k : ℕ) → answered number count ≡ Refused k → (j : ℕ) × (number ≡ suc j)
-refused-number zero count k e = absurd (not-refused count k e)
-refused-number (suc number) count k e = (number, refl)
-
-status-number : {k : ℕ} (number : ℕ) → colours.answered number ≡ status.Refused k → number ≡ k
-status-number zero e = let z : _≡_ {A = ℕ} 0 1 = cc in absurd (omega arith)
-status-number (suc number) e = cc
-
-status-listed : {number : ℕ} {r : Status} → r ≡ colours.answered number → StatusAsListed number r
-status-listed {number} e = record {
-  refused = λ k q. e ∙ ap colours.answered q;
-  listed = λ k q. status-number number (sym e ∙ q);
-  accepted = λ q. e ∙ ap colours.answered q;
-}
+use Rattle.enhance.proofs.Calls.{fine, chain-accepted}
+use Rattle.enhance.proofs.Published.{chain-published}
+use Rattle.netpbm.specs.Reading.{frameRefusal, headerReply, readAnswer}
+use Rattle.netpbm.specs.Frames.{IsHeader, IsFrame}
+use Rattle.netpbm.specs.Writing.{encoding, writeRefusal, WriteOutcome}
+use Rattle.netpbm.proofs.Replies.{malformed-reply, headed-reply, framed-reply}
+use Rattle.netpbm.proofs.Writing.{wrote-nothing}
+use Rattle.passlists.specs.Format.{passesOf}
+use Rattle.passlists.specs.Outcomes.{fileRefusal, memoryRefusal, ListOutcome, PassesOutcome}
+use Rattle.passlists.proofs.Chains.{list-taken, list-chain, passes-taken, passes-chain}
+use Rattle.frames.specs.Program.{programOutput, Emitted}
+use Rattle.frames.proofs.Program.{long-output, frame-output, refused-output}
+use Rattle.claims.specs.Claims.{AsListed, ReadAsListed, Writes, Demand1, Had, Demand2, Shapes, Coloured, Demand3}
+use Rattle.claims.specs.Claims.{Demand3Holds, passesChain, Chained, ListsAreChains}
+use Rattle.claims.proofs.Shapes.{fine-shapes, grey-file}
 
 -- ## Demand 1
 
-module _ {w h : ℕ} {s : Pass} {plane marks queue plane' marks' queue' : List ℕ} {r : Answer}
-    (O : PassOutcome w h s plane marks queue r plane' marks' queue') where
-  pass-listed : RefusedAsListed (passes.refusalOf w h s plane marks queue) r
-  pass-listed = as-listed (passes.refusalOf w h s plane marks queue) (passCount (four w) s plane) (O .answer)
-
-  pass-unchanged : (k : ℕ) → r ≡ Refused k → (plane' ≡ plane) × ((marks' ≡ marks) × (queue' ≡ queue))
-  pass-unchanged k e =
-      let number = refused-number (passes.refusalOf w h s plane marks queue) (passCount (four w) s plane) k
-      (sym (O .answer) ∙ e) in (
-        O .plane-is ∙ ap (λ (x : ℕ). planeAfter x plane (passed (four w) s plane)) (number .1),
-        O .refused (number .0) (number .1),
-      )
-
-module _ {w h : ℕ} {t : Settings} {frame plane marks queue output plane' marks' queue' output' : List ℕ} {r : Answer}
-    (O : EnhanceOutcome w h t frame plane marks queue output r plane' marks' queue' output') where
-  abbrev sum : ℕ
-  sum = total (chainOf w h t frame .answers)
-
-  enhance-listed : RefusedAsListed (enhance.refusalOf w h t frame plane marks queue output) r
-  enhance-listed = as-listed (enhance.refusalOf w h t frame plane marks queue output) sum (O .answer)
-
-  enhance-unchanged : (k : ℕ) → r ≡ Refused k
-      → (plane' ≡ plane) × ((marks' ≡ marks) × ((queue' ≡ queue) × (output' ≡ output)))
-  enhance-unchanged k e =
-      let number = refused-number (enhance.refusalOf w h t frame plane marks queue output) sum k
-      (sym (O .answer) ∙ e) in (
-        O .plane-is ∙ ap (λ (x : ℕ). planeAfter x plane (chainOf w h t frame .plane)) (number .1),
-        O .refused (number .0) (number .1),
-      )
-
-module _ {w h refusal : ℕ} {ss : List Pass} {plane marks queue plane' marks' queue' : List ℕ} {r : Answer}
-    (O : Outcome w h refusal ss plane marks queue r plane' marks' queue') where
-  list-listed : RefusedAsListed refusal r
-  list-listed = as-listed refusal (runCount (four w) ss plane) (O .answer)
-
-  list-unchanged : (k : ℕ) → r ≡ Refused k → (plane' ≡ plane) × ((marks' ≡ marks) × (queue' ≡ queue))
-  list-unchanged k e =
-      let number = refused-number refusal (runCount (four w) ss plane) k (sym (O .answer) ∙ e) in (
-        O .plane-is ∙ ap (λ (x : ℕ). planeAfter x plane (run (four w) ss plane)) (number .1),
-        O .refused (number .0) (number .1),
-      )
-
-written-number : (number size k : ℕ) → writing.answer number size ≡ written.Refused k → number ≡ k
-written-number zero size k e = let z : _≡_ {A = ℕ} 0 1 = cc in absurd (omega arith)
-written-number (suc number) size k e = cc
-
-not-unwritten : (size k : ℕ) → written.Length size ≡ written.Refused k → ⊥
-not-unwritten size k e = let z : _≡_ {A = ℕ} 0 1 = cc in omega arith
-
-written-listed : (number size : ℕ) {r : Written} → r ≡ writing.answer number size → WrittenAsListed number r
-written-listed number size e = record {
-  refused = λ k q. e ∙ ap (λ (x : ℕ). writing.answer x size) q;
-  listed = λ k q. written-number number size k (sym e ∙ q);
-  accepted = λ q k f. not-unwritten size k (sym (e ∙ ap (λ (x : ℕ). writing.answer x size) q) ∙ f);
+as-listed : (number : ℕ) (values : List ℕ) {reply : Reply} → reply ≡ replied number values → AsListed number reply
+as-listed number values e = record {
+  refused = λ k q. e ∙ ap (λ (x : ℕ). replied x values) q;
+  listed = λ k q. let (j, (is, k-is)) = replied-refuses number values (sym e ∙ q) in is ∙ sym k-is;
+  accepted = λ q k f. refuses-not-gives (sym f ∙ e ∙ ap (λ (x : ℕ). replied x values) q);
 }
 
-module _ {raster output output' : List ℕ} {w h : ℕ} {r : Written} (O : Wrote raster w h output r output') where
-  write-listed : WrittenAsListed (writeRefusal w h (length raster) (length output)) r
-  write-listed =
-      written-listed (writeRefusal w h (length raster) (length output)) (length (encoding raster w h)) (O .answers)
+-- lent memory after a call that was refused
+stays : (number : ℕ) (values old new : List ℕ) {reply : Reply} {left : List ℕ} → reply ≡ replied number values
+    → left ≡ after number old new → (k : ℕ) → reply ≡ refuses k → left ≡ old
+stays number values old new e is k q =
+    let (j, (number-is, _)) = replied-refuses number values (sym e ∙ q) in
+    is ∙ ap (λ (x : ℕ). after x old new) number-is
 
-  write-unchanged : (k : ℕ) → r ≡ written.Refused k → output' ≡ output
-  write-unchanged k e = wrote-nothing (subst (λ (a : Written). Wrote raster w h output a output') e O)
+module _ {n number : ℕ} {e : Effect} {plane marks queue plane' marks' queue' : List ℕ} {reply : Reply}
+    (O : Outcome n number e plane marks queue reply plane' marks' queue') where
+  outcome-listed : AsListed number reply
+  outcome-listed = as-listed number (counts e) (O .answer)
+
+  unchanged : (k : ℕ) → reply ≡ refuses k → (plane' ≡ plane) × ((marks' ≡ marks) × (queue' ≡ queue))
+  unchanged k q =
+      outcome-stays (subst (λ (y : Reply). Outcome n number e plane marks queue y plane' marks' queue') q O)
+
+module _ {n number : ℕ} {e : Effect} {bytes plane marks queue output plane' marks' queue' output' : List ℕ}
+    {reply : Reply} (O : OutputOutcome n number e bytes plane marks queue output reply plane' marks' queue' output') where
+  unwritten : (k : ℕ) → reply ≡ refuses k
+      → (plane' ≡ plane) × ((marks' ≡ marks) × ((queue' ≡ queue) × (output' ≡ output)))
+  unwritten k q =
+      let memory = unchanged (O .retoned) k q in
+      let same = stays number (counts e) output (overwritten output bytes) (O .retoned .answer) (O .output-is) k q in
+      (memory .0, (memory .1 .0, (memory .1 .1, same)))
+
+reads : (bytes : List ℕ) (limit : ℕ) → ReadAsListed bytes limit (headerReply (readAnswer bytes limit))
+reads bytes limit = record {
+  malformed = malformed-reply bytes limit;
+  headed = λ w h maxval raster p. headed-reply limit p;
+  framed = framed-reply bytes limit;
+}
+
+writes : (input : List ℕ) → Writes input (programOutput input)
+writes input = record {
+  long = long-output input;
+  frame = λ short w h offset f. frame-output input short f;
+  refused = λ short k e. refused-output input short e;
+}
 
 pub demand-1 : Demand1
 demand-1 = record {
-  of-intensity = λ O. (status-listed (O .answer), O .refused);
-  of-pass = λ O. (pass-listed O, pass-unchanged O);
-  of-recolour = λ O. (status-listed (O .answer), O .refused);
-  of-enhance = λ O. (enhance-listed O, enhance-unchanged O);
-  of-list = λ list O. (list-listed O, list-unchanged O);
-  of-passes = λ O. (list-listed O, list-unchanged O);
-  of-write = λ O. (write-listed O, write-unchanged O);
-  of-read = accepted-iff;
+  of-intensity = λ w h {frame} {plane} O.
+      let number = intensityRefusal w h (length frame) (length plane) in
+      (as-listed number [] (O .answer), stays number [] plane (intensity frame) (O .answer) (O .plane-is));
+  of-pass = λ w h s O. (outcome-listed O, unchanged O);
+  of-recolour = λ w h {frame} {plane} {output} O.
+      let number = recolourRefusal w h (length frame) (length plane) (length output) in
+      let new = overwritten output (recolour frame plane) in
+      (as-listed number [] (O .answer), stays number [] output new (O .answer) (O .output-is));
+  of-enhance = λ w h t frame O. (outcome-listed (O .retoned), unwritten O);
+  of-list = λ w h list O. (outcome-listed O, unchanged O);
+  of-passes = λ w h ss O. (outcome-listed O, unchanged O);
+  of-write = λ w h {raster} {output} O.
+      let number = writeRefusal w h (length raster) (length output) in
+      let values = length (encoding raster w h) ∷ [] in
+      let new = overwritten output (encoding raster w h) in
+      (as-listed number values (O .answer), stays number values output new (O .answer) (O .output-is));
+  of-read = reads;
+  of-program = λ input E. subst (Writes input) (sym (E .written)) (writes input);
 }
 
 -- ## Demand 2
 
--- a call that answers `Done count` was not refused, and the count is the one of the contract
-done-number : (number count done : ℕ) → Done done ≡ answered number count → (number ≡ 0) × (done ≡ count)
-done-number zero count done e = (refl, cc)
-done-number (suc number) count done e = absurd (not-refused done (suc number) e)
-
-module _ {w h count : ℕ} {s : Pass} {plane marks queue plane' marks' queue' : List ℕ}
-    (O : PassOutcome w h s plane marks queue (Done count) plane' marks' queue') where
-  accepted-pass : (plane' ≡ passed (four w) s plane) × ((count ≡ passCount (four w) s plane)
-      × (Beyond (w * h) marks marks' × Beyond (w * h) queue queue'))
-  accepted-pass =
-      let d = done-number (passes.refusalOf w h s plane marks queue) (passCount (four w) s plane) count (O .answer) in (
-        O .plane-is ∙ ap (λ (x : ℕ). planeAfter x plane (passed (four w) s plane)) (d .0),
-        (d .1, (O .marks-rest, O .queue-rest)),
-      )
-
-module _ {w h count : ℕ} {t : Settings} {frame plane marks queue output plane' marks' queue' output' : List ℕ}
-    (O : EnhanceOutcome w h t frame plane marks queue output (Done count) plane' marks' queue' output') where
-  accepted-enhancement : (plane' ≡ chainOf w h t frame .plane) × ((count ≡ total (chainOf w h t frame .answers))
-      × ((take (3 * (w * h)) output' ≡ recolour frame (chainOf w h t frame .plane))
-      × (drop (3 * (w * h)) output' ≡ drop (3 * (w * h)) output)))
-  accepted-enhancement =
-      let d = done-number (enhance.refusalOf w h t frame plane marks queue output)
-      (total (chainOf w h t frame .answers)) count (O .answer) in (
-        O .plane-is ∙ ap (λ (x : ℕ). planeAfter x plane (chainOf w h t frame .plane)) (d .0),
-        (d .1, (O .written (d .0), O .beyond)),
-      )
-
-module _ {w h refusal count : ℕ} {ss : List Pass} {plane marks queue plane' marks' queue' : List ℕ}
-    (O : Outcome w h refusal ss plane marks queue (Done count) plane' marks' queue') where
-  accepted-list : (plane' ≡ run (four w) ss plane) × (count ≡ runCount (four w) ss plane)
-  accepted-list =
-      let d = done-number refusal (runCount (four w) ss plane) count (O .answer) in
-      (O .plane-is ∙ ap (λ (x : ℕ). planeAfter x plane (run (four w) ss plane)) (d .0), d .1)
+had : {n number : ℕ} {e : Effect} {plane marks queue values plane' marks' queue' : List ℕ}
+    → Outcome n number e plane marks queue (gives values) plane' marks' queue'
+    → Had n e marks queue values plane' marks' queue'
+had O =
+    let given = outcome-given O in
+    record {
+      values-are = given .1 .0;
+      plane-is = given .1 .1;
+      marks-rest = O .marks-rest;
+      queue-rest = O .queue-rest;
+    }
 
 pub demand-2 : Demand2
 demand-2 = record {
-  of-intensity = λ O. O .filled refl;
-  of-pass = λ O. accepted-pass O;
-  of-recolour = λ O. (O .written refl, O .beyond refl);
-  of-enhance = λ O. accepted-enhancement O;
-  of-list = λ list O. accepted-list O;
-  of-passes = λ O. accepted-list O;
-  of-write = λ O. (wrote-size O, (wrote-frame O, wrote-beyond O));
+  of-intensity = λ w h {frame} {plane} O. intensity-given w h frame plane O .1;
+  of-pass = λ w h s O. had O;
+  of-recolour = λ w h {frame} {plane} {output} O.
+      let number = recolourRefusal w h (length frame) (length plane) (length output) in
+      recolour-given w h frame plane output (replied-gives number [] (sym (O .answer)) .0) O .1;
+  of-enhance = λ w h t frame {plane} {marks} {queue} {output} O.
+      let taken = outcome-given (O .retoned) .0 in (
+        had (O .retoned),
+        (
+          output-given O,
+          (
+            chain-accepted w h t frame plane marks queue output taken,
+            λ bytes. chain-published w h t frame plane marks queue output bytes taken,
+          ),
+        ),
+      );
+  of-list = λ w h list O. had O;
+  of-passes = λ w h ss O. had O;
+  of-write = λ w h {raster} {output} O.
+      let number = writeRefusal w h (length raster) (length output) in
+      let given = replied-gives number (length (encoding raster w h) ∷ []) (sym (O .answer)) in
+      (given .1, O .output-is ∙ ap (λ (x : ℕ). after x output (overwritten output (encoding raster w h))) (given .0));
 }
 
 -- ## Demand 3
 
--- a plane that keeps the order of another's neighbours keeps its shapes
-fine-shapes : {w : ℕ} {p q : List ℕ} → Fine w p q → Shapes w p q
-fine-shapes {w} {p} {q} F =
-    let near = four w in
-    let symm = four-sym w in
-    let keeps = F .keeps in
+-- a frame recoloured from a plane that keeps the order of its intensity
+coloured : {w h : ℕ} {frame plane : List ℕ} (output : List ℕ) {output' : List ℕ} → length frame ≡ 3 * (w * h)
+    → Fine w (intensity frame) plane → output' ≡ overwritten output (recolour frame plane)
+    → Coloured w h frame plane output'
+coloured {w} {h} {frame} {plane} output {output'} size keeps e =
+    let new = recolour frame plane in
+    let exact : take (3 * (w * h)) output' ≡ new =
+    ap (take (3 * (w * h))) e
+    ∙ take-at new (drop (length new) output) (3 * (w * h)) (length-recolour frame plane ∙ size) in
     record {
-      size = F .size;
-      equal = equal-stay near symm (length p) p q keeps;
-      ordered = never-reversed near symm (length p) p q keeps;
-      tops = contained leb ltb leb-order near symm p q (F .size) (λ i j hi hj d l.
-          le-leb _ _ (keeps .ordered i j hi hj d (leb-true (at p i) (at p j) l)));
-      pits = contained geb gtb geb-order near symm p q (F .size) (λ i j hi hj d l.
-          le-leb _ _ (keeps .ordered j i hj hi (symm j i ∙ d) (leb-true (at p j) (at p i) l)));
-      fewer-tops = no-more-maxima near symm p q (F .size) keeps;
-      fewer-pits = no-more-minima near symm p q (F .size) keeps;
+      exact = exact;
+      byte = λ k h. subst (λ (x : ℕ). x ≤ 255) (recolour-at frame plane (k / 3) k refl h) (recolour-bytes frame plane k);
+      channels = λ k l hk hl p h. channels-ordered frame plane k l hk hl p (le-of-lt h);
+      grey-file = λ grey.
+          subst (λ (f : List ℕ). Shapes w (intensity frame) (intensity f)) (sym exact)
+          (grey-file w frame plane grey keeps);
     }
 
-coloured : {w h : ℕ} {frame plane output' : List ℕ} → take (3 * (w * h)) output' ≡ recolour frame plane
-    → Coloured w h frame plane output'
-coloured {frame = frame} {plane} e = record {
-  exact = e;
-  byte = λ k h. subst (λ (x : ℕ). x ≤ 255) (recolour-at frame plane (k / 3) k refl h) (recolour-bytes frame plane k);
-  channels = λ k l hk hl p h. channels-ordered frame plane k l hk hl p (le-of-lt h);
-}
-
--- the chain of an enhancement keeps the shapes of the frame's intensity
-chain-shapes : (w h : ℕ) (t : Settings) (frame : List ℕ) → Shapes w (intensity frame) (chainOf w h t frame .plane)
+-- the chain of an enhancement keeps the order of the frame's intensity
+enhanced-fine : (w h : ℕ) (t : Settings) (frame : List ℕ) → Fine w (intensity frame) (chainOf w h t frame .plane)
 unfolding enhanced
-chain-shapes w h t frame = fine-shapes (chain-fine w h (start (intensity frame)) _)
+enhanced-fine w h t frame = chain-fine w h (start (intensity frame)) _
 
-module _ {w h : ℕ} {frame lent first : List ℕ} (I : IntensityOutcome w h frame lent status.Done first) where
-  abbrev first-filled : first ≡ intensity frame
-  first-filled = I .filled refl
+module _ {w h : ℕ} {frame lent values first : List ℕ} (I : IntensityOutcome w h frame lent (gives values) first) where
+  abbrev filled : first ≡ intensity frame
+  filled = intensity-given w h frame lent I .1
 
-  shape : intensityRefusal w h (length frame) (length lent) ≡ 0
-  shape = answered-done (intensityRefusal w h (length frame) (length lent)) (I .answer)
+  abbrev shape : intensityRefusal w h (length frame) (length lent) ≡ 0
+  shape = intensity-given w h frame lent I .0
 
-  same-length : length first ≡ length lent
-  same-length =
-      filled-length w h frame lent I ∙ sym (intensity-accepted w h (length frame) (length lent) shape .pixels)
+  channels : length frame ≡ 3 * (w * h)
+  channels = intensity-accepted w h (length frame) (length lent) shape .channels
 
-  -- recolouring from a plane of the same length
-  recolours : {last output output' : List ℕ} {r : Status} → length last ≡ length first → 3 * (w * h) ≤ length output
-      → RecolourOutcome w h frame last output r output' → (r ≡ status.Done) × Coloured w h frame last output'
-  recolours {last} {output} size room O =
-      let fine = ap (intensityRefusal w h (length frame)) (size ∙ same-length) ∙ shape in
+  -- recolouring from a plane that keeps the order of the first
+  recolours : {last output output' : List ℕ} {reply : Reply} → Fine w first last → 3 * (w * h) ≤ length output
+      → RecolourOutcome w h frame last output reply output' → (reply ≡ gives []) × Coloured w h frame last output'
+  recolours {last} {output} keeps room O =
+      let pixels = intensity-accepted w h (length frame) (length lent) shape .pixels in
+      let same : length last ≡ length lent = keeps .size ∙ filled-length w h frame lent I ∙ sym pixels in
+      let fine = ap (intensityRefusal w h (length frame)) same ∙ shape in
       let accepts = recolour-accepts w h (length frame) (length last) (length output) fine room in
-      let done = O .answer ∙ ap colours.answered accepts in
-      (done, coloured (O .written done))
+      let given = recolour-given w h frame last output accepts O in
+      (given .0, coloured output channels (subst (λ (p : List ℕ). Fine w p last) filled keeps) (given .1))
 
   -- an accepted enhancement
-  enhances : {count : ℕ} {t : Settings} {plane marks queue output plane' marks' queue' output' : List ℕ}
-      → EnhanceOutcome w h t frame plane marks queue output (Done count) plane' marks' queue' output'
-      → (plane' ≡ chainOf w h t frame .plane) × ((count ≡ total (chainOf w h t frame .answers))
+  enhances : (t : Settings) {plane marks queue output values plane' marks' queue' output' : List ℕ}
+      → EnhanceOutcome w h t frame plane marks queue output (gives values) plane' marks' queue' output'
+      → (plane' ≡ chainOf w h t frame .plane) × ((values ≡ counts (chainEffect (chainOf w h t frame)))
       × (Shapes w first plane' × Coloured w h frame plane' output'))
-  enhances {t = t} O =
-      let E = accepted-enhancement O in
-      let shapes = subst (λ (p : List ℕ). Shapes w p (chainOf w h t frame .plane)) (sym first-filled)
-      (chain-shapes w h t frame) in (
-        E .0,
-        (
-          E .1 .0,
-          (
-            subst (Shapes w first) (sym (E .0)) shapes,
-            coloured (E .1 .1 .0 ∙ ap (recolour frame) (sym (E .0))),
-          ),
-        ),
-      )
+  enhances t {output = output} {plane' = plane'} O =
+      let H = had (O .retoned) in
+      let keeps = subst (Fine w (intensity frame)) (sym (H .plane-is)) (enhanced-fine w h t frame) in
+      let written = output-given O ∙ ap (λ (p : List ℕ). overwritten output (recolour frame p)) (sym (H .plane-is)) in
+      let shapes = subst (λ (p : List ℕ). Shapes w p plane') (sym filled) (fine-shapes keeps) in
+      (H .plane-is, (H .values-are, (shapes, coloured output channels keeps written)))
 
 pub demand-3 : Demand3Holds
-demand-3 w h frame lent first last calls answers I S =
+demand-3 w h frame lent values first last calls replies I S =
     let model = sequence-is S in
     let last-is : chain w h (start first) calls .plane ≡ last = ap (λ (s : State). s .plane) model in
-    let kept = fine-shapes (chain-fine w h (start first) calls) in
-    let shapes : Shapes w first last = subst (Shapes w first) last-is kept in
+    let keeps = subst (Fine w first) last-is (chain-fine w h (start first) calls) in
     record {
-      first-is = first-filled I;
-      answers-are = sym (ap (λ (s : State). s .answers) model);
+      first-is = filled I;
+      replies-are = sym (ap (λ (s : State). s .answers) model);
       last-is = sym last-is;
-      shapes = shapes;
-      recoloured = λ room O. recolours I (shapes .size) room O;
-      enhanced = λ O. enhances I O;
+      shapes = fine-shapes keeps;
+      recoloured = λ room O. recolours I keeps room O;
+      enhanced = λ t O. enhances I t O;
     }
+
+-- ## Lists of passes
+
+chained : {w h marks queue : ℕ} {ss : List Pass} {plane values plane' : List ℕ}
+    → AllAccepted (passesChain w h marks queue ss plane .answers)
+    → (plane' ≡ passesChain w h marks queue ss plane .plane)
+    × (gives values ≡ gives (counts (chainEffect (passesChain w h marks queue ss plane))))
+    → Chained w h marks queue ss plane values plane'
+chained {w} {h} {plane = plane} accepted e = record {
+  accepted = accepted;
+  plane-is = e .0;
+  values-are = gives-same (e .1);
+  shapes = subst (Shapes w plane) (sym (e .0)) (fine-shapes (chain-fine w h (start plane) _));
+}
+
+pub lists-are-chains : ListsAreChains
+lists-are-chains = record {
+  of-list = λ w h list {plane} {marks} {queue} O.
+      let taken = outcome-given O .0 in
+      chained (list-taken w h plane marks queue list taken) (list-chain w h plane marks queue _ _ _ _ list taken O);
+  of-passes = λ w h ss {plane} {marks} {queue} O.
+      let taken = outcome-given O .0 in
+      chained (passes-taken w h plane marks queue ss taken) (passes-chain w h plane marks queue _ _ _ _ ss taken O);
+}

@@ -1,29 +1,128 @@
--- The worked examples hold, by computation. Assumes nothing.
-use Prim.Native.Nat.{ℕ}
+-- The worked examples hold, by computation: `starred`; and so do the hypotheses of demand 3 for one chain of calls:
+-- `demand-3-met`. Assumes nothing.
+use Prim.Native.Nat.{ℕ, suc}
 use mathlib.Core.Path.{_≡_, refl}
 use mathlib.Core.List.{List, [], _∷_}
+use native.Mathlib.Omega.{arith}
 use Rattle.planes.specs.Refusals.{sizeRefusal}
 use Rattle.planes.specs.Neighbours.{four, linked, component, first}
+use Rattle.planes.specs.Extrema.{flat, extreme, extremes}
+use Rattle.planes.proofs.Lists.{beyond-refl}
 use Rattle.tones.specs.Tones.{plainTone, clipped, limitedTone, tone, kept}
 use Rattle.colours.specs.Frames.{third, pixelIntensity, intensity, greatestChannel, newChannel, recolour}
+use Rattle.colours.specs.Calls.{intensityRefusal}
+use Rattle.model.specs.declared.Pass.{Pass}
 use Rattle.model.specs.Passes.{inside, values, changes, retone, newTone, passed, passCount}
+use Rattle.model.specs.Runs.{run, runCount}
 use Rattle.model.specs.Calls.{planeRefusal, roomRefusal, areaRefusal, ruleRefusal, numbersRefusal, lentRefusal}
 use Rattle.model.specs.Calls.{passRefusal, call, chain}
 use Rattle.model.specs.Enhancement.{section, level, levels, passes, callOf, enhanced}
-use Rattle.passes.proofs.Examples.{pass-examples}
-use Rattle.claims.specs.Examples.{Enhancing, Starred}
+use Rattle.model.specs.PublishedExamples.{anyRatio}
+use Rattle.model.proofs.PublishedExamples.{published-examples}
+use Rattle.passes.specs.Calls.{none, more}
+use Rattle.passlists.specs.Format.{passAt, passesOf, malformed, misnamed, miscounted, headRefusal, encodePass}
+use Rattle.passlists.specs.Format.{encodePasses, encode}
+use Rattle.passlists.specs.Refusals.{recordRefusal, recordRefusals, listRefusal}
+use Rattle.netpbm.specs.Bytes.{isDigit, isWhite}
+use Rattle.netpbm.specs.Grammar.{mark, number, field, header}
+use Rattle.netpbm.specs.Reading.{frameRefusal, readAnswer}
+use Rattle.netpbm.specs.Writing.{decimal, heading}
+use Rattle.frames.specs.Program.{enhancedFrame, programOutput}
+use Rattle.claims.specs.Examples.{on, PassExamples, ExtremaExamples, Starred, Demand3Met}
+
+pass-examples : PassExamples
+unfolding four linked component first plainTone clipped limitedTone tone kept
+    inside values changes retone newTone passed passCount
+pass-examples = record {
+  A = refl;
+  B = refl;
+  C = refl;
+  D = refl;
+  E = refl;
+  F = refl;
+  G = refl;
+  H = refl;
+  I = refl;
+  J = refl;
+  least = refl;
+  joined = refl;
+}
+
+extrema-examples : ExtremaExamples
+unfolding four linked first flat extreme extremes
+extrema-examples = record {
+  constant = record { maxima-are = refl; minima-are = refl };
+  single = record { maxima-are = refl; minima-are = refl };
+  plateau = record { maxima-are = refl; minima-are = refl };
+  step = record { maxima-are = refl; minima-are = refl };
+  corners = record { maxima-are = refl; minima-are = refl };
+  ring = record { maxima-are = refl; minima-are = refl };
+  before-joined = record { maxima-are = refl; minima-are = refl };
+  after-joined = record { maxima-are = refl; minima-are = refl };
+}
 
 pub starred : Starred
 unfolding sizeRefusal four linked component first plainTone clipped limitedTone tone kept
     third pixelIntensity intensity greatestChannel newChannel recolour
-    inside values changes retone newTone passed passCount
+    inside values changes retone newTone passed passCount run runCount
     planeRefusal roomRefusal areaRefusal ruleRefusal numbersRefusal lentRefusal passRefusal call chain
     section level levels passes callOf enhanced
+    passAt passesOf malformed misnamed miscounted headRefusal encodePass encodePasses encode
+    recordRefusal recordRefusals listRefusal
+    isDigit isWhite mark number field header frameRefusal readAnswer decimal heading enhancedFrame programOutput
 starred = record {
   passes = pass-examples;
-  K = record { plane = refl; answer = refl };
-  L = record { plane = refl; answer = refl };
+  extrema = extrema-examples;
+  K = refl;
+  L = refl;
+  published = published-examples;
   N = refl;
   N′ = refl;
   O = λ j. refl;
+  P = refl;
+  Q-is = refl;
+  Q-accepted = refl;
+  Q = refl;
+}
+
+-- ## Demand 3 on a chain
+
+abbrev two : List ℕ
+two = 0 ∷ 0 ∷ []
+
+taken : (k : ℕ) → 0 ≡ suc k → ⊥
+taken k e = omega (arith, e)
+
+pub demand-3-met : Demand3Met
+unfolding sizeRefusal four linked component first plainTone tone kept
+    third pixelIntensity intensity intensityRefusal
+    inside values changes retone newTone passed passCount
+    planeRefusal roomRefusal areaRefusal ruleRefusal numbersRefusal lentRefusal passRefusal
+demand-3-met = record {
+  filled = record { answer = refl; plane-is = refl };
+  calls = more {s = on 0 255 1 anyRatio} {marks = two} {queue = two} {plane' = 128 ∷ 255 ∷ []}
+      (record {
+        answer = refl;
+        plane-is = refl;
+        refused = λ k e. absurd (taken k e);
+        marks-rest = beyond-refl 2 two;
+        queue-rest = beyond-refl 2 two;
+      })
+      (more {s = on 0 255 1 anyRatio} {marks = two} {queue = 0 ∷ []}
+      (record {
+        answer = refl;
+        plane-is = refl;
+        refused = λ k e. (refl, refl);
+        marks-rest = beyond-refl 2 two;
+        queue-rest = beyond-refl 2 (0 ∷ []);
+      })
+      (more {s = on 255 0 1 anyRatio} {marks = two} {queue = two}
+      (record {
+        answer = refl;
+        plane-is = refl;
+        refused = λ k e. (refl, refl);
+        marks-rest = beyond-refl 2 two;
+        queue-rest = beyond-refl 2 two;
+      })
+      none));
 }

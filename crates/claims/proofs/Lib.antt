@@ -1,2 +1,5 @@
+pub mod Shapes
 pub mod Claims
+pub mod CFunctions
+pub mod Contracts
 pub mod Examples

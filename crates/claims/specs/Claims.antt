@@ -1,5 +1,7 @@
 -- The demands on the library, stated in terms of the very records that the public calls ensure. Open this file first.
--- That every call ends on every input is part of what it means that a function is proved. Definitions only.
+-- That every call ends on every input is part of what it means that a function is proved; that the calls' contracts, as
+-- their crates declare them, give these records is stated in Contracts.antt, and what C callers get in CFunctions.antt.
+-- Definitions only.
 --
 -- Glossary
 --   plane              the list of its pixels' values in reading order; a pixel is its index (planes/specs/Lists)
@@ -7,129 +9,156 @@
 --   extreme ltb, gtb   a pixel's flat zone is a regional maximum, minimum (planes/specs/Extrema)
 --   Contains           the flat zone of a pixel of one plane contains a whole regional extremum of another
 --   maxima, minima     how many regional maxima and minima there are
+--   Reply              what a call answers: refused with a number, or given with values (planes/specs/Replies)
+--   after, overwritten lent memory after a call with such an answer; an output with new first bytes
 --   intensity          the plane of a frame's intensities, Algorithm 1 (colours/specs/Frames)
 --   recolour           the frame recoloured from a plane, Algorithm 6 (colours/specs/Frames)
---   passed, passCount  the plane after a section pass, and the number of retoned components (model/specs/Passes)
---   chain              the model of a chain of calls: its plane and its answers (model/specs/Calls)
+--   Grey               every pixel's three channels are one (colours/specs/Frames)
+--   Effect             what a pass, or a run of passes, comes to: its plane and its count (model/specs/Effects)
+--   chain              the model of a chain of calls: its plane and its replies (model/specs/Calls)
 --   chainOf            the chain of passes that an enhancement stands for (enhance/specs/Calls)
---   IntensityOutcome, RecolourOutcome, PassOutcome, EnhanceOutcome   what the calls ensure
+--   publishedOf        Algorithms 2 to 5 on a frame's intensity, by components (enhance/specs/Published)
+--   IntensityOutcome, RecolourOutcome, PassOutcome, EnhanceOutcome, ListOutcome, PassesOutcome, WriteOutcome   what the
+--                      calls ensure, by the reply of their answer
 --   Sequence           calls of `pass`, each lent the plane as the one before left it (passes/specs/Calls)
---   ListOutcome, PassesOutcome   what lists of passes ensure, in a file and in memory (passlists/specs/Outcomes)
---   IsFrame            a list of bytes is a P6 frame, by its parts (netpbm/specs/Frames)
---   Wrote              what the writer ensures (netpbm/specs/Writing)
-use Prim.Native.Nat.{ℕ, suc, _*_, _/_, _≤_, _<_}
+--   IsHeader, IsFrame  a list of bytes begins with a P6 header, is a P6 frame, by its parts (netpbm/specs/Frames)
+--   Emitted            what the program's function ensures: some bytes at the beginning of the output (frames)
+use Prim.Native.Nat.{ℕ, suc, _-_, _*_, _/_, _≤_, _<_}
 use mathlib.Core.Path.{_≡_}
 use mathlib.Core.Logic.{_↔_}
 use mathlib.Core.Bool.{true}
-use mathlib.Core.List.{List}
+use mathlib.Core.List.{List, [], _∷_, map}
 use lib.ListN.{length, take, drop}
 use lib.Dec.{ltb}
 use Rattle.planes.specs.Lists.{at, Beyond}
+use Rattle.planes.specs.Replies.{Reply, refuses, gives, replied, overwritten}
 use Rattle.planes.specs.Neighbours.{four}
 use Rattle.planes.specs.Extrema.{extreme, gtb, maxima, minima, Contains}
-use Rattle.colours.specs.declared.Status.{Status}
-use Rattle.colours.specs.declared.Status.the-variants as status
-use Rattle.colours.specs.Frames.{intensity, newChannelAt, recolour}
+use Rattle.colours.specs.Frames.{intensity, newChannelAt, recolour, Grey}
 use Rattle.colours.specs.Calls.{intensityRefusal, recolourRefusal, IntensityOutcome, RecolourOutcome}
 use Rattle.model.specs.declared.Pass.{Pass}
-use Rattle.model.specs.declared.Answer.{Answer}
-use Rattle.model.specs.declared.Answer.the-variants.{Refused, Done}
-use Rattle.model.specs.Passes.{passed, passCount}
-use Rattle.model.specs.Calls.{Call, total, start, chain}
-use Rattle.model.specs.Runs.{run, runCount}
-use Rattle.passes.specs.Calls.{PassOutcome, Sequence}
+use Rattle.model.specs.Effects.{Effect, counts, passEffect, runEffect}
+use Rattle.model.specs.Calls.{Call, AllAccepted, State, start, chain, chainEffect}
+use Rattle.passes.specs.Calls.{callOn, PassOutcome, Sequence}
 use Rattle.passes.specs.Calls as passes
 use Rattle.enhance.specs.declared.Settings.{Settings}
 use Rattle.enhance.specs.Calls.{chainOf, EnhanceOutcome}
 use Rattle.enhance.specs.Calls as enhance
-use Rattle.netpbm.specs.declared.Header.the-variants.{Frame}
-use Rattle.netpbm.specs.declared.Written.{Written}
-use Rattle.netpbm.specs.declared.Written.the-variants as written
-use Rattle.netpbm.specs.Reading.{readAnswer}
-use Rattle.netpbm.specs.Frames.{IsFrame}
-use Rattle.netpbm.specs.Writing.{encoding, writeRefusal, Wrote}
+use Rattle.enhance.specs.Published.{publishedOf}
+use Rattle.netpbm.specs.Reading.{frameRefusal, headerReply, readAnswer}
+use Rattle.netpbm.specs.Frames.{IsHeader, IsFrame}
+use Rattle.netpbm.specs.Writing.{encoding, writeRefusal, WriteOutcome}
 use Rattle.passlists.specs.Format.{passesOf}
 use Rattle.passlists.specs.Outcomes.{fileRefusal, memoryRefusal, ListOutcome, PassesOutcome}
+use Rattle.frames.specs.Program.{refusalLine, enhancedFrame, programOutput, Emitted}
+use Rattle.frames.specs.Program as program
 
 -- ## Demand 1: exactly what is listed is refused, by its number, and a refusal leaves all lent memory as it was
 
--- an answer for the number of the first listed refusal that applies, 0 where none does: it is refused exactly where the
+-- a reply for the number of the first listed refusal that applies, 0 where none does: it is refused exactly where the
 -- number is not 0, and then with that number
-pub record RefusedAsListed (number : ℕ) (r : Answer) : Type 0 where
-  pub refused : (k : ℕ) → number ≡ suc k → r ≡ Refused (suc k)
-  pub listed : (k : ℕ) → r ≡ Refused k → number ≡ k
-  pub accepted : number ≡ 0 → (k : ℕ) → r ≡ Refused k → ⊥
+pub record AsListed (number : ℕ) (reply : Reply) : Type 0 where
+  pub refused : (k : ℕ) → number ≡ suc k → reply ≡ refuses (suc k)
+  pub listed : (k : ℕ) → reply ≡ refuses k → number ≡ k
+  pub accepted : number ≡ 0 → (k : ℕ) → reply ≡ refuses k → ⊥
 
-pub record StatusAsListed (number : ℕ) (r : Status) : Type 0 where
-  pub refused : (k : ℕ) → number ≡ suc k → r ≡ status.Refused (suc k)
-  pub listed : (k : ℕ) → r ≡ status.Refused k → number ≡ k
-  pub accepted : number ≡ 0 → r ≡ status.Done
+-- what reading replies: 10 exactly where no header begins the bytes; after a header, the first of 1, 2, 11, 12 and 13
+-- that applies, or else width, height and the offset of the raster; and these exactly where the bytes are a frame
+pub record ReadAsListed (bytes : List ℕ) (limit : ℕ) (reply : Reply) : Type 0 where
+  pub malformed : (reply ≡ refuses 10) ↔ ((w h maxval : ℕ) (raster : List ℕ) → IsHeader bytes w h maxval raster → ⊥)
+  pub headed : (w h maxval : ℕ) (raster : List ℕ) → IsHeader bytes w h maxval raster
+      → reply
+      ≡ replied (frameRefusal w h maxval (length raster) limit) (w ∷ h ∷ (length bytes - length raster) ∷ [])
+  pub framed : (w h offset : ℕ) → (reply ≡ gives (w ∷ h ∷ offset ∷ [])) ↔ IsFrame bytes limit w h offset
 
-pub record WrittenAsListed (number : ℕ) (r : Written) : Type 0 where
-  pub refused : (k : ℕ) → number ≡ suc k → r ≡ written.Refused (suc k)
-  pub listed : (k : ℕ) → r ≡ written.Refused k → number ≡ k
-  pub accepted : number ≡ 0 → (k : ℕ) → r ≡ written.Refused k → ⊥
+-- what the program writes for an input: `refused 13` where it is too long, else the enhanced frame for exactly the
+-- frames within its limits, else `refused N` with the number that reading replies
+pub record Writes (input written : List ℕ) : Type 0 where
+  pub long : program.greatestInput < length input → written ≡ refusalLine 13
+  pub frame : length input ≤ program.greatestInput → (w h offset : ℕ)
+      → IsFrame input program.greatestPixels w h offset → written ≡ enhancedFrame (drop offset input) w h
+  pub refused : length input ≤ program.greatestInput → (k : ℕ)
+      → headerReply (readAnswer input program.greatestPixels) ≡ refuses k → written ≡ refusalLine k
 
 pub record Demand1 : Type 0 where
-  pub of-intensity : {w h : ℕ} {frame plane plane' : List ℕ} {r : Status} → IntensityOutcome w h frame plane r plane'
-      → StatusAsListed (intensityRefusal w h (length frame) (length plane)) r
-      × ((k : ℕ) → r ≡ status.Refused k → plane' ≡ plane)
-  pub of-pass : {w h : ℕ} {s : Pass} {plane marks queue plane' marks' queue' : List ℕ} {r : Answer}
-      → PassOutcome w h s plane marks queue r plane' marks' queue'
-      → RefusedAsListed (passes.refusalOf w h s plane marks queue) r
-      × ((k : ℕ) → r ≡ Refused k → (plane' ≡ plane) × ((marks' ≡ marks) × (queue' ≡ queue)))
-  pub of-recolour : {w h : ℕ} {frame plane output output' : List ℕ} {r : Status}
-      → RecolourOutcome w h frame plane output r output'
-      → StatusAsListed (recolourRefusal w h (length frame) (length plane) (length output)) r
-      × ((k : ℕ) → r ≡ status.Refused k → output' ≡ output)
-  pub of-enhance : {w h : ℕ} {t : Settings} {frame plane marks queue output plane' marks' queue' output' : List ℕ}
-      {r : Answer}
-      → EnhanceOutcome w h t frame plane marks queue output r plane' marks' queue' output'
-      → RefusedAsListed (enhance.refusalOf w h t frame plane marks queue output) r
-      × ((k : ℕ) → r ≡ Refused k
+  pub of-intensity : (w h : ℕ) {frame plane plane' : List ℕ} {reply : Reply}
+      → IntensityOutcome w h frame plane reply plane'
+      → AsListed (intensityRefusal w h (length frame) (length plane)) reply
+      × ((k : ℕ) → reply ≡ refuses k → plane' ≡ plane)
+  pub of-pass : (w h : ℕ) (s : Pass) {plane marks queue plane' marks' queue' : List ℕ} {reply : Reply}
+      → PassOutcome w h s plane marks queue reply plane' marks' queue'
+      → AsListed (passes.refusalOf w h s plane marks queue) reply
+      × ((k : ℕ) → reply ≡ refuses k → (plane' ≡ plane) × ((marks' ≡ marks) × (queue' ≡ queue)))
+  pub of-recolour : (w h : ℕ) {frame plane output output' : List ℕ} {reply : Reply}
+      → RecolourOutcome w h frame plane output reply output'
+      → AsListed (recolourRefusal w h (length frame) (length plane) (length output)) reply
+      × ((k : ℕ) → reply ≡ refuses k → output' ≡ output)
+  pub of-enhance : (w h : ℕ) (t : Settings) (frame : List ℕ)
+      {plane marks queue output plane' marks' queue' output' : List ℕ} {reply : Reply}
+      → EnhanceOutcome w h t frame plane marks queue output reply plane' marks' queue' output'
+      → AsListed (enhance.refusalOf w h t frame plane marks queue output) reply
+      × ((k : ℕ) → reply ≡ refuses k
       → (plane' ≡ plane) × ((marks' ≡ marks) × ((queue' ≡ queue) × (output' ≡ output))))
-  pub of-list : (list : List ℕ) {w h : ℕ} {plane marks queue plane' marks' queue' : List ℕ} {r : Answer}
-      → ListOutcome w h list plane marks queue r plane' marks' queue'
-      → RefusedAsListed (fileRefusal w h list plane marks queue) r
-      × ((k : ℕ) → r ≡ Refused k → (plane' ≡ plane) × ((marks' ≡ marks) × (queue' ≡ queue)))
-  pub of-passes : {w h : ℕ} {ss : List Pass} {plane marks queue plane' marks' queue' : List ℕ} {r : Answer}
-      → PassesOutcome w h ss plane marks queue r plane' marks' queue'
-      → RefusedAsListed (memoryRefusal w h ss plane marks queue) r
-      × ((k : ℕ) → r ≡ Refused k → (plane' ≡ plane) × ((marks' ≡ marks) × (queue' ≡ queue)))
-  pub of-write : {raster output output' : List ℕ} {w h : ℕ} {r : Written} → Wrote raster w h output r output'
-      → WrittenAsListed (writeRefusal w h (length raster) (length output)) r
-      × ((k : ℕ) → r ≡ written.Refused k → output' ≡ output)
-  -- reading lends no memory that could change; it accepts exactly the frames
-  pub of-read : (bytes : List ℕ) (limit w h offset : ℕ)
-      → (readAnswer bytes limit ≡ Frame w h offset) ↔ IsFrame bytes limit w h offset
+  pub of-list : (w h : ℕ) (list : List ℕ) {plane marks queue plane' marks' queue' : List ℕ} {reply : Reply}
+      → ListOutcome w h list plane marks queue reply plane' marks' queue'
+      → AsListed (fileRefusal w h list plane marks queue) reply
+      × ((k : ℕ) → reply ≡ refuses k → (plane' ≡ plane) × ((marks' ≡ marks) × (queue' ≡ queue)))
+  pub of-passes : (w h : ℕ) (ss : List Pass) {plane marks queue plane' marks' queue' : List ℕ} {reply : Reply}
+      → PassesOutcome w h ss plane marks queue reply plane' marks' queue'
+      → AsListed (memoryRefusal w h ss plane marks queue) reply
+      × ((k : ℕ) → reply ≡ refuses k → (plane' ≡ plane) × ((marks' ≡ marks) × (queue' ≡ queue)))
+  pub of-write : (w h : ℕ) {raster output output' : List ℕ} {reply : Reply}
+      → WriteOutcome raster w h output reply output'
+      → AsListed (writeRefusal w h (length raster) (length output)) reply
+      × ((k : ℕ) → reply ≡ refuses k → output' ≡ output)
+  -- reading lends no memory that could change
+  pub of-read : (bytes : List ℕ) (limit : ℕ) → ReadAsListed bytes limit (headerReply (readAnswer bytes limit))
+  -- of the output the program takes the first r bytes
+  pub of-program : (input : List ℕ) {output output' : List ℕ} {r : ℕ}
+      → Emitted (programOutput input) output r output' → Writes input (take r output')
 
 -- ## Demand 2: what is accepted becomes, byte for byte, what the algorithms give
 
+-- a call that gave its values had its effect: values and plane are the effect's; marks and queue keep their lengths and
+-- all entries from n on
+pub record Had (n : ℕ) (e : Effect) (marks queue values plane' marks' queue' : List ℕ) : Type 0 where
+  pub values-are : values ≡ counts e
+  pub plane-is : plane' ≡ e .plane
+  pub marks-rest : Beyond n marks marks'
+  pub queue-rest : Beyond n queue queue'
+
+-- every member is a byte, as the type of a lent slice of bytes has it
+abbrev pub Bytes : List ℕ → Type 0
+Bytes xs = (k : ℕ) → at xs k ≤ 255
+
 pub record Demand2 : Type 0 where
-  pub of-intensity : {w h : ℕ} {frame plane plane' : List ℕ} → IntensityOutcome w h frame plane status.Done plane'
-      → plane' ≡ intensity frame
-  pub of-pass : {w h count : ℕ} {s : Pass} {plane marks queue plane' marks' queue' : List ℕ}
-      → PassOutcome w h s plane marks queue (Done count) plane' marks' queue'
-      → (plane' ≡ passed (four w) s plane) × ((count ≡ passCount (four w) s plane)
-      × (Beyond (w * h) marks marks' × Beyond (w * h) queue queue'))
-  pub of-recolour : {w h : ℕ} {frame plane output output' : List ℕ}
-      → RecolourOutcome w h frame plane output status.Done output'
-      → (take (3 * (w * h)) output' ≡ recolour frame plane) × (drop (3 * (w * h)) output' ≡ drop (3 * (w * h)) output)
-  pub of-enhance : {w h count : ℕ} {t : Settings} {frame plane marks queue output plane' marks' queue' output' : List ℕ}
-      → EnhanceOutcome w h t frame plane marks queue output (Done count) plane' marks' queue' output'
-      → (plane' ≡ chainOf w h t frame .plane) × ((count ≡ total (chainOf w h t frame .answers))
-      × ((take (3 * (w * h)) output' ≡ recolour frame (chainOf w h t frame .plane))
-      × (drop (3 * (w * h)) output' ≡ drop (3 * (w * h)) output)))
+  pub of-intensity : (w h : ℕ) {frame plane values plane' : List ℕ}
+      → IntensityOutcome w h frame plane (gives values) plane' → plane' ≡ intensity frame
+  pub of-pass : (w h : ℕ) (s : Pass) {plane marks queue values plane' marks' queue' : List ℕ}
+      → PassOutcome w h s plane marks queue (gives values) plane' marks' queue'
+      → Had (w * h) (passEffect (four w) s plane) marks queue values plane' marks' queue'
+  pub of-recolour : (w h : ℕ) {frame plane output values output' : List ℕ}
+      → RecolourOutcome w h frame plane output (gives values) output'
+      → output' ≡ overwritten output (recolour frame plane)
+  -- the chain of passes that the requirements name, none of which is refused; it comes to what the published recursion
+  -- by components comes to
+  pub of-enhance : (w h : ℕ) (t : Settings) (frame : List ℕ)
+      {plane marks queue output values plane' marks' queue' output' : List ℕ}
+      → EnhanceOutcome w h t frame plane marks queue output (gives values) plane' marks' queue' output'
+      → Had (w * h) (chainEffect (chainOf w h t frame)) marks queue values plane' marks' queue'
+      × ((output' ≡ overwritten output (recolour frame (chainOf w h t frame .plane)))
+      × (AllAccepted (chainOf w h t frame .answers)
+      × (Bytes frame → chainEffect (chainOf w h t frame) ≡ publishedOf w t frame)))
   -- a list is the run of its passes, and the sum of their counts
-  pub of-list : (list : List ℕ) {w h count : ℕ} {plane marks queue plane' marks' queue' : List ℕ}
-      → ListOutcome w h list plane marks queue (Done count) plane' marks' queue'
-      → (plane' ≡ run (four w) (passesOf list) plane) × (count ≡ runCount (four w) (passesOf list) plane)
-  pub of-passes : {w h count : ℕ} {ss : List Pass} {plane marks queue plane' marks' queue' : List ℕ}
-      → PassesOutcome w h ss plane marks queue (Done count) plane' marks' queue'
-      → (plane' ≡ run (four w) ss plane) × (count ≡ runCount (four w) ss plane)
-  pub of-write : {raster output output' : List ℕ} {w h size : ℕ} → Wrote raster w h output (written.Length size) output'
-      → (size ≡ length (encoding raster w h)) × ((take size output' ≡ encoding raster w h)
-      × (drop size output' ≡ drop size output))
+  pub of-list : (w h : ℕ) (list : List ℕ) {plane marks queue values plane' marks' queue' : List ℕ}
+      → ListOutcome w h list plane marks queue (gives values) plane' marks' queue'
+      → Had (w * h) (runEffect (four w) (passesOf list) plane) marks queue values plane' marks' queue'
+  pub of-passes : (w h : ℕ) (ss : List Pass) {plane marks queue values plane' marks' queue' : List ℕ}
+      → PassesOutcome w h ss plane marks queue (gives values) plane' marks' queue'
+      → Had (w * h) (runEffect (four w) ss plane) marks queue values plane' marks' queue'
+  pub of-write : (w h : ℕ) {raster output values output' : List ℕ}
+      → WriteOutcome raster w h output (gives values) output'
+      → (values ≡ length (encoding raster w h) ∷ []) × (output' ≡ overwritten output (encoding raster w h))
 
 -- ## Demand 3: one claim about a whole chain of calls
 
@@ -156,26 +185,49 @@ pub record Coloured (w h : ℕ) (frame plane output' : List ℕ) : Type 0 where
   pub byte : (k : ℕ) → k < length frame → newChannelAt frame plane k ≤ 255
   pub channels : (k l : ℕ) → k < length frame → l < length frame → k / 3 ≡ l / 3
       → at frame k < at frame l → at (recolour frame plane) k ≤ at (recolour frame plane) l
+  -- the written frame's own intensity is another plane; for a grey frame it keeps shapes too
+  pub grey-file : Grey frame → Shapes w (intensity frame) (intensity (take (3 * (w * h)) output'))
 
-pub record Demand3 (w h : ℕ) (frame first : List ℕ) (calls : List Call) (answers : List Answer) (last : List ℕ)
+pub record Demand3 (w h : ℕ) (frame first : List ℕ) (calls : List Call) (replies : List Reply) (last : List ℕ)
     : Type 0 where
   -- the first plane is Algorithm 1's
   pub first-is : first ≡ intensity frame
-  -- answers and last plane are the model's
-  pub answers-are : answers ≡ chain w h (start first) calls .answers
+  -- replies and last plane are the model's
+  pub replies-are : replies ≡ chain w h (start first) calls .answers
   pub last-is : last ≡ chain w h (start first) calls .plane
   pub shapes : Shapes w first last
   -- recolouring from the last plane, with an output that is long enough
-  pub recoloured : {output output' : List ℕ} {r : Status} → 3 * (w * h) ≤ length output
-      → RecolourOutcome w h frame last output r output' → (r ≡ status.Done) × Coloured w h frame last output'
+  pub recoloured : {output output' : List ℕ} {reply : Reply} → 3 * (w * h) ≤ length output
+      → RecolourOutcome w h frame last output reply output' → (reply ≡ gives []) × Coloured w h frame last output'
   -- every accepted enhancement of the frame leaves the plane, the output and the count of its chain
-  pub enhanced : {count : ℕ} {t : Settings} {plane marks queue output plane' marks' queue' output' : List ℕ}
-      → EnhanceOutcome w h t frame plane marks queue output (Done count) plane' marks' queue' output'
-      → (plane' ≡ chainOf w h t frame .plane) × ((count ≡ total (chainOf w h t frame .answers))
+  pub enhanced : (t : Settings) {plane marks queue output values plane' marks' queue' output' : List ℕ}
+      → EnhanceOutcome w h t frame plane marks queue output (gives values) plane' marks' queue' output'
+      → (plane' ≡ chainOf w h t frame .plane) × ((values ≡ counts (chainEffect (chainOf w h t frame)))
       × (Shapes w first plane' × Coloured w h frame plane' output'))
 
 -- every frame that intensity accepts, and every sequence of calls from the plane that it fills, refused ones included
 abbrev pub Demand3Holds : Type 0
-Demand3Holds = (w h : ℕ) (frame lent first last : List ℕ) (calls : List Call) (answers : List Answer)
-    → IntensityOutcome w h frame lent status.Done first → Sequence w h first calls answers last
-    → Demand3 w h frame first calls answers last
+Demand3Holds = (w h : ℕ) (frame lent values first last : List ℕ) (calls : List Call) (replies : List Reply)
+    → IntensityOutcome w h frame lent (gives values) first → Sequence w h first calls replies last
+    → Demand3 w h frame first calls replies last
+
+-- ## Lists of passes are chains
+
+-- the chain of calls of some passes, each lent as many entries of marks and queue
+abbrev pub passesChain : ℕ → ℕ → ℕ → ℕ → List Pass → List ℕ → State
+passesChain w h marks queue ss plane = chain w h (start plane) (map (callOn marks queue) ss)
+
+-- none of them is refused, and their chain comes to this plane and these values
+pub record Chained (w h marks queue : ℕ) (ss : List Pass) (plane values plane' : List ℕ) : Type 0 where
+  pub accepted : AllAccepted (passesChain w h marks queue ss plane .answers)
+  pub plane-is : plane' ≡ passesChain w h marks queue ss plane .plane
+  pub values-are : values ≡ counts (chainEffect (passesChain w h marks queue ss plane))
+  pub shapes : Shapes w plane plane'
+
+pub record ListsAreChains : Type 0 where
+  pub of-list : (w h : ℕ) (list : List ℕ) {plane marks queue values plane' marks' queue' : List ℕ}
+      → ListOutcome w h list plane marks queue (gives values) plane' marks' queue'
+      → Chained w h (length marks) (length queue) (passesOf list) plane values plane'
+  pub of-passes : (w h : ℕ) (ss : List Pass) {plane marks queue values plane' marks' queue' : List ℕ}
+      → PassesOutcome w h ss plane marks queue (gives values) plane' marks' queue'
+      → Chained w h (length marks) (length queue) ss plane values plane'

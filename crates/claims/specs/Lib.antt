@@ -1,2 +1,4 @@
 pub mod Claims
+pub mod CFunctions
+pub mod Contracts
 pub mod Examples

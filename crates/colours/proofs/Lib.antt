@@ -3,4 +3,4 @@ pub mod Quotients
 pub mod Scales
 pub mod Calls
 pub mod Overwrite
-pub mod Examples
+pub mod Grey

@@ -8,7 +8,9 @@
 --   greatestChannel    M: the greatest channel of a pixel
 --   newChannel         what a channel becomes
 --   recolour           the frame of what all channels become
-use Prim.Native.Nat.{ℕ, _+_, _*_, _/_, max}
+--   Grey               a frame whose pixels are all grey
+use Prim.Native.Nat.{ℕ, _+_, _*_, _/_, max, _<_}
+use mathlib.Core.Path.{_≡_}
 use mathlib.Core.Bool.{cond}
 use mathlib.Core.List.{List, map}
 use lib.Dec.{leb, eqb}
@@ -64,3 +66,9 @@ newChannelAt frame plane k =
 -- a frame recoloured from a plane of new intensities
 unfoldable pub recolour : List ℕ → List ℕ → List ℕ
 recolour frame plane = map (newChannelAt frame plane) (from 0 (length frame))
+
+-- ## Grey frames
+
+-- every pixel's three channels are one
+abbrev pub Grey : List ℕ → Type 0
+Grey frame = (i : ℕ) → i < length frame / 3 → (green frame i ≡ red frame i) × (blue frame i ≡ red frame i)

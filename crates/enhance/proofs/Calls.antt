@@ -18,17 +18,19 @@ use Rattle.planes.proofs.Refusals.{when-none, ▷-none, ▷-right, sized-none}
 use Rattle.tones.specs.declared.Rule.{Rule}
 use Rattle.colours.specs.Frames.{intensity, recolour}
 use Rattle.colours.specs.Calls.{intensityRefusal, Accepted, IntensityOutcome, RecolourOutcome}
+use Rattle.colours.proofs.Frames.{length-intensity}
 use Rattle.colours.proofs.Calls.{intensity-accepted, recolour-accepts, recolour-given}
 use Rattle.model.specs.declared.Pass.{Pass}
 use Rattle.model.specs.Calls.{planeRefusal, roomRefusal, areaRefusal, ruleRefusal, numbersRefusal, lentRefusal, Lent}
-use Rattle.model.specs.Calls.{passRefusal, total}
+use Rattle.model.specs.Calls.{passRefusal, total, AllAccepted}
 use Rattle.model.specs.Runs.{All, none, more}
 use Rattle.model.specs.Enhancement.{section, level, levels, passes, callOf, enhanced}
 use Rattle.model.proofs.Recursion.{all-append}
-use Rattle.model.proofs.Enhancement.{enhanced-recursion}
+use Rattle.model.proofs.Enhancement.{enhanced-recursion, enhanced-accepted}
 use Rattle.enhance.specs.declared.Settings.{Settings}
 use Rattle.enhance.specs.Recursion.{Ready, Run}
 use Rattle.enhance.specs.Calls.{settingsRefusal, memoryRefusal, enhanceRefusal, chainOf, Enhances}
+use Rattle.enhance.specs.Calls.{refusalOf}
 
 -- ## What is accepted
 
@@ -128,6 +130,15 @@ as-listed {w} {h} {t = t} {plane} size last whole area rule R =
     let m = enhanced-recursion w h (t .last) (t .area) (t .rule) plane last whole
     (all-passes w h size (t .rule) rule (t .last) (t .area) area) in
     (R .plane-is ∙ sym (m .0), R .count-is ∙ sym (m .1))
+
+-- none of the calls in the chain of an enhancement that is not refused is refused
+pub chain-accepted : (w h : ℕ) (t : Settings) (frame plane marks queue output : List ℕ)
+    → refusalOf w h t frame plane marks queue output ≡ 0 → AllAccepted (chainOf w h t frame .answers)
+chain-accepted w h t frame plane marks queue output taken =
+    let F = fine w h (length frame) (length plane) (length marks) (length queue) (length output) t taken in
+    enhanced-accepted w h (t .last) (t .area) (t .rule) (intensity frame)
+    (omega (arith, length-intensity frame, F .given .channels))
+    (all-passes w h (F .given .size) (t .rule) (F .rule) (t .last) (t .area) (F .area))
 
 -- ## Outcomes
 

@@ -2,6 +2,7 @@
 --
 --   long-output, read-output     the cases of the definition: an input that is too long, and any other
 --   frame-output                 a frame of at most 65,536 bytes and 16,384 pixels is answered by its enhancement
+--   refused-output               any other input that is not too long is answered by the number that reading replies
 --   long-emitted, read-emitted   the contract, in each case
 --
 -- Assumes nothing.
@@ -10,11 +11,13 @@ use mathlib.Core.Path.{_≡_, ap, subst, sym}
 use mathlib.Core.List.{List}
 use lib.ListN.{length, drop}
 use borrow.Author.Tests.{lt-ltb, le-ltb}
-use Rattle.netpbm.specs.Reading.{readAnswer}
+use Rattle.planes.specs.Replies.{refuses}
+use Rattle.netpbm.specs.Reading.{headerReply, readAnswer}
 use Rattle.netpbm.specs.Frames.{IsFrame}
 use Rattle.netpbm.specs.declared.Header.{Header}
 use Rattle.netpbm.specs.declared.Header.the-variants.{Frame}
 use Rattle.netpbm.proofs.Frames.{accepted-iff}
+use Rattle.netpbm.proofs.Replies.{header-refuses}
 use Rattle.frames.specs.Program.{greatestInput, greatestPixels, refusalLine, enhancedFrame, outputFor}
 use Rattle.frames.specs.Program.{programOutput, Emitted}
 
@@ -31,6 +34,10 @@ module _ (input : List ℕ) where
   pub frame-output : {w h offset : ℕ} → length input ≤ greatestInput → IsFrame input greatestPixels w h offset
       → programOutput input ≡ enhancedFrame (drop offset input) w h
   frame-output {w} {h} {offset} short f = read-output short (accepted-iff input greatestPixels w h offset .1 f)
+
+  pub refused-output : {k : ℕ} → length input ≤ greatestInput
+      → headerReply (readAnswer input greatestPixels) ≡ refuses k → programOutput input ≡ refusalLine k
+  refused-output short e = read-output short (header-refuses (readAnswer input greatestPixels) e)
 
   module _ {output output' : List ℕ} {r : ℕ} where
     pub long-emitted : greatestInput < length input → Emitted (refusalLine 13) output r output'

@@ -6,6 +6,7 @@ pub mod Refusals
 pub mod Cursors
 pub mod Answers
 pub mod Frames
+pub mod Replies
 pub mod Examples
 pub mod Decimal
 pub mod Placing

@@ -4,4 +4,3 @@ pub mod Sweep
 pub mod Steps
 pub mod Passing
 pub mod Calls
-pub mod Examples

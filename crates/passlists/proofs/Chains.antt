@@ -3,6 +3,7 @@
 --
 --   passes-chain   passes in memory
 --   list-chain     a list of bytes
+--   passes-taken, list-taken   none of the calls is refused
 use Prim.Native.Nat.{ℕ, _*_}
 use mathlib.Core.Path.{_≡_, refl, sym, ap, ap₂, subst, _∙_}
 use mathlib.Core.List.{List, [], _∷_, map}
@@ -50,6 +51,24 @@ module _ (w h : ℕ) (plane marks queue : List ℕ) where
   taken e whole ss f =
       let here = subst (λ (n : ℕ). lentRefusal w h n (length marks) (length queue) ≡ 0) whole e in
       all-map (λ s z. ap₂ _▷_ here z) (all-fine ss (fine-passes ss f .1))
+
+  -- so the replies are those of calls that were all accepted
+  all-taken : lentRefusal w h (length plane) (length marks) (length queue) ≡ 0 → (ss : List Pass)
+      → passesRefusal ss ≡ 0 → AllAccepted (chained ss .answers)
+  all-taken l ss f =
+      let whole = lent w h (length plane) (length marks) (length queue) l .whole in
+      chain-taken w h made (λ s. refl) ss (taken l whole ss f) (start plane) whole none
+
+  pub passes-taken : (ss : List Pass) → memoryRefusal w h ss plane marks queue ≡ 0 → AllAccepted (chained ss .answers)
+  passes-taken ss e =
+      let tests = ▷-none (lentRefusal w h (length plane) (length marks) (length queue)) (passesRefusal ss) e in
+      all-taken (tests .0) ss (tests .1)
+
+  pub list-taken : (list : List ℕ) → fileRefusal w h list plane marks queue ≡ 0
+      → AllAccepted (chained (passesOf list) .answers)
+  list-taken list e =
+      let tests = ▷-none (lentRefusal w h (length plane) (length marks) (length queue)) (listRefusal list) e in
+      all-taken (tests .0) (passesOf list) (accepted-list list (tests .1) .1)
 
   module _ (reply : Reply) (plane' marks' queue' : List ℕ) where
     -- passes that are not refused, whatever the refusal's number is called

@@ -1,7 +1,7 @@
 -- Rounding is monotone, and stays within what it divides. Assumes nothing.
 use Prim.Native.Nat.{ℕ, zero, suc, _+_, _*_, _/_, _≤_, _<_, zero-le}
-use mathlib.Core.Path.{sym, _∙_}
-use native.Mathlib.Nat.{le-refl, le-trans, le-of-eq, mul-le-mul-left}
+use mathlib.Core.Path.{_≡_, sym, _∙_}
+use native.Mathlib.Nat.{le-refl, le-trans, le-antisymm, le-of-eq, mul-le-mul-left}
 use native.Mathlib.Nat.{div-zero, div-mul-le-self, le-div-iff-mul-le, div-lt-iff-lt-mul}
 use native.Mathlib.Omega.{arith}
 use Rattle.planes.specs.Rounding.{rounded}
@@ -23,3 +23,10 @@ rounded-le d (suc m) x h =
 
 pub rounded-in : (d m x : ℕ) → x ≤ d * m → rounded x m ≤ d
 rounded-in d m x h = le-trans (rounded-mono m h) (rounded-le d m m (le-refl m))
+
+-- a multiple is divided without a rest
+pub rounded-exact : (d m : ℕ) → 1 ≤ m → rounded (d * m) m ≡ d
+rounded-exact d m some =
+    let least : d * (2 * m) ≤ 2 * (d * m) + m = omega arith in
+    le-antisymm (rounded-le d m m (le-refl m))
+    (le-div-iff-mul-le {k = 2 * m} {x = d} {y = 2 * (d * m) + m} (omega arith) .1 least)

@@ -8,7 +8,7 @@ mod pictures;
 mod png;
 
 use methods::METHODS;
-use mlhe::{Frame, Memory, Settings};
+use mlhe::{Frame, Memory, Plane, Settings};
 use mlhe_reference::extrema::{parted_neighbours, regional_maxima, regional_minima, reversed_neighbours};
 use pictures::Picture;
 use std::path::Path;
@@ -18,28 +18,24 @@ use std::{env, fs};
 /// The document, with a place for the table.
 const DOCUMENT: &str = include_str!("document.md");
 
-/// What is counted of a plane, against the picture's own.
+/// What is counted of a plane, against the intensity of the picture.
 struct Counts {
-    maxima: usize,
-    minima: usize,
-    /// Maxima and minima that contain none of the picture's own.
+    /// Regional maxima and minima.
+    spots: usize,
+    /// Those that contain none of the picture's own.
     invented: usize,
     reversed: usize,
     parted: usize,
-    /// The mean difference of neighbours, in hundredths.
-    difference: usize,
 }
 
-fn counts(first: &[u8], last: &[u8], w: usize, h: usize) -> Counts {
+fn counts(first: &Plane, last: &Plane) -> Counts {
+    let (w, h, first, last) = (first.width(), first.height(), first.values(), last.values());
     let (maxima, minima) = (regional_maxima(last, w, h), regional_minima(last, w, h));
-    let invented = invented(&maxima, &regional_maxima(first, w, h)) + invented(&minima, &regional_minima(first, w, h));
     Counts {
-        maxima: maxima.len(),
-        minima: minima.len(),
-        invented,
+        spots: maxima.len() + minima.len(),
+        invented: invented(&maxima, &regional_maxima(first, w, h)) + invented(&minima, &regional_minima(first, w, h)),
         reversed: reversed_neighbours(first, last, w, h),
         parted: parted_neighbours(first, last, w, h),
-        difference: difference(last, w, h),
     }
 }
 
@@ -58,13 +54,15 @@ fn invented(last: &[Vec<usize>], first: &[Vec<usize>]) -> usize {
     contains.iter().filter(|&&one| !one).count()
 }
 
-fn difference(plane: &[u8], w: usize, h: usize) -> usize {
+/// The mean difference of neighbours, in hundredths.
+fn difference(plane: &Plane) -> usize {
+    let (w, n, values) = (plane.width(), plane.values().len(), plane.values());
     let (mut sum, mut pairs) = (0, 0);
-    for p in 0..w * h {
+    for p in 0..n {
         let right = (p % w + 1 < w).then_some(p + 1);
-        let below = (p + w < w * h).then_some(p + w);
+        let below = (p + w < n).then_some(p + w);
         for q in [right, below].into_iter().flatten() {
-            sum += usize::from(plane[p].abs_diff(plane[q]));
+            sum += usize::from(values[p].abs_diff(values[q]));
             pairs += 1;
         }
     }
@@ -75,28 +73,36 @@ fn frame_of(picture: Picture) -> Frame {
     Frame::new(picture.w, picture.h, picture.bytes).expect("the picture is small")
 }
 
-fn row(name: &str, method: &str, c: &Counts) -> String {
-    let Counts { maxima, minima, invented, reversed, parted, difference } = c;
+/// The row of a plane, and of the frame that is recoloured from it.
+fn row(name: &str, method: &str, frame: &Frame, last: &Plane) -> String {
+    let first = frame.intensity();
+    let written = frame.recoloured(last).expect("the plane has the frame's sides").intensity();
+    let cells = |last: &Plane| {
+        let Counts { spots, invented, reversed, parted } = counts(&first, last);
+        format!("{spots} | {invented} | {reversed} | {parted}")
+    };
+    let difference = difference(last);
     let difference = format!("{}.{:02}", difference / 100, difference % 100);
-    format!("| {name} | {method} | {maxima} | {minima} | {invented} | {reversed} | {parted} | {difference} |\n")
+    format!("| {name} | {method} | {} | {} | {difference} |\n", cells(last), cells(&written))
 }
 
 fn table() -> String {
-    let mut table =
-        String::from("| Picture | Method | Maxima | Minima | Invented | Reversed | Parted | Difference |\n");
-    table.push_str("|---|---|---:|---:|---:|---:|---:|---:|\n");
+    let mut table = String::from("| Picture | Method | Plane: spots | invented | reversed | parted ");
+    table.push_str("| File: spots | invented | reversed | parted | Difference |\n");
+    table.push_str("|---|---|---:|---:|---:|---:|---:|---:|---:|---:|---:|\n");
     let all = [
-        ("ramp, 256 × 64", pictures::ramp()),
-        ("clouds, 256 × 256", pictures::clouds()),
-        ("haze, 256 × 192", pictures::haze()),
-        ("night, 256 × 192", pictures::night()),
+        ("ramp, grey", pictures::ramp()),
+        ("clouds, grey", pictures::clouds()),
+        ("haze, colour", pictures::haze()),
+        ("night, colour", pictures::night()),
+        ("meadow, colour", pictures::meadow()),
     ];
     for (name, picture) in all {
+        let name = format!("{name}, {} × {}", picture.w, picture.h);
         let frame = frame_of(picture);
-        let (w, h, first) = (frame.width(), frame.height(), frame.intensity().into_values());
-        table.push_str(&row(name, "(the picture)", &counts(&first, &first, w, h)));
+        table.push_str(&row(&name, "(the picture)", &frame, &frame.intensity()));
         for method in &METHODS {
-            table.push_str(&row("", method.name, &counts(&first, &(method.run)(&frame), w, h)));
+            table.push_str(&row("", method.name, &frame, &(method.run)(&frame)));
         }
     }
     table
@@ -104,7 +110,7 @@ fn table() -> String {
 
 /// The files to write: their names, from the repository on, and their bytes.
 fn files() -> Vec<(&'static str, Vec<u8>)> {
-    let before = pictures::small_night();
+    let before = pictures::meadow();
     let (w, h) = (before.w, before.h);
     let picture = png::encoded(&before);
     let enhanced = frame_of(before).enhanced(&Settings::HOUSE, &mut Memory::new()).expect("the setting is sound");

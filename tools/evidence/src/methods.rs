@@ -1,24 +1,28 @@
-//! The methods that are compared, on planes of intensities. The first three are written out here.
+//! The methods that are compared, from a frame to its new intensity. The first three are written out here.
 
 use mlhe::{Frame, Memory, Plane, Rule, Settings};
 
 pub struct Method {
     pub name: &'static str,
-    pub run: fn(&Frame) -> Vec<u8>,
+    pub run: fn(&Frame) -> Plane,
 }
 
 pub const METHODS: [Method; 5] = [
-    Method { name: "global equalisation", run: |frame| equalised(&frame.intensity()) },
-    Method { name: "CLAHE, 8 × 8 tiles, clip 3", run: |frame| tiled(&frame.intensity()) },
-    Method { name: "unsharp masking, 100 %", run: |frame| unsharp(&frame.intensity()) },
+    Method { name: "global equalisation", run: |frame| on_intensity(frame, equalised) },
+    Method { name: "CLAHE, 8 × 8 tiles, clip 3", run: |frame| on_intensity(frame, tiled) },
+    Method { name: "unsharp masking, 100 %", run: |frame| on_intensity(frame, unsharp) },
     Method { name: "this library, house setting", run: |frame| ours(frame, Settings::HOUSE) },
     Method { name: "this library, limited, k 20", run: |frame| ours(frame, LIMITED) },
 ];
 
 const LIMITED: Settings = Settings { rule: Rule::Limited { k: 20 }, ..Settings::HOUSE };
 
-fn ours(frame: &Frame, settings: Settings) -> Vec<u8> {
-    frame.enhanced(&settings, &mut Memory::new()).expect("the settings are sound").plane.into_values()
+fn ours(frame: &Frame, settings: Settings) -> Plane {
+    frame.enhanced(&settings, &mut Memory::new()).expect("the settings are sound").plane
+}
+
+fn on_intensity(frame: &Frame, method: fn(&Plane) -> Vec<u8>) -> Plane {
+    Plane::new(frame.width(), frame.height(), method(&frame.intensity())).expect("a value for each pixel")
 }
 
 /// The sums of the counts of the values up to each.

@@ -101,7 +101,58 @@ pub fn night() -> Picture {
     landscape(256, 192, true, 1)
 }
 
-/// The landscape at night, small and without grain, for the pictures of the document.
-pub fn small_night() -> Picture {
-    landscape(192, 144, true, 0)
+/// A meadow with flowers at dusk, in strong colours.
+pub fn meadow() -> Picture {
+    drawn(256, 192, |x, y| {
+        let hills = 62 + (smooth_noise(21, x, 0, 52) - 2_040) / 220;
+        let field = 84 + (smooth_noise(22, x, 0, 88) - 2_040) / 400;
+        if y < hills {
+            evening_sky(x, y)
+        } else if y < field {
+            let light = fractal(23, x, 2 * y) / 8;
+            [26 + light, 30 + light, 54 + light]
+        } else {
+            flower(x, y - field).unwrap_or_else(|| grass(x, y, field))
+        }
+    })
+}
+
+/// From deep blue above to orange at the horizon, with clouds and a low sun.
+fn evening_sky(x: i64, y: i64) -> [i64; 3] {
+    let cloud = (fractal(24, x, 3 * y) - 110).max(0) / 2;
+    let from_sun = (x - 186) * (x - 186) + (y - 50) * (y - 50);
+    let sun = if from_sun < 64 { 120 } else { 9_000 / (90 + from_sun) };
+    [34 + 2 * y + cloud + sun, 46 + y + cloud / 2 + sun * 3 / 5, 120 - y / 2 + cloud / 3 - sun / 3]
+}
+
+/// Blades of grass, darker in front.
+fn grass(x: i64, y: i64, field: i64) -> [i64; 3] {
+    let light = fractal(25, 2 * x, y) / 5 + scattered(26, x, y / 3) / 24 - (y - field) / 6;
+    [22 + light / 2, 44 + light, 14 + light / 3]
+}
+
+/// The colour of the flower that covers a pixel, so far below the field's edge: small ones behind, large ones in front,
+/// at most one in each square of a row of squares.
+fn flower(x: i64, y: i64) -> Option<[i64; 3]> {
+    let (size, share, seed) = match y {
+        ..24 => (6, 70, 31),
+        24..60 => (9, 110, 32),
+        _ => (18, 130, 33),
+    };
+    let row = y / size;
+    let x = x + scattered(seed, 0, row) % size;
+    let random = |what: i64| scattered(seed, 4 * (x / size) + what, row + 1);
+    let radius = size / 5 + 1;
+    let place = |what: i64| radius + random(what) * (size - 2 * radius) / 256;
+    let (across, down) = (x % size - place(0), y % size - place(1));
+    let from_centre = across * across + down * down;
+    if random(2) > share || from_centre >= radius * radius {
+        return None;
+    }
+    if size > 6 && 6 * from_centre < radius * radius {
+        return Some([150, 118, 20]);
+    }
+    let colours = [[168, 22, 26], [44, 40, 176], [150, 30, 130], [176, 120, 16], [158, 150, 156], [196, 60, 40]];
+    let shade = 100 - 45 * from_centre / (radius * radius);
+    Some(colours[random(3) as usize % colours.len()].map(|channel| channel * shade / 100))
 }
