@@ -1,7 +1,7 @@
 #!/usr/bin/env bash
 # Runs the program on every file of the corpus. Each answer is the one that the manifest names, and byte for byte that
-# of the second implementation. Inputs at the limit of length, and one that arrives in pieces, follow. Proves and builds
-# the program first, unless nothing has changed since.
+# of the second implementation. Inputs at the limit of length, one that arrives in pieces, and an output that cannot be
+# written follow. Proves and builds the program first, unless nothing has changed since.
 set -euo pipefail
 cd "$(dirname "$0")/.."
 
@@ -87,3 +87,11 @@ done
 { head -c 12; sleep 0.2; head -c 5000; sleep 0.2; cat; } < tests/corpus/pil.ppm | "$program" > "$out/answer"
 "$program" < tests/corpus/pil.ppm | cmp - "$out/answer" || fail "a frame in pieces"
 echo "corpus: inputs at the limit of length, and one in pieces, as they should be"
+
+# an output that is not written whole is told on standard error, and nothing else is
+"$program" < samples/dusk.ppm > /dev/full 2> "$out/errors"
+printf 'mlhe: output not written whole\n' | cmp "$out/errors" - || fail "an output that cannot be written. \
+Next: look at crates/mlhe/src/main.rt"
+"$program" < samples/dusk.ppm 2> "$out/errors" > "$out/answer"
+[ ! -s "$out/errors" ] || fail "an output that was written whole: $(head -c 80 "$out/errors")"
+echo "corpus: an output that cannot be written is told of"

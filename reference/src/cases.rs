@@ -8,7 +8,7 @@
 //!
 //! | At | Size | Field |
 //! |---|---|---|
-//! | 0 | 1 | kind: 0 intensity, 1 pass, 2 recolour, 3 enhance, 4 list, 5 passes, 6 read, 7 write, 8 program |
+//! | 0 | 1 | kind: 0 intensity, 1 pass, 2 recolour, 3 enhance, 4 list, 5 passes, 6 read, 7 write, 8 program, 9 house |
 //! | 1 | 1 | a |
 //! | 2 | 1 | b |
 //! | 3 | 1 | rule: 0 plain, 1 limited; no other number occurs |
@@ -25,8 +25,12 @@
 //! | 28 | 4 | pixel limit of the reader |
 //! | 32 | 2 | length of bytes, at most 12,320 |
 //! | 34 | 2 | length of plane, at most 288 |
-//! | 36 | | bytes: the frame (0, 2, 3), the list (4), the passes (5), the input (6, 8) or the raster (7) |
-//! | | | plane: the plane's bytes before the call (0 to 5) |
+//! | 36 | | bytes: the frame (0, 2, 3, 9), the list (4), the passes (5), the input (6, 8) or the raster (7) |
+//! | | | plane: the plane's bytes before the call (0 to 5, 9) |
+//!
+//! An enhancement with the house setting (kind 9) has no settings in its head: it is made with those that the house
+//! setting's constructor gives, and its line ends with what the house setting's constants are. The head's own settings
+//! would be refused.
 //!
 //! Passes in memory (kind 5) are given by 12 bytes each: a, b, rule (0 or 1), 0, area (4 bytes), then low and high or
 //! k and 0 (2 bytes each). The list in memory has as many passes as `bytes` has twelves, at most 1,025.
@@ -49,6 +53,7 @@
 //! | 6 read | `+W H OFFSET` | `-N` |
 //! | 7 write | `+LENGTH OUTPUT` | `-N OUTPUT` |
 //! | 8 program | `OUTPUT` | `OUTPUT` |
+//! | 9 house | `+COUNT PLANE OUTPUT STRAYS L AREA LOW HIGH` | `-N PLANE OUTPUT STRAYS L AREA LOW HIGH` |
 //!
 //! One space stands between the parts, also where a part is empty. Numbers are decimal. PLANE and OUTPUT are all bytes
 //! of the lent plane and of the lent output after the call, as two lower-case hexadecimal digits each; the program's
@@ -82,10 +87,11 @@ pub enum Kind {
     Read,
     Write,
     Program,
+    House,
 }
 
 impl Kind {
-    pub const ALL: [Kind; 9] = [
+    pub const ALL: [Kind; 10] = [
         Kind::Intensity,
         Kind::Pass,
         Kind::Recolour,
@@ -95,6 +101,7 @@ impl Kind {
         Kind::Read,
         Kind::Write,
         Kind::Program,
+        Kind::House,
     ];
 }
 
@@ -236,6 +243,10 @@ fn answer(case: &Case, plane: &mut Vec<u8>) -> String {
             format!("{} {}", number(length), hex(&output))
         }
         Kind::Program => hex(&program(&case.bytes)),
+        Kind::House => {
+            let count = enhance(&case.bytes, w, h, &Settings::HOUSE, plane, marks, queue, &mut output);
+            format!("{} {} {} {strays} {}", number(count), hex(plane), hex(&output), numbers(&Settings::HOUSE))
+        }
     }
 }
 
@@ -254,6 +265,14 @@ fn pass_of(record: &[u8]) -> Pass {
     let short = |at: usize| u16::from_le_bytes([record[at], record[at + 1]]);
     let area = u32::from(short(4)) + 65_536 * u32::from(short(6));
     Pass { a: record[0], b: record[1], area, rule: rule_of(record[2], [short(8), short(10)]) }
+}
+
+/// The numbers of settings with the plain rule, which the house setting is.
+fn numbers(settings: &Settings) -> String {
+    match settings.rule {
+        Rule::Plain { low, high } => format!("{} {} {low} {high}", settings.last_level, settings.area),
+        Rule::Limited { .. } => panic!("the house setting is plain"),
+    }
 }
 
 /// The number of an answer, with its sign.

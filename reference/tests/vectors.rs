@@ -43,11 +43,12 @@ fn the_stored_files_are_what_the_generator_makes() {
 
 #[test]
 fn every_refusal_of_every_call_is_there() {
-    let refusals: [(Kind, &[u8]); 8] = [
+    let refusals: [(Kind, &[u8]); 9] = [
         (Kind::Intensity, &[1, 2, 3]),
         (Kind::Pass, &[1, 2, 3, 4, 5, 6, 7, 8]),
         (Kind::Recolour, &[1, 2, 3, 14]),
         (Kind::Enhance, &[1, 2, 3, 4, 6, 7, 8, 9, 14]),
+        (Kind::House, &[1, 2, 3, 4, 14]),
         (Kind::List, &[1, 2, 3, 4, 5, 6, 7, 8, 15, 16, 17]),
         (Kind::Passes, &[1, 2, 3, 4, 5, 6, 7, 8, 16]),
         (Kind::Read, &[1, 2, 10, 11, 12, 13]),
@@ -78,6 +79,32 @@ fn every_level_shows() {
             }
             assert!(counts > 0 && planes > 0, "level {last_level}, rule {rule}");
         }
+    }
+}
+
+/// The line of an enhancement with the house setting begins as that of one with its numbers, and each number shows:
+/// with a slightly lower or higher one, some line begins otherwise.
+#[test]
+fn every_number_of_the_house_setting_shows() {
+    let (cases, lines) = stored_of(Kind::House);
+    let written_out = |last_level: u8, area: u32, numbers: [u16; 2]| -> usize {
+        let begins = |case: &Case, line: &String| {
+            let case = Case { kind: Kind::Enhance, last_level, area, rule: 0, numbers, ..case.clone() };
+            line.starts_with(&(answers(&encode(&case)).trim_end().to_string() + " "))
+        };
+        cases.iter().zip(&lines).filter(|(case, line)| begins(case, line)).count()
+    };
+    assert_eq!(written_out(7, 20, [80, 300]), cases.len());
+    for (last_level, area, low, high) in [
+        (6, 20, 80, 300),
+        (7, 19, 80, 300),
+        (7, 21, 80, 300),
+        (7, 20, 79, 300),
+        (7, 20, 81, 300),
+        (7, 20, 80, 299),
+        (7, 20, 80, 303),
+    ] {
+        assert!(written_out(last_level, area, [low, high]) < cases.len(), "{last_level} {area} {low} {high}");
     }
 }
 

@@ -1,7 +1,8 @@
 //! Nothing in the languages holds the declarations of the C functions against their source. This does: the functions of
-//! `crates/capi`, `include/mlhe.h` and `src/ffi.rs` have the same names, parameters and types, in the same order.
+//! `crates/capi`, `include/mlhe.h` and `src/ffi.rs` have the same names, parameters and types, in the same order, and the
+//! house setting has the same numbers in `crates/enhance`, `include/mlhe.h` and `src/settings.rs`.
 
-use mlhe::Refusal;
+use mlhe::{Refusal, Rule, Settings};
 use std::collections::BTreeMap;
 use std::fs;
 use std::path::Path;
@@ -110,4 +111,30 @@ fn the_refusals_of_the_header_are_those_of_the_crate() {
         })
         .collect();
     assert_eq!(numbers, Refusal::ALL.map(Refusal::number));
+}
+
+/// The number that stands after each of the four names of the house setting's numbers and `between`.
+fn house_numbers(text: &str, prefix: &str, between: [&str; 4]) -> [u32; 4] {
+    let names = ["LAST", "AREA", "LOW", "HIGH"];
+    [0, 1, 2, 3].map(|place| {
+        let mark = format!("{prefix}{}{} = ", names[place], between[place]);
+        let parts: Vec<&str> = text.split(&mark).collect();
+        assert_eq!(parts.len(), 2, "{mark}");
+        let digits: String = parts[1].chars().take_while(char::is_ascii_digit).collect();
+        digits.parse().expect("a number")
+    })
+}
+
+#[test]
+fn the_house_settings_agree() {
+    let types = [": u8", ": u32", ": u16", ": u16"];
+    let library = house_numbers(&text("crates/enhance/src/lib.rt"), "pub const HOUSE_", types);
+    let header = text("include/mlhe.h");
+    assert_eq!(house_numbers(&header, "MLHE_HOUSE_", [""; 4]), library);
+    assert!(header.contains("MLHE_HOUSE_RULE = MLHE_PLAIN,"));
+    let [last, area, low, high] = library;
+    let number = |number: u32| u16::try_from(number).expect("16 bits");
+    let rule = Rule::Plain { low: number(low), high: number(high) };
+    assert_eq!(Settings::HOUSE, Settings { last: last as u8, area, rule });
+    assert_eq!(Settings::default(), Settings::HOUSE);
 }

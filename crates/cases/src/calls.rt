@@ -21,10 +21,15 @@ fn settings_of(case: Case) -> Settings {
     Settings::new(case.last, case.area, rule)
 }
 
-// The end of a line: how many entries of marks and queue had to stay and did not.
-fn end_with_strays(answer: Answer, plane: usize, marks: &[u8], queue: &[u32]) {
+// How many entries of marks and queue had to stay and did not.
+fn strays(answer: Answer, plane: usize, marks: &[u8], queue: &[u32]) {
     let from = memory::kept_from(answer, plane);
     lines::count(memory::strays(marks, queue, from));
+}
+
+// The same, at the end of a line.
+fn end_with_strays(answer: Answer, plane: usize, marks: &[u8], queue: &[u32]) {
+    strays(answer, plane, marks, queue);
     lines::end();
 }
 
@@ -125,21 +130,22 @@ pub fn recolour(case: Case, frame: &[u8], plane: &[u8]) {
 // An enhancement with lent working memory and output.
 fn enhance_with(
     case: Case,
+    settings: Settings,
     frame: &[u8],
     plane: &mut [u8],
     marks: &mut [u8],
     queue: &mut [u32],
     output: &mut [u8],
 ) {
-    let settings = settings_of(case);
     let answer = enhance::enhance(frame, case.w, case.h, settings, plane, marks, queue, output);
     lines::answer(answer);
     lines::bytes(plane);
     lines::bytes(output);
-    end_with_strays(answer, plane.len(), marks, queue);
+    strays(answer, plane.len(), marks, queue);
 }
 
-pub fn enhance(case: Case, frame: &[u8], plane: &mut [u8]) {
+// An enhancement with these settings, up to the end of its line.
+fn enhance_by(case: Case, settings: Settings, frame: &[u8], plane: &mut [u8]) {
     let mut marks = [0u8; MEMORY];
     let mut queue = [0u32; MEMORY];
     let mut output = [FILL; OUTPUT];
@@ -147,12 +153,28 @@ pub fn enhance(case: Case, frame: &[u8], plane: &mut [u8]) {
     memory::fill_queue(&mut queue);
     enhance_with(
         case,
+        settings,
         frame,
         plane,
         parts::front(&mut marks, case.marks),
         parts::front_queue(&mut queue, case.queue),
         parts::front(&mut output, case.output),
     );
+}
+
+pub fn enhance(case: Case, frame: &[u8], plane: &mut [u8]) {
+    enhance_by(case, settings_of(case), frame, plane);
+    lines::end();
+}
+
+// An enhancement with the house setting, which the line ends with.
+pub fn house(case: Case, frame: &[u8], plane: &mut [u8]) {
+    enhance_by(case, Settings::house(), frame, plane);
+    lines::count(Settings::HOUSE_LAST as usize);
+    lines::count(Settings::HOUSE_AREA as usize);
+    lines::count(Settings::HOUSE_LOW as usize);
+    lines::count(Settings::HOUSE_HIGH as usize);
+    lines::end();
 }
 
 pub fn read(case: Case, bytes: &[u8]) {

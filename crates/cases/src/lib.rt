@@ -42,6 +42,7 @@ fn answer(case: Case, bytes: &[u8], plane: &mut [u8]) {
         5 => calls::passes(case, bytes, plane),
         6 => calls::read(case, bytes),
         7 => calls::write(case, bytes),
+        9 => calls::house(case, bytes, plane),
         _ => lines::end(),
     }
 }

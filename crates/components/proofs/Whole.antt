@@ -19,7 +19,8 @@ use Rattle.planes.proofs.Links.{chain-map}
 use Rattle.planes.proofs.Neighbours.{plane-chain}
 use Rattle.planes.proofs.Enumerations.{entries-size}
 use Rattle.components.specs.Regions.{alike, region}
-use Rattle.components.specs.Floods.{PlaneTaken}
+use Rattle.components.specs.Floods.{Flooded}
+use Rattle.components.specs.Whole.{PlaneTaken}
 use Rattle.components.proofs.Regions.{alike-of, region-of}
 
 -- ## All pixels are one component
@@ -41,15 +42,7 @@ region-past near n code marks s p h = ap (_&& linked (alike near marks code) n s
 
 -- ## Pixels taken in reading order
 
--- the first k marks are 0, and the first k entries of the queue are their own numbers; all other marks and entries, and
--- both lengths, are what they were
-pub record Taking (k : ℕ) (marks queue marks' queue' : List ℕ) : Type 0 where
-  pub off : (p : ℕ) → p < k → at marks' p ≡ 0
-  pub listed : (p : ℕ) → p < k → at queue' p ≡ p
-  pub marks-rest : Beyond k marks marks'
-  pub queue-rest : Beyond k queue queue'
-
-pub taking-none : (marks queue : List ℕ) → Taking 0 marks queue marks queue
+pub taking-none : (marks queue : List ℕ) → PlaneTaken 0 marks queue marks queue
 taking-none marks queue = record {
   off = λ p h. absurd (omega arith);
   listed = λ p h. absurd (omega arith);
@@ -65,8 +58,8 @@ beyond-more {k} {xs} {xs'} v b h = record {
       (λ q. absurd (omega arith)) (λ q. b .rest p (omega arith));
 }
 
-pub taking-more : {k : ℕ} {marks queue marks' queue' : List ℕ} → Taking k marks queue marks' queue'
-    → k < length marks' → k < length queue' → Taking (k + 1) marks queue (set marks' k 0) (set queue' k k)
+pub taking-more : {k : ℕ} {marks queue marks' queue' : List ℕ} → PlaneTaken k marks queue marks' queue'
+    → k < length marks' → k < length queue' → PlaneTaken (k + 1) marks queue (set marks' k 0) (set queue' k k)
 taking-more {k} {marks' = marks'} {queue' = queue'} T h l = record {
   off = λ p b. at-set (_≡ 0) marks' k p 0 h (λ q. refl) (λ q. T .off p (omega (arith, q)));
   listed = λ p b. at-set (_≡ p) queue' k p k l sym (λ q. T .listed p (omega (arith, q)));
@@ -76,7 +69,7 @@ taking-more {k} {marks' = marks'} {queue' = queue'} T h l = record {
 
 -- ## All pixels taken
 
-module _ {n : ℕ} {marks queue marks' queue' : List ℕ} (T : Taking n marks queue marks' queue')
+module _ {n : ℕ} {marks queue marks' queue' : List ℕ} (T : PlaneTaken n marks queue marks' queue')
     (room : n ≤ length queue) where
   -- the queue lists a set that has all n pixels
   lists-all : (S : ℕ → Bool) → ((p : ℕ) → p < n → S p ≡ true) → Enumerates queue' n n S
@@ -96,15 +89,17 @@ module _ {n : ℕ} {marks queue marks' queue' : List ℕ} (T : Taking n marks qu
     | inr h ↦ rw (none p h) (T .marks-rest .rest p h)
   ]
 
-  pub plane-taken : (w : ℕ) → 1 ≤ w → PlaneTaken (four w) n marks queue marks' queue' n
-  plane-taken w wide code all =
+  -- where they all had one code, they are one component, flooded; m is their number
+  pub plane-flooded : (w code : ℕ) → 1 ≤ w → ((p : ℕ) → p < n → at marks p ≡ code) → {m : ℕ} → m ≡ n
+      → Flooded (four w) n code 0 marks queue marks' queue' m
+  plane-flooded w code wide all e =
       let component = plane-region w n code marks wide all in
       let pixels = lists-all (region (four w) n marks code 0) component in
-      record {
+      rw e (record {
         size = entries-size pixels;
         enumerates = pixels;
         marks-are = all-off (region (four w) n marks code 0) component (region-past (four w) n code marks 0);
         rest = T .queue-rest .rest;
         marks-length = T .marks-rest .size;
         queue-length = T .queue-rest .size;
-      }
+      })

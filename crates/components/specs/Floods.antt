@@ -9,7 +9,6 @@
 --   Spread                    what is next to a pixel was taken until no neighbour was left
 --   Room, Spreadable, Floodable   what the steps and `flood` require
 --   Flooded                   what `flood` does
---   Takeable, PlaneTaken      what `take_plane` requires and does
 use Prim.Native.Nat.{ℕ, _+_, _*_, _/_, _%_, _≤_, _<_}
 use mathlib.Core.Path.{_≡_}
 use mathlib.Core.Bool.{Bool, true, cond, _&&_}
@@ -145,16 +144,3 @@ pub record Flooded (near : Near) (n code start : ℕ) (marks queue marks' queue'
   pub rest : (k : ℕ) → m ≤ k → at queue' k ≡ at queue k
   pub marks-length : length marks' ≡ length marks
   pub queue-length : length queue' ≡ length queue
-
--- ## The whole plane
-
--- a plane of w columns and h rows, and marks and a queue for it
-pub record Takeable (marks queue : List ℕ) (w h : ℕ) : Type 0 where
-  pub size : Sized w h greatestPixels
-  pub covered : w * h ≤ length marks
-  pub spare : w * h ≤ length queue
-
--- whichever code all n pixels had, the component of the first pixel was taken
-abbrev pub PlaneTaken : Near → ℕ → List ℕ → List ℕ → List ℕ → List ℕ → ℕ → Type 0
-PlaneTaken near n marks queue marks' queue' m =
-    (code : ℕ) → ((p : ℕ) → p < n → at marks p ≡ code) → Flooded near n code 0 marks queue marks' queue' m

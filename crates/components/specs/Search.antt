@@ -5,14 +5,16 @@
 --   Tells        a test tells whether a pixel of a stretch has the code
 --   Skipped      pixels were passed, none of which has the code
 --   Next         a pixel is the first from one on that has the code
---   NextPixel    what the search answers
+--   foundReply   the reply of each case of what a search finds
+--   NextPixel    what a search promises of its reply
 use Prim.Native.Nat.{ℕ, _*_, _≤_, _<_}
 use mathlib.Core.Path.{_≡_}
 use mathlib.Core.Bool.{Bool, true, false}
-use mathlib.Core.List.{List}
+use mathlib.Core.List.{List, [], _∷_}
 use lib.ListN.{length}
 use Rattle.planes.specs.Lists.{at}
 use Rattle.planes.specs.Refusals.{greatestPixels, Sized}
+use Rattle.planes.specs.Replies.{Reply, refuses, gives}
 use Rattle.components.specs.Rows.{inverseOf}
 use Rattle.components.specs.declared.Found.{Found}
 use Rattle.components.specs.declared.Found.the-variants.{At, Nothing}
@@ -45,7 +47,14 @@ pub record Next (marks : List ℕ) (code low n p : ℕ) : Type 0 where
   pub has : at marks p ≡ code
   pub none : None marks code low p
 
+-- the pixel that is found is the one value; where nothing is found there is none, and no case refuses
+abbrev pub foundReply : Found → Reply
+foundReply (At p) = gives (p ∷ [])
+foundReply Nothing = gives []
+
 -- the first pixel from `low` on, of n, that has the code, or that there is none
-abbrev pub NextPixel : List ℕ → ℕ → ℕ → ℕ → Found → Type 0
-NextPixel marks code low n (At p) = Next marks code low n p
-NextPixel marks code low n Nothing = None marks code low n
+abbrev pub NextPixel : List ℕ → ℕ → ℕ → ℕ → Reply → Type 0
+NextPixel marks code low n (refuses k) = ⊥
+NextPixel marks code low n (gives []) = None marks code low n
+NextPixel marks code low n (gives (p ∷ [])) = Next marks code low n p
+NextPixel marks code low n (gives (p ∷ q ∷ rest)) = ⊥

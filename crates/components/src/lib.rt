@@ -4,7 +4,7 @@
 // inverse      the inverse of a width, which the other two are given
 // next_pixel   the first pixel from one on, in reading order, that has the code
 // flood        takes the component of a pixel: its marks become 0, and its pixels are the first entries of the queue
-// take_plane   the same for a plane whose pixels all have one code, which is one component: nothing is searched
+// take_plane   takes all pixels of a plane; where they have one code, they are one component: nothing is searched
 //
 // The row of a pixel is found by multiplication with the inverse, in place of a division by the width.
 //
@@ -16,10 +16,10 @@ ghost use lib.ListN.{length};
 ghost use Rattle.planes.specs.Neighbours.{four};
 ghost use Rattle.planes.specs.Refusals.{greatestPixels};
 ghost use Rattle.components.specs.Rows.{inverseOf, Width};
-ghost use Rattle.components.specs.Search.{Searchable, Tells, Skipped, NextPixel};
+ghost use Rattle.components.specs.Search.{Searchable, Tells, Skipped, foundReply, NextPixel};
 ghost use Rattle.components.specs.Floods.{rowEnd, Above, Below, RunStart, RunTaken, Reached};
 ghost use Rattle.components.specs.Floods.{Room, Spreadable, Spread, Floodable, Flooded};
-ghost use Rattle.components.specs.Floods.{Takeable, PlaneTaken};
+ghost use Rattle.components.specs.Whole.{Takeable, PlaneTaken};
 
 // What a search finds.
 pub enum Found {
@@ -77,7 +77,7 @@ fn skip(marks: &[u8], at: usize, end: usize, code: u8) -> usize
 // The first pixel that has the code, in reading order from the pixel `from` on.
 pub fn next_pixel(marks: &[u8], w: usize, h: usize, inverse: u64, code: u8, from: usize) -> Found
     requires { ⌜ Searchable (now marks) w h inverse from ⌝ }
-    ensures { λ r. ⌜ NextPixel (now (marks .entry)) code from (w * h) r ⌝ }
+    ensures { λ r. ⌜ NextPixel (now (marks .entry)) code from (w * h) (foundReply r) ⌝ }
 {
     let n = w * h;
     let mut at = n;
@@ -224,12 +224,12 @@ pub fn flood(
     tail
 }
 
-// Takes the whole plane, whose pixels all have one code, as one component: the marks become 0, and the queue lists all
-// pixels. Their number.
+// Takes all pixels of the plane in reading order, whatever their marks are: the marks become 0, and entry k of the queue
+// is k. Their number. Where they all had one code, this is the flood of their one component.
 pub fn take_plane(marks: &mut [u8], queue: &mut [u32], w: usize, h: usize) -> usize
     requires { ⌜ Takeable (now marks) (now queue) w h ⌝ }
-    ensures { λ r. ⌜ PlaneTaken (four w) (w * h) (now (marks .entry)) (now (queue .entry)) (now (marks .exit))
-        (now (queue .exit)) r ⌝ }
+    ensures { λ r. ⌜ (r ≡ w * h) × PlaneTaken (w * h) (now (marks .entry)) (now (queue .entry))
+        (now (marks .exit)) (now (queue .exit)) ⌝ }
 {
     let n = w * h;
     for k in 0..n {

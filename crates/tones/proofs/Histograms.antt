@@ -201,14 +201,14 @@ module _ {plane queue counts : List ℕ} {m a b : ℕ} (k : Component plane queu
 -- ## Tables
 
 -- the values themselves, where a test with the answer r keeps them
-pub ruled-kept : {rule : Rule} {a b : ℕ} {r : Bool} {counts l table : List ℕ}
+pub ruled-kept : {rule : Rule} {a b : ℕ} {r : Bool} {counts table : List ℕ}
     → ((vs : List ℕ) → Histogram a b vs counts → r ≡ kept rule a b vs) → r ≡ true
-    → Refilled (λ v. v) a (b + 1) l table → Ruled rule a b counts table false
+    → ((v : ℕ) → a ≤ v → v ≤ b → at table v ≡ v) → Ruled rule a b counts table false
 ruled-kept {rule} {a} {b} k e same =
     let kept-back : (vs : List ℕ) → Histogram a b vs _ → kept rule a b vs ≡ true = λ vs h. sym (k vs h) ∙ e in
     record {
       answer = λ vs h. rw (kept-back vs h);
-      exact = λ vs h v av vb. rw (kept-back vs h) (same .new v av (omega arith));
+      exact = λ vs h v av vb. rw (kept-back vs h) (same v av vb);
     }
 
 -- the tones, where it does not

@@ -17,7 +17,7 @@ use Rattle.planes.proofs.Counts.{count-le, count-snoc}
 use Rattle.planes.proofs.Stores.{at-set}
 use Rattle.planes.proofs.Tests.{eq-or-not}
 use Rattle.tones.specs.Tones.{sumTo}
-use Rattle.tones.specs.Histograms.{values, Component, Tally, Refilled, Filled}
+use Rattle.tones.specs.Histograms.{values, Component, Outside, Tally, Refilled, Filled}
 use Rattle.tones.proofs.Sums.{sumTo-first, sumTo-next}
 
 -- ## Entries filled one after another
@@ -35,6 +35,23 @@ refilled-more {f} {a} {e} {x} {l} {l'} h ae room eq = record {
   old = λ v out. getD-set-other l' e v x 0 (λ s. out (omega arith) (omega arith))
       ∙ h .old v (λ av ve. out av (omega arith));
 }
+
+-- ## What stays outside [a, b]
+
+pub outside-none : {a b : ℕ} (l : List ℕ) → Outside a b l l
+outside-none l = record { size = refl; rest = λ v out. refl }
+
+pub outside-more : {a b v : ℕ} {l l' : List ℕ} (x : ℕ) → Outside a b l l' → a ≤ v → v ≤ b → Outside a b l (set l' v x)
+outside-more {v = v} {l' = l'} x h av vb = record {
+  size = simp length-set (h .size);
+  rest = λ u out. getD-set-other l' v u x 0 (λ s. out (omega arith) (omega arith)) ∙ h .rest u out;
+}
+
+pub outside-both : {a b : ℕ} {l l' l'' : List ℕ} → Outside a b l l' → Outside a b l' l'' → Outside a b l l''
+outside-both h g = record { size = g .size ∙ h .size; rest = λ v out. g .rest v out ∙ h .rest v out }
+
+pub refilled-outside : {f : ℕ → ℕ} {a b : ℕ} {l l' : List ℕ} → Refilled f a (b + 1) l l' → Outside a b l l'
+refilled-outside h = record { size = h .size; rest = λ v out. h .old v (λ av ve. out av (omega arith)) }
 
 -- ## Sums made in place
 
@@ -79,12 +96,9 @@ grow {a} {b} {vs} {counts} x h ax xb small = record {
       (λ o. omega (arith, h .entry v av vb, no-more (eqb v) vs x (ne-eqb v x o)));
 }
 
-pub tally-none : {a b : ℕ} (plane queue : List ℕ) {l counts : List ℕ} → Refilled (λ v. 0) a (b + 1) l counts
-    → length l ≡ 256 → Tally a b (values plane queue 0) counts
-tally-none plane queue h size = record {
-  size = h .size ∙ size;
-  entry = λ v av vb. h .new v av (omega arith);
-}
+pub tally-none : {a b : ℕ} (plane queue : List ℕ) {counts : List ℕ} → length counts ≡ 256
+    → ((v : ℕ) → a ≤ v → v ≤ b → at counts v ≡ 0) → Tally a b (values plane queue 0) counts
+tally-none plane queue size zeros = record { size = size; entry = zeros }
 
 pub tally-more : (plane queue : List ℕ) (i : ℕ) {a b : ℕ} {counts : List ℕ} → Tally a b (values plane queue i) counts
     → i < length queue → a ≤ at plane (at queue i) → at plane (at queue i) ≤ b → at plane (at queue i) < 256

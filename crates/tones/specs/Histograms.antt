@@ -6,6 +6,9 @@
 --   Component               the queue's first m entries are pixels of the plane, each once, with values in [a, b]
 --   Alike                   two lists have the same values, perhaps in another order
 --   ToneTable, ToneTables   a rule's table for a component, by a list of its values, and by every such list
+--   Outside                 a list keeps its length and its entries that are not of [a, b]
+--   Confined                counts and table do
+--   ToneTabled              what `tone_table` answers and leaves, and what it leaves free
 -- For the functions within:
 --   Tally                   256 counts, and those of [a, b] are a list's
 --   Inside                  all values of a list lie in [a, b]
@@ -50,6 +53,17 @@ pub record Component (plane queue : List ℕ) (m a b : ℕ) : Type 0 where
 pub record Alike (vs ws : List ℕ) : Type 0 where
   pub same : (v : ℕ) → count (eqb v) vs ≡ count (eqb v) ws
   pub size : length vs ≡ length ws
+
+-- ## What stays
+
+-- the length, and the entries that are not of [a, b], are as they were
+pub record Outside (a b : ℕ) (l l' : List ℕ) : Type 0 where
+  pub size : length l' ≡ length l
+  pub rest : (v : ℕ) → (a ≤ v → v ≤ b → ⊥) → at l' v ≡ at l v
+
+pub record Confined (a b : ℕ) (counts table counts' table' : List ℕ) : Type 0 where
+  pub counts-rest : Outside a b counts counts'
+  pub table-rest : Outside a b table table'
 
 -- ## Counts
 
@@ -144,3 +158,10 @@ pub record ToneTable (rule : Rule) (a b : ℕ) (vs plane queue table : List ℕ)
 abbrev pub ToneTables : Rule → ℕ → ℕ → List ℕ → List ℕ → List ℕ → ℕ → Bool → Type 0
 ToneTables rule a b plane queue table m r =
     (vs : List ℕ) → Alike vs (values plane queue m) → ToneTable rule a b vs plane queue table m r
+
+-- r and the table's entries at the values of the component are the rule's. Free are the counts of [a, b], and the
+-- table's entries of [a, b] at values that no pixel of the component has; all other entries, and both lengths, stay
+pub record ToneTabled (rule : Rule) (a b : ℕ) (plane queue counts table : List ℕ) (m : ℕ) (r : Bool)
+    (counts' table' : List ℕ) : Type 0 where
+  pub tones : ToneTables rule a b plane queue table' m r
+  pub confined : Confined a b counts table counts' table'

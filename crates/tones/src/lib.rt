@@ -20,7 +20,7 @@ ghost use lib.ListN.{length};
 ghost use Rattle.planes.specs.Lists.{at};
 ghost use Rattle.planes.specs.Rounding.{rounded};
 ghost use Rattle.tones.specs.Tones.{sumTo, scaled, plainTone, keptBy, kept};
-ghost use Rattle.tones.specs.Histograms.{values, Component, ToneTables};
+ghost use Rattle.tones.specs.Histograms.{values, Component, Outside, Confined, ToneTabled};
 ghost use Rattle.tones.specs.Histograms.{Tally, Histogram, Counted, Lowest, Highest, Refilled, Sums};
 ghost use Rattle.tones.specs.Histograms.{limitedBy, ClippedSums, Tabled, Ruled, Filled};
 
@@ -47,7 +47,8 @@ fn clear(counts: &mut [u32], a: u8, b: u8)
 // Counts the values of a component, which are of [a, b].
 fn histogram(plane: &[u8], queue: &[u32], m: usize, counts: &mut [u32; 256], a: u8, b: u8)
     requires { ⌜ Component (now plane) (now queue) m a b ⌝ }
-    ensures { λ r. ⌜ Tally a b (values (now (plane .entry)) (now (queue .entry)) m) (now (counts .exit)) ⌝ }
+    ensures { λ r. ⌜ Tally a b (values (now (plane .entry)) (now (queue .entry)) m) (now (counts .exit))
+        × Outside a b (now (counts .entry)) (now (counts .exit)) ⌝ }
 {
     clear(counts, a, b);
     let mut i = 0;
@@ -169,7 +170,8 @@ fn fill_plain(sums: &[u32; 256], table: &mut [u8], m: usize, a: u8, b: u8)
 // The plain rule's tone of each value of [a, b]; the counts become their sums.
 fn plain_table(counts: &mut [u32; 256], table: &mut [u8; 256], m: usize, a: u8, b: u8)
     requires { ⌜ Counted (now counts) m a b ⌝ }
-    ensures { λ r. ⌜ Tabled (plainTone a b) a b (now (counts .entry)) (now (table .exit)) ⌝ }
+    ensures { λ r. ⌜ Tabled (plainTone a b) a b (now (counts .entry)) (now (table .exit))
+        × Confined a b (now (counts .entry)) (now (table .entry)) (now (counts .exit)) (now (table .exit)) ⌝ }
 {
     sum_up(counts, a, b);
     fill_plain(counts, table, m, a, b);
@@ -265,7 +267,8 @@ fn fill_listed(
     requires { ⌜ Component (now plane) (now queue) m a b
         × (Sums (now sums) (1000 * m) m a b × (b < length (now table))) ⌝ }
     ensures { λ r. ⌜ Filled (limitedBy (now (sums .entry)) m a b)
-        (now (plane .entry)) (now (queue .entry)) (now (table .exit)) m ⌝ }
+        (now (plane .entry)) (now (queue .entry)) (now (table .exit)) m
+        × Outside a b (now (table .entry)) (now (table .exit)) ⌝ }
 {
     let mut i = 0;
     while i < m {
@@ -287,7 +290,8 @@ fn clip_of(k: u16, m: usize) -> u64
 // Clips the counts of the values of [a, b], and sums them.
 fn sum_clipped(counts: &mut [u32; 256], m: usize, a: u8, b: u8, k: u16)
     requires { ⌜ Counted (now counts) m a b ⌝ }
-    ensures { λ r. ⌜ ClippedSums k m a b (now (counts .entry)) (now (counts .exit)) ⌝ }
+    ensures { λ r. ⌜ ClippedSums k m a b (now (counts .entry)) (now (counts .exit))
+        × Outside a b (now (counts .entry)) (now (counts .exit)) ⌝ }
 {
     let most = clip_of(k, m);
     clip(counts, a, b, most);
@@ -305,7 +309,8 @@ fn plain_tones(
     b: u8,
 ) -> bool
     requires { ⌜ Counted (now counts) m a b ⌝ }
-    ensures { λ r. ⌜ Ruled (Rule.Plain low high) a b (now (counts .entry)) (now (table .exit)) r ⌝ }
+    ensures { λ r. ⌜ Ruled (Rule.Plain low high) a b (now (counts .entry)) (now (table .exit)) r
+        × Confined a b (now (counts .entry)) (now (table .entry)) (now (counts .exit)) (now (table .exit)) ⌝ }
 {
     if plain_keeps(counts, m, low, high, a, b) {
         fill_same(table, a, b);
@@ -328,8 +333,8 @@ fn limited_tones(
 ) -> bool
     requires { ⌜ Component (now plane) (now queue) m a b
         × Tally a b (values (now plane) (now queue) m) (now counts) ⌝ }
-    ensures { λ r. ⌜ ToneTables (Rule.Limited k) a b
-        (now (plane .entry)) (now (queue .entry)) (now (table .exit)) m r ⌝ }
+    ensures { λ r. ⌜ ToneTabled (Rule.Limited k) a b (now (plane .entry)) (now (queue .entry))
+        (now (counts .entry)) (now (table .entry)) m r (now (counts .exit)) (now (table .exit)) ⌝ }
 {
     sum_clipped(counts, m, a, b, k);
     let d = (b - a) as usize;
@@ -342,7 +347,9 @@ fn limited_tones(
 }
 
 // Fills the table's entries at the values of the component of the queue's first m pixels with their new values by the
-// rule; whether it is retoned, and so not kept back. Counts and table may come with any content.
+// rule; whether it is retoned, and so not kept back. Counts and table may come with any content. Of what they are left
+// with, free are the counts of [a, b], and the table's entries of [a, b] that no pixel of the component has for a
+// value; all other entries stay.
 pub fn tone_table(
     plane: &[u8],
     queue: &[u32],
@@ -354,8 +361,8 @@ pub fn tone_table(
     table: &mut [u8; 256],
 ) -> bool
     requires { ⌜ Component (now plane) (now queue) m a b ⌝ }
-    ensures { λ r. ⌜ ToneTables rule a b
-        (now (plane .entry)) (now (queue .entry)) (now (table .exit)) m r ⌝ }
+    ensures { λ r. ⌜ ToneTabled rule a b (now (plane .entry)) (now (queue .entry))
+        (now (counts .entry)) (now (table .entry)) m r (now (counts .exit)) (now (table .exit)) ⌝ }
 {
     histogram(plane, queue, m, counts, a, b);
     match rule {

@@ -1,15 +1,16 @@
 -- `components::take_plane` meets its contract. The invariant: the first k pixels were taken. The measure is what is left
 -- of n. Assumes nothing.
 use Prim.Native.Nat.{_*_, _-_, _≤_}
-use mathlib.Core.Path.{_≡_}
+use mathlib.Core.Path.{_≡_, refl}
 use native.Mathlib.Omega.{arith}
 use borrow.Author.Needs.{needs}
-use Rattle.components.proofs.Whole.{Taking, taking-none, taking-more, plane-taken}
+use Rattle.components.specs.Whole.{PlaneTaken}
+use Rattle.components.proofs.Whole.{taking-none, taking-more}
 use Rattle.components.proofs.take_plane.Statement.{statement}
 use Rattle.components.proofs.take_plane.Tie as tie
 
 abbrev Inv-loop : tie.InvT-loop
-Inv-loop marks₀ queue₀ w h n k₀ marks queue k = (k ≤ n) × Taking k marks₀ queue₀ marks queue
+Inv-loop marks₀ queue₀ w h n k₀ marks queue k = (k ≤ n) × PlaneTaken k marks₀ queue₀ marks queue
 
 abbrev μ-loop : tie.MeasureT-loop
 μ-loop marks₀ queue₀ w h n k₀ marks queue k = n - k
@@ -57,7 +58,7 @@ returns : tie.Need-returns Inv-loop μ-loop
 returns c =
     let s = c .before .before in
     let all : c .before .loop .k ≡ s .args .w * s .args .h = omega arith in
-    plane-taken (rw all at (c .before .loop .inv .1)) (s .pre .spare) (s .args .w) (s .pre .size .wide)
+    (refl, rw all at (c .before .loop .inv .1))
 
 pub take-plane-spec : {M : Type 1} → statement M
 take-plane-spec =

@@ -30,6 +30,9 @@ slice-aggregate-write-all c = sym (length-take-le _ _ (search needs))
 write-all-requires : tie.Need-write-all-requires
 write-all-requires c κs = search needs
 
+tell-requires : tie.Need-tell-requires
+tell-requires c κs = search needs
+
 returns : tie.Need-returns
 returns c = search needs
 
@@ -45,4 +48,5 @@ main-spec =
     array-share-prefix-output
     slice-aggregate-write-all
     write-all-requires
+    tell-requires
     returns)

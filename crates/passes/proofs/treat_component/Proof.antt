@@ -45,7 +45,7 @@ returns-2 c =
     λ vs A. done (s .args .pass) (s .args .next) A _
     (queue-size (s .args .plane .now) (s .args .queue .now) room A)
     (least-area (s .args .pass) (s .args .plane .now) (s .args .queue .now) (s .args .m) room not-inert)
-    not-inert (tabled .tone-table .ensures vs A) (painted .paint .ensures) (c .one-if .ensures)
+    not-inert (tabled .tone-table .ensures .tones vs A) (painted .paint .ensures) (c .one-if .ensures)
 
 pub treat-component-spec : {M : Type 1} → statement M
 treat-component-spec =

@@ -3,7 +3,9 @@
 use Prim.Native.Nat.{_*_, _≤_}
 use native.Mathlib.Nat.{mul-le-mul}
 use borrow.Author.Needs.{needs}
-use Rattle.components.proofs.Whole.{plane-region}
+use lib.ListN.{length}
+use Rattle.planes.specs.Neighbours.{four}
+use Rattle.components.proofs.Whole.{plane-region, plane-flooded}
 use Rattle.passes.proofs.Passing.{treatable, pass-begin, component, alike, listed, one-component}
 use Rattle.passes.proofs.treat_plane.Statement.{statement}
 use Rattle.passes.proofs.treat_plane.Tie as tie
@@ -20,7 +22,8 @@ treat-component-requires c κs =
     let d = treatable (s .pre .0) in
     let size = s .pre .0 .lent .size in
     let some : 1 * 1 ≤ s .args .w * s .args .h = mul-le-mul (size .wide) (size .high) in
-    let F = taken .take-plane .ensures 1 (s .pre .1) in
+    let all = taken .take-plane .ensures in
+    let F = plane-flooded (all .1) (s .pre .0 .lent .spare) (s .args .w) 1 (size .wide) (s .pre .1) (all .0) in
     let begun = pass-begin _ _ _ _ _ _ _ _ in (
       component d begun some (s .pre .1 0 some) F,
       listed d begun some (s .pre .1 0 some) F (s .pre .0 .lent .covered),
@@ -43,7 +46,8 @@ returns c =
     let d = treatable (s .pre .0) in
     let size = s .pre .0 .lent .size in
     let some : 1 * 1 ≤ s .args .w * s .args .h = mul-le-mul (size .wide) (size .high) in
-    let F = taken .take-plane .ensures 1 (s .pre .1) in
+    let all = taken .take-plane .ensures in
+    let F = plane-flooded (all .1) (s .pre .0 .lent .spare) (s .args .w) 1 (size .wide) (s .pre .1) (all .0) in
     let begun = pass-begin _ _ _ _ _ _ _ _ in
     let R = treated .treat-component .ensures _ (alike d begun some (s .pre .1 0 some) F) in
     one-component d some (s .pre .1 0 some)

@@ -7,7 +7,7 @@ use native.Mathlib.Omega.{arith}
 use borrow.Author.Needs.{needs}
 use lib.ListN.{length}
 use Rattle.planes.specs.Neighbours.{four}
-use Rattle.components.specs.Search.{Next, NextPixel}
+use Rattle.components.specs.Search.{foundReply, Next, NextPixel}
 use Rattle.components.specs.declared.Found.{Found}
 use Rattle.components.specs.declared.Found.the-variants.{At}
 use Rattle.passes.proofs.Passing.{Passing, treatable, pass-start, size-le, go-on, pass-end}
@@ -16,9 +16,9 @@ use Rattle.passes.proofs.treat_section.Statement.{statement}
 use Rattle.passes.proofs.treat_section.Tie as tie
 
 -- the pixel that the search found
-next-of : {marks : List ℕ} {code low n p : ℕ} {r : Found} → r ≡ At p → NextPixel marks code low n r
+next-of : {marks : List ℕ} {code low n p : ℕ} {r : Found} → r ≡ At p → NextPixel marks code low n (foundReply r)
     → Next marks code low n p
-next-of {marks} {code} {low} {n} e f = subst (NextPixel marks code low n) e f
+next-of {marks} {code} {low} {n} e f = subst (λ r. NextPixel marks code low n (foundReply r)) e f
 
 abbrev Inv-loop : tie.InvT-loop
 Inv-loop plane₀ marks₀ queue₀ w h code due pass next n inverse counts₀ table₀ count₀ low₀ high₀ from₀
@@ -152,7 +152,7 @@ loop-again-2 c =
     let l = c .before .before .before .before .before in
     let s = l .before .before .before .before .before .before in
     let answer = NextPixel (l .loop .marks) (s .args .code) (l .loop .from) (s .args .w * s .args .h) in
-    let f = subst answer (c .enum-told .given .1) (c .before .before .next-pixel .ensures) in
+    let f = subst (λ r. answer (foundReply r)) (c .enum-told .given .1) (c .before .before .next-pixel .ensures) in
     go-on (treatable (s .pre)) (l .loop .inv) _ (l .loop .inv .swept .order) (omega arith) f
 
 same-length : tie.Need-same-length Inv-loop μ-loop

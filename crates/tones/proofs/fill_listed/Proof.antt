@@ -1,24 +1,24 @@
 -- `tones::fill_listed` meets its contract. The invariant: the entries at the values of the queue's first i pixels are
--- tones. The measure is what is left of m. Assumes nothing.
+-- tones, and no entry outside [a, b] changes. The measure is what is left of m. Assumes nothing.
 use Prim.Native.Nat.{ℕ, _-_, _≤_}
 use mathlib.Core.Path.{_≡_}
-use lib.ListN.{length, length-set}
+use lib.ListN.{length}
 use Rattle.planes.specs.Lists.{at}
-use Rattle.tones.specs.Histograms.{Filled, limitedBy}
-use Rattle.tones.proofs.Stores.{filled-none, filled-more}
+use Rattle.tones.specs.Histograms.{Outside, Filled, limitedBy}
+use Rattle.tones.proofs.Stores.{filled-none, filled-more, outside-none, outside-more}
 use native.Mathlib.Omega.{arith}
 use Rattle.tones.proofs.fill_listed.Statement.{statement}
 use Rattle.tones.proofs.fill_listed.Tie as tie
 
 abbrev Inv-loop : tie.InvT-loop
 Inv-loop plane queue m sums table₀ a b i₀ table i =
-    (i ≤ m) × ((length table ≡ length table₀) × Filled (limitedBy sums m a b) plane queue table i)
+    (i ≤ m) × (Outside a b table₀ table × Filled (limitedBy sums m a b) plane queue table i)
 
 abbrev μ-loop : tie.MeasureT-loop
 μ-loop plane queue m sums table₀ a b i₀ table i = m - i
 
 loop-holds : tie.Need-loop-holds Inv-loop μ-loop
-loop-holds c = (omega arith, (omega arith, filled-none _ _ _))
+loop-holds c = (omega arith, (outside-none _, filled-none _ _ _))
 
 mul-p : tie.Need-mul-p Inv-loop μ-loop
 mul-p c = omega arith
@@ -62,15 +62,18 @@ loop-again : tie.Need-loop-again Inv-loop μ-loop
 loop-again c =
     let inv = c .before .before .before .before .loop .inv in
     let room = slice-write-table c in
-    (omega arith, (simp length-set (inv .1 .0), filled-more (inv .1 .1) room (c .limited-tone .ensures)))
+    let v = within (c .before) in (
+      omega arith,
+      (outside-more _ (inv .1 .0) (v .0) (v .1), filled-more (inv .1 .1) room (c .limited-tone .ensures)),
+    )
 
 same-length : tie.Need-same-length Inv-loop μ-loop
-same-length c = c .before .loop .inv .1 .0
+same-length c = c .before .loop .inv .1 .0 .size
 
 returns : tie.Need-returns Inv-loop μ-loop
 returns c =
     let all : c .before .loop .i ≡ c .before .before .before .before .before .args .m = omega arith in
-    rw all at (c .before .loop .inv .1 .1)
+    (rw all at (c .before .loop .inv .1 .1), c .before .loop .inv .1 .0)
 
 pub fill-listed-spec : {M : Type 1} → statement M
 fill-listed-spec =

@@ -1,17 +1,19 @@
 -- `tones::histogram` meets its contract. The invariant: the entries of [a, b] count the values of the queue's first i
--- pixels. The measure is what is left of m. Assumes nothing.
+-- pixels, and the others stay. The measure is what is left of m. Assumes nothing.
 use Prim.Native.Nat.{ℕ, _-_, _≤_, _<_}
 use mathlib.Core.Path.{_≡_}
 use borrow.Author.Needs.{needs}
 use native.Mathlib.Omega.{arith}
 use Rattle.planes.specs.Lists.{at}
-use Rattle.tones.specs.Histograms.{values, Tally}
+use Rattle.tones.specs.Histograms.{values, Outside, Tally}
 use Rattle.tones.proofs.Stores.{tally-none, tally-more, tally-le}
+use Rattle.tones.proofs.Stores.{outside-none, outside-more, outside-both, refilled-outside}
 use Rattle.tones.proofs.histogram.Statement.{statement}
 use Rattle.tones.proofs.histogram.Tie as tie
 
 abbrev Inv-loop : tie.InvT-loop
-Inv-loop plane queue m counts₀ a b i₀ counts i = (i ≤ m) × Tally a b (values plane queue i) counts
+Inv-loop plane queue m counts₀ a b i₀ counts i =
+    (i ≤ m) × (Tally a b (values plane queue i) counts × Outside a b counts₀ counts)
 
 abbrev μ-loop : tie.MeasureT-loop
 μ-loop plane queue m counts₀ a b i₀ counts i = m - i
@@ -22,7 +24,14 @@ clear-requires c κs = search needs
 loop-holds : tie.Need-loop-holds Inv-loop μ-loop
 loop-holds c =
     let a = c .before .before .before .before .args in
-    (omega arith, tally-none (a .plane .now) (a .queue .now) (c .clear .ensures) (omega arith))
+    let zeros = c .clear .ensures in (
+      omega arith,
+      (
+        tally-none (a .plane .now) (a .queue .now) (omega (arith, zeros .size))
+            (λ v av vb. zeros .new v (omega arith) (omega arith)),
+        outside-none _,
+      ),
+    )
 
 mul-p : tie.Need-mul-p Inv-loop μ-loop
 mul-p c = omega arith
@@ -61,7 +70,7 @@ add-counts c =
     let a = start (c .before) .args in
     let s = c .before .before .before .before .loop in
     let v = within (c .before) in
-    omega (arith, tally-le (a .plane .now) (a .queue .now) (s .i) (value (c .before)) (s .inv .1) (v .0) (v .1))
+    omega (arith, tally-le (a .plane .now) (a .queue .now) (s .i) (value (c .before)) (s .inv .1 .0) (v .0) (v .1))
 
 element-write-counts : tie.Need-element-write-counts Inv-loop μ-loop
 element-write-counts c = omega (arith, within (c .before))
@@ -78,12 +87,14 @@ loop-again c =
     let s = c .before .before .before .before .loop in
     let v = within (c .before) in
     let byte : value (c .before) < 256 = omega arith in
-    (omega arith, tally-more (a .plane .now) (a .queue .now) (s .i) (s .inv .1) (omega arith) (v .0) (v .1) byte)
+    let tally = tally-more (a .plane .now) (a .queue .now) (s .i) (s .inv .1 .0) (omega arith) (v .0) (v .1) byte in
+    (omega arith, (tally, outside-more _ (s .inv .1 .1) (v .0) (v .1)))
 
 returns : tie.Need-returns Inv-loop μ-loop
 returns c =
     let all : c .before .loop .i ≡ c .before .before .before .before .before .before .args .m = omega arith in
-    rw all at (c .before .loop .inv .1)
+    let cleared = c .before .before .clear .ensures in
+    (rw all at (c .before .loop .inv .1 .0), outside-both (refilled-outside cleared) (c .before .loop .inv .1 .1))
 
 pub histogram-spec : {M : Type 1} → statement M
 histogram-spec =

@@ -1,6 +1,6 @@
 -- `tones::limited_tones` meets its contract: the sums of the clipped counts give the tones, at the component's values
 -- or at all values of [a, b]. Assumes nothing.
-use Rattle.tones.proofs.Stores.{filled-all}
+use Rattle.tones.proofs.Stores.{filled-all, refilled-outside}
 use Rattle.tones.proofs.Histograms.{counted-of, limited-tables}
 use borrow.Author.Needs.{needs}
 use Rattle.tones.proofs.limited_tones.Statement.{statement}
@@ -22,7 +22,12 @@ returns : tie.Need-returns
 returns c =
     let clipped = c .before .before .before .before in
     let pre = clipped .before .before .before .before .pre in
-    limited-tables (pre .0) (pre .1) (clipped .sum-clipped .ensures) (c .fill-listed .ensures)
+    let sums = clipped .sum-clipped .ensures in
+    let filled = c .fill-listed .ensures in
+    record {
+      tones = limited-tables (pre .0) (pre .1) (sums .0) (filled .0);
+      confined = record { counts-rest = sums .1; table-rest = filled .1 };
+    }
 
 fill-limited-requires : tie.Need-fill-limited-requires
 fill-limited-requires c κs = search needs
@@ -31,8 +36,12 @@ returns-2 : tie.Need-returns-2
 returns-2 c =
     let clipped = c .before .before .before .before in
     let pre = clipped .before .before .before .before .pre in
-    let filled = filled-all (pre .0) (c .fill-limited .ensures) in
-    limited-tables (pre .0) (pre .1) (clipped .sum-clipped .ensures) filled
+    let sums = clipped .sum-clipped .ensures in
+    let filled = c .fill-limited .ensures in
+    record {
+      tones = limited-tables (pre .0) (pre .1) (sums .0) (filled-all (pre .0) filled);
+      confined = record { counts-rest = sums .1; table-rest = refilled-outside filled };
+    }
 
 pub limited-tones-spec : {M : Type 1} → statement M
 limited-tones-spec =

@@ -1,4 +1,5 @@
 -- `tones::plain_table` meets its contract: the sums of the counts give the tones. Assumes nothing.
+use Rattle.tones.proofs.Stores.{refilled-outside}
 use Rattle.tones.proofs.Histograms.{sums-of, plain-tabled}
 use borrow.Author.Needs.{needs}
 use native.Mathlib.Omega.{arith}
@@ -15,7 +16,10 @@ fill-plain-requires c κs =
 returns : tie.Need-returns
 returns c =
     let counted = c .before .before .before .before .before .pre in
-    plain-tabled counted (c .before .before .before .sum-up .ensures) (c .fill-plain .ensures)
+    let summed = c .before .before .before .sum-up .ensures in (
+      plain-tabled counted summed (c .fill-plain .ensures),
+      record { counts-rest = refilled-outside summed; table-rest = refilled-outside (c .fill-plain .ensures) },
+    )
 
 pub plain-table-spec : {M : Type 1} → statement M
 plain-table-spec = tie.close (tie.spec sum-up-requires fill-plain-requires returns)

@@ -1,8 +1,10 @@
 -- `tones::plain_tones` meets its contract: the test says whether the rule keeps the values, and the table has the
 -- values or their tones. Assumes nothing.
 use Rattle.tones.specs.Tones.{tone}
+use Rattle.tones.proofs.Stores.{outside-none, refilled-outside}
 use Rattle.tones.proofs.Histograms.{ruled-kept, ruled-toned}
 use borrow.Author.Needs.{needs}
+use native.Mathlib.Omega.{arith}
 use Rattle.tones.proofs.plain_tones.Statement.{statement}
 use Rattle.tones.proofs.plain_tones.Tie as tie
 
@@ -15,7 +17,11 @@ fill-same-requires c κs = search needs
 returns : tie.Need-returns
 returns c =
     let test = c .before .before in
-    ruled-kept (test .before .plain-keeps .ensures) (test .if1 .taken) (c .fill-same .ensures)
+    let same = c .fill-same .ensures in (
+      ruled-kept (test .before .plain-keeps .ensures) (test .if1 .taken)
+          (λ v av vb. same .new v (omega arith) (omega arith)),
+      record { counts-rest = outside-none _; table-rest = refilled-outside same },
+    )
 
 plain-table-requires : tie.Need-plain-table-requires
 plain-table-requires c κs = search needs
@@ -24,7 +30,8 @@ returns-2 : tie.Need-returns-2
 unfolding tone
 returns-2 c =
     let test = c .before .before .before in
-    ruled-toned (test .before .plain-keeps .ensures) (test .if1 .left) (c .plain-table .ensures)
+    let tabled = c .plain-table .ensures in
+    (ruled-toned (test .before .plain-keeps .ensures) (test .if1 .left) (tabled .0), tabled .1)
 
 pub plain-tones-spec : {M : Type 1} → statement M
 plain-tones-spec =

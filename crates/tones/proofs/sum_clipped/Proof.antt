@@ -1,6 +1,7 @@
 -- `tones::sum_clipped` meets its contract: the sums of the clipped counts are those of the definition. Assumes nothing.
 use mathlib.Core.Path.{_∙_}
 use native.Mathlib.Nat.{mul-le-mul-left}
+use Rattle.tones.proofs.Stores.{outside-both, refilled-outside}
 use Rattle.tones.proofs.Histograms.{clips-le, clipped-of}
 use borrow.Author.Needs.{needs}
 use native.Mathlib.Omega.{arith}
@@ -24,8 +25,10 @@ returns : tie.Need-returns
 returns c =
     let start = c .before .before .before .before .before in
     let most = c .before .before .before .before .clip-of .ensures in
-    let clip = c .before .before .clip .ensures in
-    clipped-of (start .args .k) (start .args .m) (start .pre) most clip (c .sum-up .ensures)
+    let clip = c .before .before .clip .ensures in (
+      clipped-of (start .args .k) (start .args .m) (start .pre) most clip (c .sum-up .ensures),
+      outside-both (refilled-outside clip) (refilled-outside (c .sum-up .ensures)),
+    )
 
 pub sum-clipped-spec : {M : Type 1} → statement M
 sum-clipped-spec = tie.close (tie.spec clip-of-requires clip-requires sum-up-requires returns)

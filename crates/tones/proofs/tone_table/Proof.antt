@@ -1,4 +1,5 @@
 -- `tones::tone_table` meets its contract, by that of each rule. Assumes nothing.
+use Rattle.tones.proofs.Stores.{outside-both}
 use Rattle.tones.proofs.Histograms.{counted-of, tables-of}
 use borrow.Author.Needs.{needs}
 use Rattle.tones.proofs.tone_table.Statement.{statement}
@@ -17,7 +18,7 @@ enum-known-rule c = search needs
 plain-tones-requires : tie.Need-plain-tones-requires
 plain-tones-requires c κs =
     let counted = c .before .before .before .before .before in
-    counted-of (start counted .pre) (counted .histogram .ensures)
+    counted-of (start counted .pre) (counted .histogram .ensures .0)
 
 enum-known-rule-2 : tie.Need-enum-known-rule-2
 enum-known-rule-2 c = search needs
@@ -29,12 +30,28 @@ returns : tie.Need-returns
 returns c =
     let rule = c .before .before .before .before .rule .given .1 in
     let counted = c .before .before .before .before .before .before in
-    λ vs s. rw rule (tables-of (start counted .pre) (counted .histogram .ensures) (c .plain-tones .ensures) vs s)
+    let tally = counted .histogram .ensures in
+    let ruled = c .plain-tones .ensures in
+    record {
+      tones = λ vs s. rw rule (tables-of (start counted .pre) (tally .0) (ruled .0) vs s);
+      confined = record {
+        counts-rest = outside-both (tally .1) (ruled .1 .counts-rest);
+        table-rest = ruled .1 .table-rest;
+      };
+    }
 
 returns-2 : tie.Need-returns-2
 returns-2 c =
     let rule = c .before .before .before .before .rule2 .given .1 in
-    λ vs s. rw rule (c .limited-tones .ensures vs s)
+    let counted = c .before .before .before .before .before .before in
+    let limited = c .limited-tones .ensures in
+    record {
+      tones = λ vs s. rw rule (limited .tones vs s);
+      confined = record {
+        counts-rest = outside-both (counted .histogram .ensures .1) (limited .confined .counts-rest);
+        table-rest = limited .confined .table-rest;
+      };
+    }
 
 pub tone-table-spec : {M : Type 1} → statement M
 tone-table-spec =

@@ -30,12 +30,6 @@ pub fn cases() -> Vec<Case> {
         let case = random_enhance(&mut random, 16, 16);
         cases.push(Case { last_level: 7, area: random.one_of(&[1, 5, 20]), ..case });
     }
-    // The house setting on pictures that it changes.
-    for _ in 0..4 {
-        let base = random.byte() / 2;
-        let greys: Vec<u8> = (0..144).map(|p| base + (3 * (p % 12 + p / 12) + random.below(6)) as u8).collect();
-        cases.push(enhance_grey(&greys, 12, 7, 20, 0, [80, 300]));
-    }
     let mut tests = size_tests();
     tests.extend([lengths_test(), memory_test(), output_test()]);
     tests.push((9, vec![|case| case.last_level = 8, |case| case.last_level = 255]));

@@ -17,6 +17,7 @@ mod chain;
 mod chance;
 mod enhance;
 mod faults;
+mod house;
 mod intensity;
 mod list;
 mod pass;
@@ -33,12 +34,13 @@ use std::path::Path;
 use std::{env, fs, process};
 
 /// What makes the cases of each call. A chain mixes calls.
-const CALLS: [fn() -> Vec<Case>; 9] = [
+const CALLS: [fn() -> Vec<Case>; 10] = [
     intensity::cases,
     pass::cases,
     chain::cases,
     recolour::cases,
     enhance::cases,
+    house::cases,
     list::cases,
     passes::cases,
     read::cases,

@@ -10,12 +10,12 @@ pub const FREE: [u16; 2] = [0, 25_500];
 pub fn sound(kind: Kind, w: usize, h: usize, bytes: Vec<u8>, plane: Vec<u8>) -> Case {
     let n = w * h;
     let output = match kind {
-        Kind::Recolour | Kind::Enhance => 3 * n,
+        Kind::Recolour | Kind::Enhance | Kind::House => 3 * n,
         Kind::Write => header(w, h).len() + 3 * n,
         _ => 0,
     };
     let memory = match kind {
-        Kind::Pass | Kind::Enhance | Kind::List | Kind::Passes => n,
+        Kind::Pass | Kind::Enhance | Kind::House | Kind::List | Kind::Passes => n,
         _ => 0,
     };
     Case {
@@ -49,4 +49,10 @@ pub fn enhance_grey(greys: &[u8], w: usize, last_level: u8, area: u32, rule: u8,
     let frame = greys.iter().flat_map(|&v| [v, v, v]).collect();
     let plane = greys.iter().map(|&v| v ^ 0x5A).collect();
     Case { last_level, area, rule, numbers, ..sound(Kind::Enhance, w, greys.len() / w, frame, plane) }
+}
+
+/// The same enhancement with the house setting. The settings of the head are not its own, and every one of them would be
+/// refused.
+pub fn house_grey(greys: &[u8], w: usize) -> Case {
+    Case { kind: Kind::House, ..enhance_grey(greys, w, 8, 0, 0, [81, 80]) }
 }
