@@ -3,8 +3,6 @@
 use Prim.Native.Nat.{_*_, _≤_}
 use native.Mathlib.Nat.{mul-le-mul}
 use borrow.Author.Needs.{needs}
-use lib.ListN.{length}
-use Rattle.planes.specs.Neighbours.{four}
 use Rattle.components.proofs.Whole.{plane-region, plane-flooded}
 use Rattle.passes.proofs.Passing.{treatable, pass-begin, component, alike, listed, one-component}
 use Rattle.passes.proofs.treat_plane.Statement.{statement}

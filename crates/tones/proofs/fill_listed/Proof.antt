@@ -2,7 +2,6 @@
 -- tones, and no entry outside [a, b] changes. The measure is what is left of m. Assumes nothing.
 use Prim.Native.Nat.{ℕ, _-_, _≤_}
 use mathlib.Core.Path.{_≡_}
-use lib.ListN.{length}
 use Rattle.planes.specs.Lists.{at}
 use Rattle.tones.specs.Histograms.{Outside, Filled, limitedBy}
 use Rattle.tones.proofs.Stores.{filled-none, filled-more, outside-none, outside-more}
