@@ -110,7 +110,7 @@ fn the_refusals_of_the_header_are_those_of_the_crate() {
             digits.parse().expect("a number")
         })
         .collect();
-    assert_eq!(numbers, Refusal::ALL.map(Refusal::number));
+    assert_eq!(numbers, Refusal::ALL.iter().map(|refusal| refusal.number()).collect::<Vec<_>>());
 }
 
 /// The number that stands after each of the four names of the house setting's numbers and `between`.
@@ -135,6 +135,6 @@ fn the_house_settings_agree() {
     let [last, area, low, high] = library;
     let number = |number: u32| u16::try_from(number).expect("16 bits");
     let rule = Rule::Plain { low: number(low), high: number(high) };
-    assert_eq!(Settings::HOUSE, Settings { last: last as u8, area, rule });
+    assert_eq!(Settings::house(), Settings::new(last as u8, area, rule));
     assert_eq!(Settings::default(), Settings::HOUSE);
 }
