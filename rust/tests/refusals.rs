@@ -1,6 +1,9 @@
 //! What is turned down, through the safe types and through the C functions.
 
 use mlhe::{ffi, lent, Frame, Memory, Pass, PassList, Plane, Refusal, Rule, Settings};
+use mlhe::{
+    GREATEST_CLIP, GREATEST_HEADER, GREATEST_HIGH, GREATEST_LEVEL, GREATEST_PASSES, GREATEST_PIXELS, GREATEST_SIDE,
+};
 use std::ptr::{null, null_mut};
 
 const PLAIN: Rule = Rule::Plain { low: 0, high: 25_500 };
@@ -43,6 +46,35 @@ fn numbers_are_refused_and_nothing_changes() {
     let frame = Frame::new(1, 1, vec![1, 2, 3]).unwrap();
     let settings = Settings::house().with_last(8);
     assert_eq!(frame.enhanced(&settings, &mut memory), Err(Refusal::Level));
+}
+
+/// The constants are the library's own: each is accepted, and the next number is refused.
+#[test]
+fn the_sizes_are_those_of_the_library() {
+    let row = |w: usize| Frame::new(w, 1, vec![0; 3 * w]).map(|frame| frame.width());
+    assert_eq!(row(GREATEST_SIDE), Ok(GREATEST_SIDE));
+    assert_eq!(row(GREATEST_SIDE + 1), Err(Refusal::Sides));
+    let plane = |w: usize, h: usize| Plane::new(w, h, vec![0; w * h]).map(|plane| plane.values().len());
+    assert_eq!(plane(GREATEST_SIDE, GREATEST_PIXELS / GREATEST_SIDE), Ok(GREATEST_PIXELS));
+    assert_eq!(plane(1_025, 1_024), Err(Refusal::Pixels));
+    let longest = Frame::new(GREATEST_SIDE / 4, GREATEST_SIDE / 4, vec![0; 3 * GREATEST_PIXELS]).unwrap();
+    assert_eq!(longest.to_p6().len(), GREATEST_HEADER + 3 * GREATEST_PIXELS);
+
+    let list = |passes: usize| PassList::new(&vec![WHOLE; passes]).map(|list| list.bytes().len());
+    assert_eq!(list(GREATEST_PASSES), Ok(7 + 12 * GREATEST_PASSES));
+    assert_eq!(list(GREATEST_PASSES + 1), Err(Refusal::ListLength));
+    let frame = Frame::new(1, 1, vec![1, 2, 3]).unwrap();
+    let enhanced = |settings: Settings| frame.enhanced(&settings, &mut Memory::new()).map(|enhanced| enhanced.retoned);
+    let house = Settings::house();
+    assert_eq!(enhanced(house.with_last(GREATEST_LEVEL)), Ok(0));
+    assert_eq!(enhanced(house.with_last(GREATEST_LEVEL + 1)), Err(Refusal::Level));
+    let area = u32::try_from(GREATEST_PIXELS).unwrap();
+    assert_eq!(enhanced(house.with_area(area)), Ok(0));
+    assert_eq!(enhanced(house.with_area(area + 1)), Err(Refusal::Area));
+    let plain = |high| enhanced(house.with_rule(Rule::Plain { low: 0, high }));
+    assert_eq!((plain(GREATEST_HIGH), plain(GREATEST_HIGH + 1)), (Ok(0), Err(Refusal::Limits)));
+    let limited = |k| enhanced(house.with_area(2).with_rule(Rule::Limited { k })).map(|_| ());
+    assert_eq!((limited(GREATEST_CLIP), limited(GREATEST_CLIP + 1)), (Ok(()), Err(Refusal::Clip)));
 }
 
 #[test]
