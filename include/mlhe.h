@@ -2,9 +2,9 @@
  * Morpho-local histogram equalisation (MLHE) of frames: the library's C functions.
  *
  * The library is libmlhe.a, for x86-64 Linux: what `rt staticlib capi` writes to target/staticlib/libcapi.a, under the
- * name to link it by. `make -C examples/c install PREFIX=folder` puts both into folder/include and folder/lib; a program
- * is then built with -Ifolder/include -Lfolder/lib -lmlhe, and needs nothing else. Every function is proved to meet the
- * contract that crates/capi states, and this page says the same in words.
+ * name to link it by. `make -C examples/c install PREFIX=/folder` puts header and library into /folder/include and
+ * /folder/lib; a program is then built with -I/folder/include -L/folder/lib -lmlhe, and needs nothing else. Every
+ * function is proved to meet the contract that crates/capi states, and this page says the same in words.
  *
  * What is guaranteed. Through any chain of passes on a plane that mlhe_intensity filled, and in the plane that
  * mlhe_enhance leaves, equal four-neighbours stay equal, unequal ones are never reversed, and each regional maximum or
