@@ -36,6 +36,19 @@ with the numbers above"
     fail "docs/EVIDENCE.md and its pictures are made from tools/evidence, not by hand. Next: \
 cargo run --release -p mlhe_evidence, and read the difference"
 
+# From a project elsewhere the crate is used by its path, and nothing is written here.
+user=$(mktemp -d)
+trap 'rm -rf "$user"' EXIT
+mkdir "$user/src"
+printf '[package]\nname = "user"\nversion = "0.0.0"\nedition = "2021"\n[dependencies]\nmlhe = { path = "%s/rust" }\n' \
+    "$PWD" > "$user/Cargo.toml"
+echo 'fn main() { println!("{}", mlhe::Frame::from_p6(b"P6 1 1 255 abc").unwrap().width()) }' > "$user/src/main.rs"
+touch "$out/before"
+(cd "$user" && CARGO_TARGET_DIR=$user/target cargo --quiet --offline run) | grep -qx 1 ||
+    fail "a project that uses the crate does not build and run"
+[ -z "$(find rust target/staticlib -newer "$out/before")" ] || fail "the crate writes outside cargo's build folder: \
+$(find rust target/staticlib -newer "$out/before")"
+
 # Both examples, as their documentation says: frames of the corpus with the house setting and with a list, the same
 # bytes from both; and what is wrong with a file is said, with a status that is not 0.
 make --quiet -C examples/c MLHE_LIBRARY="$MLHE_LIBRARY"
@@ -73,16 +86,4 @@ refused "$short" 12 "$c" "$short" "$out/c.ppm"
 refused "$short" 12 "$rust" --to "$out/house" "${frames[0]}" "$short"
 refused "$short" 15 "$c" "$short" "${frames[0]}" "$out/c.ppm"
 refused "$short" 15 "$rust" --list "$short" --to "$out/house" "${frames[0]}"
-# From a project elsewhere the crate is used by its path, and nothing is written here.
-user=$(mktemp -d)
-trap 'rm -rf "$user"' EXIT
-mkdir "$user/src"
-printf '[package]\nname = "user"\nversion = "0.0.0"\nedition = "2021"\n[dependencies]\nmlhe = { path = "%s/rust" }\n' \
-    "$PWD" > "$user/Cargo.toml"
-echo 'fn main() { println!("{}", mlhe::Frame::from_p6(b"P6 1 1 255 abc").unwrap().width()) }' > "$user/src/main.rs"
-touch "$out/before"
-(cd "$user" && CARGO_TARGET_DIR=$user/target cargo --quiet --offline run) | grep -qx 1 ||
-    fail "a project that uses the crate does not build and run"
-[ -z "$(find rust target/staticlib -newer "$out/before")" ] || fail "the crate writes outside cargo's build folder: \
-$(find rust target/staticlib -newer "$out/before")"
 echo "rust: tests, differential test, examples and evidence are in order"
