@@ -46,8 +46,8 @@ echo 'fn main() { println!("{}", mlhe::Frame::from_p6(b"P6 1 1 255 abc").unwrap(
 touch "$out/before"
 (cd "$user" && CARGO_TARGET_DIR=$user/target cargo --quiet --offline run) | grep -qx 1 ||
     fail "a project that uses the crate does not build and run"
-[ -z "$(find rust target/staticlib -newer "$out/before")" ] || fail "the crate writes outside cargo's build folder: \
-$(find rust target/staticlib -newer "$out/before")"
+written=$(find rust target/staticlib -newer "$out/before" 2> /dev/null) || true
+[ -z "$written" ] || fail "the crate writes outside cargo's build folder: $written"
 
 # Both examples, as their documentation says: frames of the corpus with the house setting and with a list, the same
 # bytes from both; and what is wrong with a file is said, with a status that is not 0.
