@@ -194,42 +194,65 @@ class OnACluster(Folder):
         tool = os.environ.get("ZOPYKUE")
         if tool:
             out = self.folder / "tool"
-            subprocess.run([tool, "enhance", self.source, "--to", out], stdin=subprocess.DEVNULL, timeout=SECONDS)
-            self.assertEqual(files(out), whole)
+            subprocess.run([tool, "enhance", "--to", out, self.source], stdin=subprocess.DEVNULL, timeout=SECONDS)
+            self.assertEqual(files(out / self.source.name), whole)
+
+    def strange_folder(self):
+        """Files that are taken, by their names without ending, and others beside them."""
+        names = {"left/f1": ".ppm", "right/f1": ".ppm", "a name": ".PNM", "linked": ".ppm", "\udcff": ".ppm"}
+        for seed, (name, suffix) in enumerate(names.items()):
+            self.frame(name + suffix, 40 + seed, 30, seed)
+        (self.source / "linked.ppm").unlink()
+        (self.source / "linked.ppm").symlink_to("left/f1.ppm")
+        (self.source / "link.ppm").symlink_to("nothing.ppm")
+        (self.source / "folder").symlink_to("left")
+        os.mkfifo(self.source / "pipe.ppm")
+        (self.source / "long.ppm").write_bytes(b"P6 1024" + b" " * 2**21 + b"1024 255\n" + bytes(3 * 2**20))
+        (self.source / "notes.txt").write_text("no frame")
+        self.frame(".hidden.ppm", 4, 4, 1)
+        self.frame(".hidden/f1.ppm", 4, 4, 1)
+        return names
 
     def test_planes_and_what_fails(self):
-        for seed, name in enumerate(["left/f1.ppm", "right/f1.ppm", "a name.PNM", "blocked.ppm"]):
-            self.frame(name, 40 + seed, 30, seed)
-        strange = os.path.join(os.fsencode(self.source), b"\xff.ppm")
-        with open(strange, "wb") as file:
-            file.write(mlhe.write(picture(9, 8, 7)))
-        os.symlink("nothing.ppm", self.source / "link.ppm")
-        os.symlink("left/f1.ppm", self.source / "linked.ppm")
-        os.mkfifo(self.source / "pipe.ppm")
-        (self.source / "notes.txt").write_text("no frame")
-        (self.out / "blocked.ppm").mkdir(parents=True)
-
+        names = self.strange_folder()
         status, output, errors, all_said = self.said(
             enhance_folder(self.cluster.address, self.source, self.out, "--plane"))
         self.assertEqual((status, output[-1]), (1, "5 enhanced, 0 refused, 3 failed"), all_said)
-        for name in "link.ppm", "pipe.ppm", "blocked.ppm":
+        for name in "link.ppm", "pipe.ppm", "long.ppm":
             self.assertTrue(any(line.startswith(f"{name}: failed: ") for line in errors), all_said)
-        written = files(self.out)
-        names = ["left/f1", "right/f1", "a name", "linked", "\udcff"]
-        self.assertEqual({name for name in written if name != "blocked.plane.pgm"},
-                         {f"{name}{'.PNM' if name == 'a name' else '.ppm'}" for name in names} |
-                         {f"{name}.plane.pgm" for name in names})
-        for name in names:
-            suffix = ".PNM" if name == "a name" else ".ppm"
-            enhanced = mlhe.enhance(mlhe.read((self.source / f"{name}{suffix}").read_bytes()))
-            self.assertEqual(written[name + suffix], mlhe.write(enhanced.frame))
+        written = {}
+        for name, suffix in names.items():
+            enhanced = mlhe.enhance(mlhe.read((self.source / (name + suffix)).read_bytes()))
             h, w = enhanced.plane.shape
-            self.assertEqual(written[f"{name}.plane.pgm"], b"P5\n%d %d\n255\n" % (w, h) + enhanced.plane.tobytes())
+            written[name + suffix] = mlhe.write(enhanced.frame)
+            written[name + ".pgm"] = b"P5\n%d %d\n255\n" % (w, h) + enhanced.plane.tobytes()
+        self.assertEqual(files(self.out), written)
 
-        # All enhanced.
+        # All enhanced, and a target of the earlier run is written again.
         status, output, _, all_said = self.said(
-            enhance_folder(self.cluster.address, self.source / "left", self.folder / "again"))
+            enhance_folder(self.cluster.address, self.source / "left", self.out / "left"))
         self.assertEqual((status, output[-1]), (0, "1 enhanced, 0 refused, 0 failed"), all_said)
+        self.assertEqual(files(self.out), written)
+
+
+    def test_an_interrupt(self):
+        for seed in range(12):
+            self.frame(f"f{seed}.ppm", 1_024, 1_024, seed)
+        results = expected(self.source)
+        script = enhance_folder(self.cluster.address, self.source, self.out)
+        until(lambda: (self.out / "f0.ppm").exists() or script.poll() is not None, "the first file")
+        script.send_signal(signal.SIGINT)
+        status, _, errors, all_said = self.said(script)
+        self.assertEqual(status, 1, all_said)
+        self.assertIn("enhance_folder: interrupted", errors, all_said)
+        written = files(self.out)
+        self.assertTrue(0 < len(written) < len(results), all_said)
+        self.assertEqual(written, {name: results[name] for name in written})
+        self.assertEqual(list(self.out.glob(".*")), [])
+        # The next run does all of it.
+        status, output, _, all_said = self.said(enhance_folder(self.cluster.address, self.source, self.out))
+        self.assertEqual((status, output[-1]), (0, "12 enhanced, 0 refused, 0 failed"), all_said)
+        self.assertEqual(files(self.out), results)
 
 
 class Usage(Folder):
@@ -260,6 +283,8 @@ class Usage(Folder):
         (self.out / "b").mkdir()
         (self.out / "a").symlink_to("b")
         self.wrong("both would be written to", nobody, self.source, self.out)
+        (self.folder / "folder/a/f.ppm").mkdir(parents=True)
+        self.wrong("it is there and no file", nobody, self.source, self.folder / "folder")
         (self.source / "a/f.pnm").write_bytes(b"")
         self.wrong("both would be written to", nobody, self.source, self.folder / "planes", "--plane")
         (self.folder / "file").write_bytes(b"")
