@@ -1,10 +1,12 @@
 """Tests of mlhe.py: the examples of the requirements, A to Q; refusals; what happens to arrays; the stored cases of the
-second implementation, where arrays can say them; and that mlhe.py and include/mlhe.h agree.
+second implementation, where arrays can say them; that mlhe.py and include/mlhe.h agree; and the lines of README.md.
 
     /usr/bin/python3 test_mlhe.py
 """
 
 import ctypes
+import doctest
+import os
 import pickle
 import re
 import struct
@@ -383,6 +385,16 @@ class Header(unittest.TestCase):
                               Plain(numbers["MLHE_HOUSE_LOW"], numbers["MLHE_HOUSE_HIGH"]))
         self.assertEqual(mlhe.HOUSE, house)
         self.assertRegex(self.header, "MLHE_HOUSE_RULE = MLHE_PLAIN")
+
+
+class Readme(unittest.TestCase):
+    def test_lines(self):
+        here = os.getcwd()
+        os.chdir(Path(__file__).resolve().parent)
+        self.addCleanup(os.chdir, here)
+        failed, tried = doctest.testfile("README.md")
+        self.assertEqual(failed, 0)
+        self.assertGreater(tried, 10)
 
 
 if __name__ == "__main__":
