@@ -184,21 +184,20 @@ def submit(client, name, source, targets, staging):
                          os.fsencode(staging), pure=False, retries=ATTEMPTS - 1)
 
 
-def run(client, names, source, out, plane):
+def run(client, names, source, out, plane, staging):
     """Enhances the files and answers the exit status."""
     from distributed import as_completed
 
     report, tasks = Report(), {}
     if not client.scheduler_info()["workers"]:
         print("enhance_folder: no worker is there yet, waiting for one", file=sys.stderr)
-    with staging_folder(out) as staging:
-        for name in names:
-            if os.path.isfile(os.path.join(source, name)):
-                tasks[submit(client, name, source, targets_of(name, out, plane), staging)] = name
-            else:
-                report.add(name, "failed", "failed: it is no file, or a link to nothing")
-        for task in as_completed(list(tasks)):
-            report.add(tasks.pop(task), *outcome_of(task))
+    for name in names:
+        if os.path.isfile(os.path.join(source, name)):
+            tasks[submit(client, name, source, targets_of(name, out, plane), staging)] = name
+        else:
+            report.add(name, "failed", "failed: it is no file, or a link to nothing")
+    for task in as_completed(list(tasks)):
+        report.add(tasks.pop(task), *outcome_of(task))
     return report.end()
 
 
@@ -209,13 +208,14 @@ def main():
     from distributed import Client
 
     try:
-        names, source, out = checked(given.source, given.out, given.plane)
-        client = Client(given.scheduler)
-    except (ValueError, OSError) as error:
-        parser.error(str(error))
-    try:
-        with client:
-            return run(client, names, source, out, given.plane)
+        with contextlib.ExitStack() as held:
+            try:
+                names, source, out = checked(given.source, given.out, given.plane)
+                client = held.enter_context(Client(given.scheduler))
+                staging = held.enter_context(staging_folder(out))
+            except (ValueError, OSError) as error:
+                parser.error(str(error))
+            return run(client, names, source, out, given.plane, staging)
     except KeyboardInterrupt:
         print("enhance_folder: interrupted", file=sys.stderr)
     except BrokenPipeError:

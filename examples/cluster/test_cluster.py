@@ -145,6 +145,8 @@ class OnACluster(Folder):
         self.client = Client(self.cluster.address, timeout="30s")
         self.addCleanup(self.client.close)
         self.client.wait_for_workers(2, timeout=SECONDS)
+        for address in self.cluster.address, *self.client.scheduler_info()["workers"]:
+            self.assertRegex(address, r"^tcp://127\.0\.0\.1:")
 
     def said(self, script):
         """What a script says that has ended, with what the cluster says should anything fail."""
@@ -187,15 +189,17 @@ class OnACluster(Folder):
             self.assertIn(f"{name}: {refusal}", errors)
         for name in whole:
             self.assertTrue(any(line.startswith(f"{name}: enhanced, ") for line in output), name)
-        self.compare_with_the_tool(whole)
+        self.compare_with_the_tool(whole, output[-1])
 
-    def compare_with_the_tool(self, whole):
+    def compare_with_the_tool(self, whole, last_line):
         """The tool writes the same files, where there is one."""
         tool = os.environ.get("ZOPYKUE")
         if tool:
             out = self.folder / "tool"
-            subprocess.run([tool, "enhance", "--to", out, self.source], stdin=subprocess.DEVNULL, timeout=SECONDS)
-            self.assertEqual(files(out / self.source.name), whole)
+            said = subprocess.run([tool, "enhance", "--to", out, self.source], text=True, stdin=subprocess.DEVNULL,
+                                  capture_output=True, timeout=SECONDS)
+            self.assertEqual(files(out / self.source.name), whole, said.stderr)
+            self.assertEqual(said.stdout.splitlines()[-1], last_line)
 
     def strange_folder(self):
         """Files that are taken, by their names without ending, and others beside them."""
