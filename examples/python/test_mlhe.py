@@ -1,0 +1,401 @@
+"""Tests of mlhe.py: the examples of the requirements, A to Q; refusals; what happens to arrays; the stored cases of the
+second implementation, where arrays can say them; that mlhe.py and include/mlhe.h agree; and the lines of README.md.
+
+    /usr/bin/python3 test_mlhe.py
+"""
+
+import ctypes
+import doctest
+import os
+import pickle
+import re
+import struct
+import threading
+import unittest
+from pathlib import Path
+
+import numpy
+
+import mlhe
+from mlhe import Limited, Pass, Plain, Refused
+
+REPOSITORY = Path(__file__).resolve().parents[2]
+ANY = Plain(0, 25_500)
+
+
+def row(*values):
+    return numpy.array([values], numpy.uint8)
+
+
+def grey(*values):
+    return numpy.repeat(row(*values)[:, :, None], 3, axis=2)
+
+
+def colour(*channels):
+    return numpy.array([[channels]], numpy.uint8)
+
+
+class Examples(unittest.TestCase):
+    """The examples to hold it against, by their letters."""
+
+    def after_pass(self, plane, a, b, expected, count, area=1, rule=ANY):
+        before = plane.copy()
+        retoned = mlhe.run_pass(plane, Pass(a, b, area, rule))
+        numpy.testing.assert_array_equal(retoned.plane, expected)
+        self.assertEqual(retoned.count, count)
+        numpy.testing.assert_array_equal(plane, before)
+
+    def test_a_to_d(self):
+        self.after_pass(row(10, 10, 20, 30), 0, 255, row(128, 128, 191, 255), 1)
+        self.after_pass(row(10, 10, 20, 30), 0, 255, row(10, 10, 20, 30), 0, rule=Plain(0, 300))
+        self.after_pass(row(0, 1), 0, 1, row(1, 1), 1)
+        self.after_pass(row(0, 1), 0, 1, row(0, 1), 0, rule=Plain(80, 25_500))
+
+    def test_e_and_f(self):
+        self.after_pass(row(10, 20, 200, 10, 10), 0, 127, row(64, 127, 200, 10, 10), 1)
+        self.after_pass(row(10, 20, 200, 10, 10), 0, 127, row(10, 20, 200, 10, 10), 0, area=3)
+
+    def test_g_to_i(self):
+        self.after_pass(row(10, 10, 20, 30), 0, 255, row(13, 13, 25, 38), 1, rule=Limited(10))
+        self.after_pass(row(10, 10, 20, 30), 0, 255, row(128, 128, 191, 255), 1, rule=Limited(1_000))
+        self.after_pass(row(10, 10, 20, 30), 0, 255, row(11, 11, 21, 31), 1, rule=Limited(0))
+
+    def test_j(self):
+        plane = numpy.array([[10, 200], [200, 20]], numpy.uint8)
+        self.after_pass(plane, 0, 127, plane, 0)
+
+    def test_k_to_m(self):
+        for last, area, new, count in (0, 20, (128, 255), 1), (1, 1, (192, 255), 2), (7, 1, (255, 255), 8):
+            frame = grey(10, 20)
+            enhanced = mlhe.enhance(frame, last=last, area=area, rule=ANY)
+            numpy.testing.assert_array_equal(enhanced.plane, row(*new))
+            numpy.testing.assert_array_equal(enhanced.frame, grey(*new))
+            self.assertEqual(enhanced.count, count)
+            numpy.testing.assert_array_equal(frame, grey(10, 20))
+
+    def test_n_and_o(self):
+        for new, expected in (120, (240, 120, 0)), (150, (255, 128, 0)):
+            numpy.testing.assert_array_equal(mlhe.recolour(colour(200, 100, 0), row(new)), colour(*expected))
+        self.assertEqual(mlhe.intensity(colour(0, 0, 1)), 0)
+        numpy.testing.assert_array_equal(mlhe.recolour(colour(0, 0, 1), row(77)), colour(0, 0, 0))
+
+    def test_p(self):
+        data = b"P6\n2 1\n255\n" + bytes([10, 10, 10, 20, 20, 20])
+        self.assertEqual(len(data), 17)
+        self.assertEqual(mlhe.write(mlhe.enhance(mlhe.read(data)).frame), data)
+
+    def test_q(self):
+        data = bytes.fromhex("4D4C5001000100007F000001000000 0000 9C63")
+        self.assertEqual(mlhe.pass_list([Pass(0, 127, 1, ANY)]), data)
+        for given in data, bytearray(data), memoryview(data):
+            retoned = mlhe.run_list(row(10, 20, 200, 10, 10), given)
+            numpy.testing.assert_array_equal(retoned.plane, row(64, 127, 200, 10, 10))
+            self.assertEqual(retoned.count, 1)
+
+
+class Refusals(unittest.TestCase):
+    def refused(self, number, call, *arguments, **names):
+        with self.assertRaises(Refused) as caught:
+            call(*arguments, **names)
+        self.assertEqual(caught.exception.number, number)
+        self.assertEqual(caught.exception.reason, mlhe.REASONS[number])
+        self.assertEqual(str(caught.exception), f"refused {number}: {mlhe.REASONS[number]}")
+
+    def test_sides_and_pixels(self):
+        for w, h, number in (0, 1, 1), (1, 0, 1), (4_097, 1, 1), (1, 4_097, 1), (4_096, 257, 2):
+            frame, plane = numpy.zeros((h, w, 3), numpy.uint8), numpy.zeros((h, w), numpy.uint8)
+            self.refused(number, mlhe.intensity, frame)
+            self.refused(number, mlhe.recolour, frame, plane)
+            self.refused(number, mlhe.enhance, frame)
+            self.refused(number, mlhe.write, frame)
+            self.refused(number, mlhe.run_pass, plane, Pass(0, 255, 1, ANY))
+            self.refused(number, mlhe.run_list, plane, mlhe.pass_list([]))
+        # A frame of 3 TB, none of which is there: it is refused before it is copied.
+        self.refused(1, mlhe.enhance, numpy.broadcast_to(numpy.uint8(0), (10**6, 10**6, 3)))
+        self.assertEqual(mlhe.intensity(numpy.zeros((256, 4_096, 3), numpy.uint8)).shape, (256, 4_096))
+
+    def test_a_plane_of_other_sides(self):
+        frame = numpy.zeros((2, 3, 3), numpy.uint8)
+        self.refused(3, mlhe.recolour, frame, numpy.zeros((3, 2), numpy.uint8))
+        self.refused(3, mlhe.recolour, frame, numpy.zeros((2, 2), numpy.uint8))
+
+    def test_numbers_of_passes(self):
+        plane = row(1, 2)
+        cases = [(5, Pass(9, 8, 1, ANY)), (6, Pass(0, 255, 0, ANY)), (6, Pass(0, 255, 1_048_577, ANY)),
+                 (6, Pass(0, 255, 2**32 + 1, ANY)), (7, Pass(0, 255, 1, Plain(81, 80))),
+                 (7, Pass(0, 255, 1, Plain(0, 25_501))), (7, Pass(0, 255, 1, Plain(0, 2**16))),
+                 (7, Pass(0, 255, 1, Plain(2**16, 80))), (8, Pass(0, 255, 1, Limited(1_001))),
+                 (8, Pass(0, 255, 1, Limited(2**16)))]
+        for number, one in cases:
+            self.refused(number, mlhe.run_pass, plane, one)
+            self.refused(number, mlhe.pass_list, [Pass(0, 255, 1, ANY), one])
+
+    def test_settings(self):
+        for number, names in (9, {"last": 8}), (9, {"last": 256}), (6, {"area": 0}), (6, {"area": 2**32 + 1}), \
+                (7, {"rule": Plain(81, 80)}), (8, {"rule": Limited(1_001)}), (9, {"last": 8, "area": 0}):
+            self.refused(number, mlhe.enhance, grey(1, 2), **names)
+
+    def test_lists(self):
+        plane, good = row(1, 2), mlhe.pass_list([Pass(0, 127, 1, ANY)])
+        for number, data in (16, b""), (16, b"MLP"), (15, b"MLQ\1\0\0\0"), (15, b"MLP\2\0\0\0"), (16, good + b"\0"), \
+                (16, b"MLP\1\0\1\4" + good[7:] * 1_025), (17, good[:9] + b"\2" + good[10:]):
+            self.refused(number, mlhe.run_list, plane, data)
+        self.assertEqual(mlhe.run_list(plane, mlhe.pass_list([Pass(0, 127, 1, ANY)] * 1_024)).count, 1_024)
+        for count in 1_025, 2**16 - 1, 2**16:
+            self.refused(16, mlhe.pass_list, [Pass(0, 127, 1, ANY)] * count)
+
+    def test_files(self):
+        for number, data in (10, b""), (10, b"P5 1 1 255"), (1, b"P6 0 1 255\n"), (2, b"P6 4096 257 255\n"), \
+                (11, b"P6 1 1 15 "), (12, b"P6 1 1 255 12"), (13, b"P6 1 1 255 1234"):
+            self.refused(number, mlhe.read, data)
+
+    def test_what_cannot_be_said(self):
+        plane, frame, one = row(1, 2), grey(1, 2), Pass(0, 255, 1, ANY)
+        others = [frame.astype(name) for name in ("int8", "float", "bool", ">u2")]
+        for wrong in *others, frame.tolist(), frame.tobytes(), None:
+            for call in mlhe.intensity, mlhe.enhance, mlhe.write, lambda frame: mlhe.recolour(frame, plane):
+                self.assertRaises(TypeError, call, wrong)
+        for wrong in plane, frame[0], frame[:, :, :2], numpy.zeros((2, 2, 4), numpy.uint8), frame[None]:
+            self.assertRaises(ValueError, mlhe.enhance, wrong)
+        self.assertRaises(TypeError, mlhe.run_pass, plane.astype(numpy.uint16), one)
+        self.assertRaises(ValueError, mlhe.run_pass, frame, one)
+        self.assertRaises(ValueError, mlhe.recolour, frame, frame)
+        for wrong in one._replace(a=256), one._replace(b=-1), one._replace(area=-1), one._replace(rule=Limited(-1)):
+            self.assertRaises(ValueError, mlhe.run_pass, plane, wrong)
+        for wrong in one._replace(a=1.0), one._replace(rule=(0, 1)), (0, 255, 1, ANY), one._replace(area="1"):
+            self.assertRaises(TypeError, mlhe.run_pass, plane, wrong)
+        self.assertRaises(TypeError, mlhe.run_list, plane, 7)
+        self.assertRaises(TypeError, mlhe.read, "P6 1 1 255 123")
+        self.assertRaises(TypeError, mlhe.enhance, frame, 7)
+
+    def test_a_refusal_travels(self):
+        refusal = pickle.loads(pickle.dumps(Refused(12)))
+        self.assertEqual((refusal.number, refusal.reason), (12, "the raster is short"))
+
+
+class Arrays(unittest.TestCase):
+    """Any layout gives the same result, and no result shares memory with what was passed in."""
+
+    def setUp(self):
+        chance = numpy.random.default_rng(1)
+        self.frame = chance.integers(0, 256, (23, 31, 3), numpy.uint8)
+        self.plane = mlhe.intensity(self.frame)
+        self.one = Pass(20, 200, 2, Plain(0, 25_500))
+
+    def calls(self, frame, plane):
+        return [mlhe.intensity(frame), mlhe.recolour(frame, plane), mlhe.run_pass(plane, self.one).plane,
+                mlhe.run_list(plane, mlhe.pass_list([self.one])).plane, mlhe.enhance(frame).frame,
+                mlhe.enhance(frame).plane, numpy.frombuffer(mlhe.write(frame), numpy.uint8)]
+
+    def layouts(self, array):
+        yield numpy.asfortranarray(array)
+        yield array[::-1, ::-1].copy()[::-1, ::-1]
+        wide = numpy.zeros((2 * array.shape[0], 2 * array.shape[1] + 1, *array.shape[2:]), numpy.uint8)
+        wide[::2, 1::2] = array
+        yield wide[::2, 1::2]
+        fixed = array.copy()
+        fixed.flags.writeable = False
+        yield fixed
+
+    def test_layouts(self):
+        expected = self.calls(self.frame, self.plane)
+        for frame, plane in zip(self.layouts(self.frame), self.layouts(self.plane)):
+            before = frame.copy(), plane.copy()
+            for result, same in zip(self.calls(frame, plane), expected):
+                numpy.testing.assert_array_equal(result, same)
+                self.assertFalse(numpy.shares_memory(result, frame) or numpy.shares_memory(result, plane))
+            numpy.testing.assert_array_equal(frame, before[0])
+            numpy.testing.assert_array_equal(plane, before[1])
+
+    def test_results_are_their_own(self):
+        for result in self.calls(self.frame, self.plane)[:-1]:
+            self.assertTrue(result.flags.c_contiguous and result.flags.writeable and result.flags.owndata)
+            self.assertEqual(result.dtype, numpy.uint8)
+        data = bytearray(mlhe.write(self.frame))
+        frame = mlhe.read(data)
+        data[-1] ^= 255
+        numpy.testing.assert_array_equal(frame, self.frame)
+        self.assertTrue(frame.flags.writeable)
+
+    def test_subclasses_and_numpy_numbers(self):
+        class Picture(numpy.ndarray):
+            pass
+
+        retoned = mlhe.run_pass(self.plane.view(Picture), self.one._replace(a=numpy.uint8(20), area=numpy.int64(2)))
+        self.assertIs(type(retoned.plane), numpy.ndarray)
+        numpy.testing.assert_array_equal(retoned.plane, mlhe.run_pass(self.plane, self.one).plane)
+
+    def test_a_wrong_array_does_not_reach_c(self):
+        # The last line of defence, which no public call comes to.
+        for wrong in numpy.zeros((4, 4), numpy.uint8)[:, ::2], numpy.zeros(8, numpy.int8), numpy.zeros(8, numpy.uint16):
+            with self.assertRaises(ctypes.ArgumentError):
+                mlhe._library.mlhe_intensity(bytes(24), 24, 8, 1, wrong, 8)
+        with self.assertRaises(ctypes.ArgumentError):
+            mlhe._library.mlhe_intensity(numpy.zeros(24, numpy.uint8), 24, 8, 1, numpy.zeros(8, numpy.uint8), 8)
+
+    def test_threads(self):
+        expected = mlhe.enhance(self.frame)
+        results = []
+        threads = [threading.Thread(target=lambda: results.append(mlhe.enhance(self.frame))) for _ in range(8)]
+        for thread in threads:
+            thread.start()
+        for thread in threads:
+            thread.join()
+        self.assertEqual(len(results), 8)
+        for result in results:
+            numpy.testing.assert_array_equal(result.frame, expected.frame)
+            numpy.testing.assert_array_equal(result.plane, expected.plane)
+
+
+class Case:
+    """A stored case, as the head of reference/src/cases.rs describes it."""
+
+    KINDS = "intensity", "pass", "recolour", "enhance", "list", "passes", "read", "write", "program", "house"
+    HEAD = struct.Struct("<BBBBHHIBBHHHIIIHH")
+
+    def __init__(self, data, start):
+        (kind, self.a, self.b, rule, first, second, self.area, self.last, self.same, self.marks, self.queue,
+         self.output, self.w, self.h, self.limit, bytes_length, plane_length) = self.HEAD.unpack_from(data, start)
+        self.kind = self.KINDS[kind]
+        self.rule = Limited(first) if rule else Plain(first, second)
+        start += self.HEAD.size
+        self.bytes = data[start:start + bytes_length]
+        self.plane = data[start + bytes_length:start + bytes_length + plane_length]
+        self.end = start + bytes_length + plane_length
+
+    def is_array(self):
+        """Whether arrays can say the case: the lengths are those of the sides, and there is room."""
+        n = self.w * self.h
+        if self.kind == "read":
+            return self.limit == 1_048_576
+        if self.kind in ("intensity", "recolour", "enhance", "house", "write") and len(self.bytes) != 3 * n:
+            return False
+        if self.kind != "write" and len(self.plane) != n:
+            return False
+        heading = len(f"P6\n{self.w} {self.h}\n255\n") if self.kind == "write" else 0
+        if self.kind in ("recolour", "enhance", "house", "write") and self.output < heading + 3 * n:
+            return False
+        return self.kind in ("intensity", "recolour", "write") or min(self.marks, self.queue) >= n
+
+    def passes(self):
+        for a, b, rule, _, area, first, second in struct.iter_unpack("<BBBBIHH", self.bytes):
+            yield Pass(a, b, area, Limited(first) if rule else Plain(first, second))
+
+    def frame(self):
+        return numpy.frombuffer(self.bytes, numpy.uint8).reshape(self.h, self.w, 3)
+
+    def values(self):
+        return numpy.frombuffer(self.plane, numpy.uint8).reshape(self.h, self.w)
+
+    def answer(self):
+        """The first words of the line that answers the case, and the bytes that the call leaves."""
+        if self.kind == "intensity":
+            return "+0", mlhe.intensity(self.frame()).tobytes()
+        if self.kind == "recolour":
+            return "+0", self.filled(mlhe.recolour(self.frame(), self.values()).tobytes())
+        if self.kind == "read":
+            h, w = mlhe.read(self.bytes).shape[:2]
+            return f"+{w} {h} {len(self.bytes) - 3 * w * h}",
+        if self.kind == "write":
+            data = mlhe.write(self.frame())
+            return f"+{len(data)}", self.filled(data)
+        if self.kind in ("enhance", "house"):
+            names = {} if self.kind == "house" else {"last": self.last, "area": self.area, "rule": self.rule}
+            enhanced = mlhe.enhance(self.frame(), **names)
+            return f"+{enhanced.count}", enhanced.plane.tobytes(), self.filled(enhanced.frame.tobytes())
+        if self.kind == "pass":
+            retoned = mlhe.run_pass(self.values(), Pass(self.a, self.b, self.area, self.rule))
+        else:
+            retoned = mlhe.run_list(self.values(), self.bytes if self.kind == "list" else mlhe.pass_list(self.passes()))
+        return f"+{retoned.count}", retoned.plane.tobytes()
+
+    def filled(self, data):
+        """An output that was 170 in every byte."""
+        return data + bytes([170]) * (self.output - len(data))
+
+
+class StoredCases(unittest.TestCase):
+    """The cases and answers of the second implementation."""
+
+    def test_calls(self):
+        data = (REPOSITORY / "crates/vectors/stdin").read_bytes()
+        lines = (REPOSITORY / "crates/vectors/stdout").read_text().splitlines()
+        start, left, ran = 0, b"", {}
+        for line in lines:
+            case = Case(data, start)
+            start = case.end
+            words = line.split(" ")
+            if case.same:
+                case.plane = left
+            if case.kind in ("intensity", "pass", "enhance", "list", "passes", "house"):
+                left = bytes.fromhex(words[1])
+            if not case.is_array():
+                continue
+            with self.subTest(kind=case.kind, at=start, line=line):
+                try:
+                    answer, *memories = case.answer()
+                    answer = [*answer.split(" "), *(memory.hex() for memory in memories)]
+                    answered = "accepted"
+                except Refused as refusal:
+                    answer, answered = [f"-{refusal.number}"], "refused"
+                self.assertEqual(words[:len(answer)], answer)
+            ran[case.kind, answered] = ran.get((case.kind, answered), 0) + 1
+        self.assertEqual(start, len(data))
+        for kind in Case.KINDS:
+            if kind != "program":
+                self.assertGreater(ran.get((kind, "accepted"), 0), 20, kind)
+        self.assertGreater(sum(ran.values()), 2_500)
+
+    def test_program(self):
+        """What the program answers to frames within its limits."""
+        data = (REPOSITORY / "tests/vectors/program.in").read_bytes()
+        lines = (REPOSITORY / "tests/vectors/program.out").read_text().splitlines()
+        start, accepted = 0, 0
+        for line in lines:
+            case = Case(data, start)
+            start = case.end
+            output = bytes.fromhex(line)
+            if output.startswith(b"P6"):
+                self.assertEqual(mlhe.write(mlhe.enhance(mlhe.read(case.bytes)).frame), output)
+                accepted += 1
+        self.assertGreater(accepted, 20)
+
+
+class Header(unittest.TestCase):
+    """mlhe.py says what include/mlhe.h says."""
+
+    def setUp(self):
+        self.header = (REPOSITORY / "include/mlhe.h").read_text()
+
+    def test_arguments(self):
+        types = {"const uint8_t *": mlhe._BYTES, "uint8_t *": mlhe._OUTPUT, "uint32_t *": mlhe._QUEUE,
+                 "size_t *": mlhe._NUMBERS, "size_t": ctypes.c_size_t, "uint8_t": ctypes.c_uint8,
+                 "uint16_t": ctypes.c_uint16, "uint32_t": ctypes.c_uint32}
+        declared = dict(re.findall(r"^int64_t (mlhe_\w+)\(([^)]*)\);", self.header, re.MULTILINE))
+        for name, arguments in mlhe._ARGUMENTS.items():
+            words = [re.sub(r"\w+$", "", " ".join(argument.split())).strip() for argument in declared[name].split(",")]
+            self.assertEqual(arguments, tuple(types[word] for word in words), name)
+
+    def test_numbers(self):
+        numbers = {name: int(value) for name, value in re.findall(r"\b(MLHE_\w+) = (\d+)", self.header)}
+        refusals = sorted(value for name, value in numbers.items() if name.startswith("MLHE_REFUSED_"))
+        self.assertEqual(refusals, sorted(mlhe.REASONS))
+        self.assertEqual(mlhe._GREATEST_HEADER, numbers["MLHE_GREATEST_HEADER"])
+        house = mlhe.Settings(numbers["MLHE_HOUSE_LAST"], numbers["MLHE_HOUSE_AREA"],
+                              Plain(numbers["MLHE_HOUSE_LOW"], numbers["MLHE_HOUSE_HIGH"]))
+        self.assertEqual(mlhe.HOUSE, house)
+        self.assertRegex(self.header, "MLHE_HOUSE_RULE = MLHE_PLAIN")
+
+
+class Readme(unittest.TestCase):
+    def test_lines(self):
+        here = os.getcwd()
+        os.chdir(Path(__file__).resolve().parent)
+        self.addCleanup(os.chdir, here)
+        failed, tried = doctest.testfile("README.md")
+        self.assertEqual(failed, 0)
+        self.assertGreater(tried, 10)
+
+
+if __name__ == "__main__":
+    unittest.main()
