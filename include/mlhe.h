@@ -1,8 +1,10 @@
 /*
  * Morpho-local histogram equalisation (MLHE) of frames: the library's C functions.
  *
- * Built by `rt staticlib capi`, which writes target/staticlib/libcapi.a for x86-64 Linux. Every function is proved to
- * meet the contract that crates/capi states, and this page says the same in words.
+ * The library is libmlhe.a, for x86-64 Linux: what `rt staticlib capi` writes to target/staticlib/libcapi.a, under the
+ * name to link it by. `make -C examples/c install PREFIX=/folder` puts header and library into /folder/include and
+ * /folder/lib; a program is then built with -I/folder/include -L/folder/lib -lmlhe, and needs nothing else. Every
+ * function is proved to meet the contract that crates/capi states, and this page says the same in words.
  *
  * What is guaranteed. Through any chain of passes on a plane that mlhe_intensity filled, and in the plane that
  * mlhe_enhance leaves, equal four-neighbours stay equal, unequal ones are never reversed, and each regional maximum or
@@ -19,17 +21,29 @@
  * the function's own.
  *
  * Lent memory. Each pointer is followed by the number of its elements, and that many elements have to be readable (and
- * writable, where the pointer is not to const). Within one call no writable memory may overlap any other memory. A null
- * pointer is allowed only with the length 0. Nothing is allocated, nothing is kept after the call, and there is no
- * global state, so that threads may call with memory of their own. marks and queue are working memory: at least n
- * elements each, with any content; their first n elements are unspecified after an accepted call, and all others keep
- * their values.
+ * writable, where the pointer is not to const), at an address that fits their type. A null pointer is allowed only with
+ * the length 0. Nothing is allocated, nothing is kept after the call, and there is no global state, so that threads may
+ * call with memory of their own. marks and queue are working memory: at least n elements each, with any content; their
+ * first n elements are unspecified after an accepted call, and all others keep their values.
+ *
+ * No overlap. Within one call no writable memory may overlap any other memory of the call. The proofs are made under
+ * this condition, and the code cannot test it: a call with memory that overlaps may leave anything, write outside of
+ * what is lent, or crash. Neither the plane nor the output of an enhancement can be the frame's own memory.
+ *
+ * Stack. MLHE_STACK bytes are enough for a call, on planes of every size. This is measured (tests/c/stack.c), not
+ * proved: an enhancement takes about 6 KB and every other call about 2 KB.
  */
 #ifndef MLHE_H
 #define MLHE_H
 
 #include <stddef.h>
 #include <stdint.h>
+
+/* The version of this header and of the library that it was made with. The library itself does not tell its version. */
+#define MLHE_VERSION_MAJOR 0
+#define MLHE_VERSION_MINOR 1
+#define MLHE_VERSION_PATCH 0
+#define MLHE_VERSION "0.1.0"
 
 #ifdef __cplusplus
 extern "C" {
@@ -67,6 +81,13 @@ enum {
     MLHE_GREATEST_PIXELS = 1048576,
     /* The most bytes that mlhe_write puts before the raster: P6, LF, width, space, height, LF, 255, LF. */
     MLHE_GREATEST_HEADER = 17,
+    /* The most passes of a list, the greatest last level, the greatest numbers of the two rules. */
+    MLHE_GREATEST_PASSES = 1024,
+    MLHE_GREATEST_LEVEL = 7,
+    MLHE_GREATEST_HIGH = 25500,
+    MLHE_GREATEST_CLIP = 1000,
+    /* Bytes of stack that are enough for a call. */
+    MLHE_STACK = 16384,
     /* The house setting of mlhe_enhance. */
     MLHE_HOUSE_LAST = 7,
     MLHE_HOUSE_AREA = 20,
@@ -74,6 +95,33 @@ enum {
     MLHE_HOUSE_LOW = 80,
     MLHE_HOUSE_HIGH = 300
 };
+
+/* The reason for a refusal in words, for people: of any answer, so that it can be put into a message as it is. */
+static inline const char *mlhe_reason(int64_t answer) {
+    if (answer >= 0) {
+        return "it was not refused";
+    }
+    switch (answer < -MLHE_REFUSED_RULE ? 0 : (int)-answer) {
+    case MLHE_REFUSED_SIDES: return "a side is 0 or above 4,096";
+    case MLHE_REFUSED_PIXELS: return "there are more than 1,048,576 pixels";
+    case MLHE_REFUSED_LENGTHS: return "the plane or the frame does not have the length of its sides";
+    case MLHE_REFUSED_MEMORY: return "the working memory is shorter than the plane";
+    case MLHE_REFUSED_INTERVAL: return "the interval's lower end is above its upper end";
+    case MLHE_REFUSED_AREA: return "the least area is 0 or above 1,048,576";
+    case MLHE_REFUSED_LIMITS: return "low is above high, or high is above 25,500";
+    case MLHE_REFUSED_CLIP: return "the clip is above 1,000";
+    case MLHE_REFUSED_LEVEL: return "the last level is above 7";
+    case MLHE_REFUSED_HEADER: return "the P6 header is malformed, or the file ends in it";
+    case MLHE_REFUSED_MAXVAL: return "the P6 header's third number is not 255";
+    case MLHE_REFUSED_RASTER: return "the raster is short";
+    case MLHE_REFUSED_TRAILING: return "there are bytes after the raster";
+    case MLHE_REFUSED_OUTPUT: return "the output is too short";
+    case MLHE_REFUSED_LIST_MARK: return "it is no pass list of version 1";
+    case MLHE_REFUSED_LIST_LENGTH: return "the pass list's count or length is wrong";
+    case MLHE_REFUSED_RULE: return "there is no such tone rule, or a byte that has to be 0 is set";
+    default: return "there is no such refusal";
+    }
+}
 
 /*
  * Reads the header of a P6 frame and measures the rest.

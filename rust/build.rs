@@ -1,16 +1,19 @@
-//! Finds the static library, or builds it with `rt staticlib capi`, which proves every crate under it first. Offline.
+//! Links the static library, from cargo's build folder, where it is put as `libmlhe.a`. Offline.
 //!
-//! - `MLHE_LIBRARY` names a library that is there, `path/to/libcapi.a`: it is linked as it is.
+//! - `MLHE_LIBRARY` names a library that is there, under any name: it is taken as it is.
 //! - `MLHE_LIBRARY=none` links nothing, which is enough for `cargo check`, `cargo clippy` and `cargo doc`.
-//! - Otherwise `rt staticlib capi` runs in the repository; what is unchanged since it was proved is not proved again.
-//! - Where there is no `rt`, `target/staticlib/libcapi.a` of the repository is linked, if it is there.
+//! - Otherwise `rt staticlib capi` runs in the repository. It proves every crate under `capi` first, and leaves proofs
+//!   and library in the repository's `target/`, so that what is unchanged is not proved again. This is the one case in
+//!   which something is written outside cargo's build folder.
+//! - Where there is no `rt`, `target/staticlib/libcapi.a` of the repository is taken, if it is there.
 
-use std::env;
 use std::path::{Path, PathBuf};
 use std::process::Command;
+use std::{env, fs};
 
 fn main() {
     println!("cargo:rerun-if-env-changed=MLHE_LIBRARY");
+    println!("cargo:rerun-if-changed=build.rs");
     let library = match env::var_os("MLHE_LIBRARY") {
         Some(path) if path == "none" => return,
         Some(path) => PathBuf::from(path),
@@ -18,8 +21,10 @@ fn main() {
     };
     let library = library.canonicalize().unwrap_or_else(|error| panic!("{}: {error}", library.display()));
     println!("cargo:rerun-if-changed={}", library.display());
-    println!("cargo:rustc-link-search=native={}", library.parent().expect("a folder").display());
-    println!("cargo:rustc-link-lib=static={}", name(&library));
+    let folder = PathBuf::from(env::var_os("OUT_DIR").expect("cargo names its folder"));
+    fs::copy(&library, folder.join("libmlhe.a")).unwrap_or_else(|error| panic!("{}: {error}", library.display()));
+    println!("cargo:rustc-link-search=native={}", folder.display());
+    println!("cargo:rustc-link-lib=static=mlhe");
 }
 
 /// The library in the repository, built anew where `rt` is at hand.
@@ -35,10 +40,4 @@ fn built() -> PathBuf {
         Err(error) => assert!(library.exists(), "rt: {error}, and there is no {}", library.display()),
     }
     library
-}
-
-/// The name to link by: `libNAME.a`.
-fn name(library: &Path) -> &str {
-    let name = library.file_stem().and_then(|stem| stem.to_str()).and_then(|stem| stem.strip_prefix("lib"));
-    name.expect("MLHE_LIBRARY names a file libNAME.a")
 }

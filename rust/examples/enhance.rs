@@ -97,7 +97,7 @@ fn enhance(file: &Path, list: Option<&PassList>, arguments: &Arguments, memory: 
 /// The recoloured frame, the plane that it is recoloured from, and the number of retoned components.
 fn enhanced(frame: &Frame, list: Option<&PassList>, memory: &mut Memory) -> Result<(Frame, Plane, u32), Refusal> {
     let Some(list) = list else {
-        let Enhanced { frame, plane, retoned } = frame.enhanced(&Settings::HOUSE, memory)?;
+        let Enhanced { frame, plane, retoned, .. } = frame.enhanced(&Settings::house(), memory)?;
         return Ok((frame, plane, retoned));
     };
     let mut plane = frame.intensity();

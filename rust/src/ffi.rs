@@ -10,8 +10,10 @@
 #[allow(clippy::too_many_arguments)]
 mod declared {
     extern "C" {
+        /// Reads the header of a P6 frame and measures the rest: see [`lent::read`](crate::lent::read).
         pub fn mlhe_read(bytes: *const u8, bytes_length: usize, numbers: *mut usize, numbers_length: usize) -> i64;
 
+        /// Writes a P6 frame: see [`lent::write`](crate::lent::write).
         pub fn mlhe_write(
             raster: *const u8,
             raster_length: usize,
@@ -21,6 +23,7 @@ mod declared {
             output_length: usize,
         ) -> i64;
 
+        /// Fills a plane with the intensities of a frame: see [`lent::intensity`](crate::lent::intensity).
         pub fn mlhe_intensity(
             frame: *const u8,
             frame_length: usize,
@@ -30,6 +33,7 @@ mod declared {
             plane_length: usize,
         ) -> i64;
 
+        /// Runs one pass over a plane: see [`lent::pass`](crate::lent::pass).
         pub fn mlhe_pass(
             plane: *mut u8,
             plane_length: usize,
@@ -47,6 +51,7 @@ mod declared {
             second: u16,
         ) -> i64;
 
+        /// Runs the passes of a list: see [`lent::run_list`](crate::lent::run_list).
         pub fn mlhe_run_list(
             list: *const u8,
             list_length: usize,
@@ -60,6 +65,7 @@ mod declared {
             h: usize,
         ) -> i64;
 
+        /// Recolours a frame from a plane: see [`lent::recolour`](crate::lent::recolour).
         pub fn mlhe_recolour(
             frame: *const u8,
             frame_length: usize,
@@ -71,6 +77,7 @@ mod declared {
             output_length: usize,
         ) -> i64;
 
+        /// Enhances a frame: see [`lent::enhance`](crate::lent::enhance).
         pub fn mlhe_enhance(
             frame: *const u8,
             frame_length: usize,

@@ -1,9 +1,6 @@
 //! Colour frames.
 
-use crate::{lent, Memory, Plane, Refusal, Settings};
-
-/// The most bytes that stand before the raster of a written frame.
-const GREATEST_HEADER: usize = 17;
+use crate::{lent, Memory, Plane, Refusal, Settings, GREATEST_HEADER};
 
 /// A frame: w columns and h rows of pixels, each the bytes red, green, blue. Its sides are 1 to 4,096, and it has at
 /// most 1,048,576 pixels.
@@ -14,8 +11,9 @@ pub struct Frame {
     bytes: Vec<u8>,
 }
 
-/// What an enhancement leaves.
+/// What an enhancement leaves. A later version may leave more.
 #[derive(Clone, Debug, PartialEq, Eq)]
+#[non_exhaustive]
 pub struct Enhanced {
     /// The frame, recoloured from the plane. Its own intensity is not the plane and keeps less: recolouring holds a
     /// channel at 255 and rounds.
@@ -55,6 +53,7 @@ impl Frame {
     }
 
     /// The frame as a P6 file.
+    #[must_use]
     pub fn to_p6(&self) -> Vec<u8> {
         let mut file = vec![0; GREATEST_HEADER + self.bytes.len()];
         let length = lent::write(&self.bytes, self.w, self.h, &mut file).expect("the frame is sound");
@@ -62,19 +61,26 @@ impl Frame {
         file
     }
 
+    /// The number of columns.
+    #[must_use]
     pub fn width(&self) -> usize {
         self.w
     }
 
+    /// The number of rows.
+    #[must_use]
     pub fn height(&self) -> usize {
         self.h
     }
 
     /// The raster: 3 × w × h bytes.
+    #[must_use]
     pub fn bytes(&self) -> &[u8] {
         &self.bytes
     }
 
+    /// The raster, taken out of the frame.
+    #[must_use]
     pub fn into_bytes(self) -> Vec<u8> {
         self.bytes
     }
@@ -84,6 +90,7 @@ impl Frame {
     }
 
     /// The intensities of the pixels: the rounded means of their channels.
+    #[must_use]
     pub fn intensity(&self) -> Plane {
         let mut values = vec![0; self.pixels()];
         lent::intensity(&self.bytes, self.w, self.h, &mut values).expect("the frame is sound");
@@ -120,7 +127,7 @@ impl Frame {
     /// use mlhe::{Frame, Memory, Refusal, Rule, Settings};
     ///
     /// let frame = Frame::new(2, 1, vec![10, 10, 10, 20, 20, 20])?;
-    /// let settings = Settings { last: 1, area: 1, rule: Rule::Plain { low: 0, high: 25_500 } };
+    /// let settings = Settings::new(1, 1, Rule::Plain { low: 0, high: 25_500 });
     /// let enhanced = frame.enhanced(&settings, &mut Memory::new())?;
     /// assert_eq!((enhanced.plane.values(), enhanced.retoned), (&[192, 255][..], 2));
     /// # Ok::<(), Refusal>(())

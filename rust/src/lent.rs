@@ -11,7 +11,7 @@
 //!
 //! let frame = [10, 10, 10, 20, 20, 20];
 //! let (mut plane, mut marks, mut queue, mut output) = ([0; 2], [0; 2], [0; 2], [7; 8]);
-//! let settings = Settings { last: 0, ..Settings::HOUSE };
+//! let settings = Settings::house().with_last(0);
 //! // 10 and 20 would become 128 and 255, more than 300 hundredths of the range: they are kept.
 //! let retoned = lent::enhance(&frame, 2, 1, &settings, &mut plane, &mut marks, &mut queue, &mut output)?;
 //! assert_eq!((retoned, plane), (0, [10, 20]));
@@ -25,11 +25,15 @@
 
 use crate::{ffi, Pass, Refusal, Settings};
 
-/// What reading answers: the sides, and the place of the raster's first byte.
+/// What reading answers: the sides, and the place of the raster's first byte. A later version may answer more.
 #[derive(Clone, Copy, Debug, PartialEq, Eq)]
+#[non_exhaustive]
 pub struct Header {
+    /// The number of columns.
     pub w: usize,
+    /// The number of rows.
     pub h: usize,
+    /// The place of the raster's first byte: from it on there are 3 × w × h bytes.
     pub offset: usize,
 }
 

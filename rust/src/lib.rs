@@ -20,6 +20,7 @@
 //! - [`Pass`], [`Rule`] and [`Settings`] say what to do, and [`PassList`] is a list of passes that has been checked.
 //! - [`Memory`] is working memory, to be used again from call to call.
 //! - [`Refusal`] says why a call is turned down.
+//! - [`GREATEST_SIDE`], [`GREATEST_PIXELS`] and the other constants are the greatest numbers that the calls take.
 //! - [`lent`] has the same calls on memory that the caller lends, and [`ffi`] the C functions as they are.
 //!
 //! ```
@@ -27,10 +28,13 @@
 //!
 //! let file = b"P6\n2 1\n255\n\x0a\x0a\x0a\x14\x14\x14";
 //! let frame = Frame::from_p6(file)?;
-//! let enhanced = frame.enhanced(&Settings::HOUSE, &mut Memory::new())?;
+//! let enhanced = frame.enhanced(&Settings::house(), &mut Memory::new())?;
 //! assert_eq!(enhanced.frame.to_p6(), file);
 //! # Ok::<(), Refusal>(())
 //! ```
+
+#![deny(missing_docs)]
+#![warn(clippy::must_use_candidate, clippy::return_self_not_must_use)]
 
 pub mod ffi;
 mod frame;
@@ -40,6 +44,7 @@ mod pass;
 mod plane;
 mod refusal;
 mod settings;
+mod sizes;
 
 pub use frame::{Enhanced, Frame};
 pub use memory::Memory;
@@ -47,3 +52,6 @@ pub use pass::{Pass, PassList, Rule};
 pub use plane::Plane;
 pub use refusal::Refusal;
 pub use settings::Settings;
+pub use sizes::{
+    GREATEST_CLIP, GREATEST_HEADER, GREATEST_HIGH, GREATEST_LEVEL, GREATEST_PASSES, GREATEST_PIXELS, GREATEST_SIDE,
+};

@@ -10,11 +10,13 @@ pub struct Memory {
 
 impl Memory {
     /// Memory that grows with its first call.
+    #[must_use]
     pub fn new() -> Self {
         Memory::default()
     }
 
     /// Memory that has room for so many pixels from the start.
+    #[must_use]
     pub fn with_pixels(n: usize) -> Self {
         Memory { marks: vec![0; n], queue: vec![0; n] }
     }

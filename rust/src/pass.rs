@@ -2,14 +2,23 @@
 
 use crate::{lent, Refusal};
 
-/// A tone rule with its own numbers.
+/// A tone rule with its own numbers. A later version may have more rules.
 #[derive(Clone, Copy, Debug, PartialEq, Eq, Hash)]
+#[non_exhaustive]
 pub enum Rule {
     /// Histogram equalisation; a component keeps its old values where they are all one, or where the ratio of the value
     /// ranges after and before is outside low to high, in hundredths. low ≤ high ≤ 25,500.
-    Plain { low: u16, high: u16 },
-    /// Contrast-limited equalisation with the clip k in thousandths, 0 to 1,000.
-    Limited { k: u16 },
+    Plain {
+        /// The lower limit, in hundredths.
+        low: u16,
+        /// The upper limit, in hundredths, at most [`GREATEST_HIGH`](crate::GREATEST_HIGH).
+        high: u16,
+    },
+    /// Contrast-limited equalisation.
+    Limited {
+        /// The clip, in thousandths, at most [`GREATEST_CLIP`](crate::GREATEST_CLIP).
+        k: u16,
+    },
 }
 
 impl Rule {
@@ -22,21 +31,37 @@ impl Rule {
     }
 }
 
-/// A pass: every component of the pixels with values from `a` to `b` that has at least `area` pixels gets the rule.
+/// A pass: every component of the pixels with values from `a` to `b` that has at least `area` pixels gets the rule. A
+/// later version may have more to tell a pass, so it is made by [`Pass::new`].
 #[derive(Clone, Copy, Debug, PartialEq, Eq, Hash)]
+#[non_exhaustive]
 pub struct Pass {
+    /// The lower end of the interval of values.
     pub a: u8,
+    /// The upper end of the interval of values, itself in it.
     pub b: u8,
+    /// The least area of a component, 1 to [`GREATEST_PIXELS`](crate::GREATEST_PIXELS).
     pub area: u32,
+    /// The tone rule.
     pub rule: Rule,
 }
 
-/// Passes to run one after the other, checked: none of them is refused. At most 1,024.
+impl Pass {
+    /// A pass of these numbers. A call refuses those that are out of range.
+    #[must_use]
+    pub const fn new(a: u8, b: u8, area: u32, rule: Rule) -> Pass {
+        Pass { a, b, area, rule }
+    }
+}
+
+/// Passes to run one after the other, checked: none of them is refused. At most
+/// [`GREATEST_PASSES`](crate::GREATEST_PASSES).
 ///
 /// ```
 /// use mlhe::{Memory, Pass, PassList, Plane, Refusal, Rule};
 ///
-/// let dark = Pass { a: 0, b: 127, area: 1, rule: Rule::Plain { low: 0, high: 25_500 } };
+/// let rule = Rule::Plain { low: 0, high: 25_500 };
+/// let dark = Pass::new(0, 127, 1, rule);
 /// let list = PassList::new(&[dark])?;
 /// let mut plane = Plane::new(5, 1, vec![10, 20, 200, 10, 10])?;
 /// assert_eq!(plane.run(&list, &mut Memory::new()), 1);
@@ -45,7 +70,7 @@ pub struct Pass {
 /// // The file format, and back.
 /// assert_eq!(PassList::from_bytes(list.bytes())?, list);
 /// assert_eq!(PassList::from_bytes(b"MLQ\x01\0\0\0"), Err(Refusal::ListMark));
-/// assert_eq!(PassList::new(&[Pass { a: 9, b: 8, ..dark }]), Err(Refusal::Interval));
+/// assert_eq!(PassList::new(&[Pass::new(9, 8, 1, rule)]), Err(Refusal::Interval));
 /// # Ok::<(), Refusal>(())
 /// ```
 #[derive(Clone, Debug, PartialEq, Eq, Hash)]
@@ -80,6 +105,7 @@ impl PassList {
     }
 
     /// The list in its file format.
+    #[must_use]
     pub fn bytes(&self) -> &[u8] {
         &self.bytes
     }

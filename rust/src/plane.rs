@@ -1,6 +1,6 @@
 //! Planes of intensities.
 
-use crate::{lent, Frame, Memory, Pass, PassList, Refusal};
+use crate::{lent, Frame, Memory, Pass, PassList, Refusal, Rule};
 
 /// A plane: w columns and h rows of values, row by row, left to right. Its sides are 1 to 4,096, and it has at most
 /// 1,048,576 pixels. Passes never reverse two four-neighbours of it, part equal ones, or invent a regional maximum or
@@ -16,7 +16,7 @@ impl Plane {
     /// A plane of these values. Refusals, in order: [`Refusal::Sides`], [`Refusal::Pixels`], [`Refusal::Lengths`].
     pub fn new(w: usize, h: usize, mut values: Vec<u8>) -> Result<Plane, Refusal> {
         // With no working memory at all the library gets as far as refusing just that, for a plane that is sound.
-        let never = Pass { a: 0, b: 0, area: 1, rule: crate::Rule::Limited { k: 0 } };
+        let never = Pass::new(0, 0, 1, Rule::Limited { k: 0 });
         match lent::pass(&mut values, &mut [], &mut [], w, h, &never) {
             Err(Refusal::Memory) => Ok(Plane { w, h, values }),
             Err(refusal) => Err(refusal),
@@ -24,18 +24,26 @@ impl Plane {
         }
     }
 
+    /// The number of columns.
+    #[must_use]
     pub fn width(&self) -> usize {
         self.w
     }
 
+    /// The number of rows.
+    #[must_use]
     pub fn height(&self) -> usize {
         self.h
     }
 
+    /// The values: w × h bytes, row by row.
+    #[must_use]
     pub fn values(&self) -> &[u8] {
         &self.values
     }
 
+    /// The values, taken out of the plane.
+    #[must_use]
     pub fn into_values(self) -> Vec<u8> {
         self.values
     }
@@ -50,6 +58,7 @@ impl Plane {
     /// assert_eq!(plane.to_frame().intensity(), plane);
     /// # Ok::<(), Refusal>(())
     /// ```
+    #[must_use]
     pub fn to_frame(&self) -> Frame {
         let bytes = self.values.iter().flat_map(|&value| [value; 3]).collect();
         Frame::new(self.w, self.h, bytes).expect("the frame has the plane's sides")
@@ -62,11 +71,11 @@ impl Plane {
     /// use mlhe::{Memory, Pass, Plane, Refusal, Rule};
     ///
     /// let mut plane = Plane::new(4, 1, vec![10, 10, 20, 30])?;
-    /// let pass = Pass { a: 0, b: 255, area: 1, rule: Rule::Plain { low: 0, high: 25_500 } };
+    /// let rule = Rule::Plain { low: 0, high: 25_500 };
     /// let mut memory = Memory::new();
-    /// assert_eq!(plane.pass(&pass, &mut memory)?, 1);
+    /// assert_eq!(plane.pass(&Pass::new(0, 255, 1, rule), &mut memory)?, 1);
     /// assert_eq!(plane.values(), [128, 128, 191, 255]);
-    /// assert_eq!(plane.pass(&Pass { area: 0, ..pass }, &mut memory), Err(Refusal::Area));
+    /// assert_eq!(plane.pass(&Pass::new(0, 255, 0, rule), &mut memory), Err(Refusal::Area));
     /// # Ok::<(), Refusal>(())
     /// ```
     pub fn pass(&mut self, pass: &Pass, memory: &mut Memory) -> Result<u32, Refusal> {

@@ -3,17 +3,18 @@
 use std::error::Error;
 use std::fmt;
 
-/// Why a call is turned down. A call that is turned down changes no lent byte.
+/// Why a call is turned down. A call that is turned down changes no lent byte. A later version may have more refusals.
 ///
 /// ```
 /// use mlhe::{Frame, Refusal};
 ///
 /// let refused = Frame::new(0, 1, vec![]).unwrap_err();
 /// assert_eq!(refused, Refusal::Sides);
-/// assert_eq!(refused.number(), 1);
+/// assert_eq!((refused.number(), refused.reason()), (1, "a side is 0 or above 4,096"));
 /// assert_eq!(refused.to_string(), "refused 1: a side is 0 or above 4,096");
 /// ```
 #[derive(Clone, Copy, Debug, PartialEq, Eq, Hash)]
+#[non_exhaustive]
 pub enum Refusal {
     /// 1: a side is 0 or above 4,096.
     Sides = 1,
@@ -53,7 +54,7 @@ pub enum Refusal {
 
 impl Refusal {
     /// All refusals, by their numbers from 1 on.
-    pub const ALL: [Refusal; 17] = [
+    pub const ALL: &'static [Refusal] = &[
         Refusal::Sides,
         Refusal::Pixels,
         Refusal::Lengths,
@@ -73,12 +74,15 @@ impl Refusal {
         Refusal::Rule,
     ];
 
-    /// The refusal's number, 1 to 17.
+    /// The refusal's number, from 1 on.
+    #[must_use]
     pub fn number(self) -> u8 {
         self as u8
     }
 
-    fn reason(self) -> &'static str {
+    /// The refusal in words, as `mlhe_reason` of `include/mlhe.h` has them.
+    #[must_use]
+    pub fn reason(self) -> &'static str {
         match self {
             Refusal::Sides => "a side is 0 or above 4,096",
             Refusal::Pixels => "there are more than 1,048,576 pixels",
@@ -123,7 +127,7 @@ mod tests {
 
     #[test]
     fn numbers_are_places_in_the_list() {
-        for (place, refusal) in Refusal::ALL.into_iter().enumerate() {
+        for (place, &refusal) in Refusal::ALL.iter().enumerate() {
             assert_eq!(usize::from(refusal.number()), place + 1);
             assert_eq!(Refusal::of_answer(-(place as i64) - 1), Err(refusal));
         }

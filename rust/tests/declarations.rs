@@ -1,8 +1,12 @@
 //! Nothing in the languages holds the declarations of the C functions against their source. This does: the functions of
 //! `crates/capi`, `include/mlhe.h` and `src/ffi.rs` have the same names, parameters and types, in the same order, and the
-//! house setting has the same numbers in `crates/enhance`, `include/mlhe.h` and `src/settings.rs`.
+//! house setting has the same numbers in `crates/enhance`, `include/mlhe.h` and `src/settings.rs`. Header and crate have
+//! the same version, refusals, reasons and sizes.
 
 use mlhe::{Refusal, Rule, Settings};
+use mlhe::{
+    GREATEST_CLIP, GREATEST_HEADER, GREATEST_HIGH, GREATEST_LEVEL, GREATEST_PASSES, GREATEST_PIXELS, GREATEST_SIDE,
+};
 use std::collections::BTreeMap;
 use std::fs;
 use std::path::Path;
@@ -99,6 +103,61 @@ fn the_declarations_agree() {
     assert_eq!(rattle, of_rust());
 }
 
+/// The program's function, which another library has.
+#[test]
+fn the_declarations_of_the_program_agree() {
+    let rattle = text("crates/frames/src/export.rt");
+    assert!(rattle.contains("fn mlhe_program(input: &[u8], output: &mut [u8; 65536]) -> usize\n"));
+    let header = text("include/mlhe_program.h");
+    assert!(header.contains("\nsize_t mlhe_program(const uint8_t *input, size_t input_length, uint8_t *output);\n"));
+    let tested = text("tests/hostile/src/lib.rs");
+    assert!(tested.contains("fn mlhe_program(input: *const u8, input_length: usize, output: *mut u8) -> usize;"));
+    let constants = text("crates/frames/src/lib.rt");
+    for name in ["INPUT", "OUTPUT", "PIXELS"] {
+        let library = number_after(&constants, &format!("pub const {name}: usize = "));
+        assert_eq!(number_after(&header, &format!("MLHE_PROGRAM_{name} = ")), library);
+    }
+}
+
+#[test]
+fn the_version_of_the_header_is_that_of_the_crate() {
+    let header = text("include/mlhe.h");
+    let part = |name| number_after(&header, &format!("#define MLHE_VERSION_{name} "));
+    let version = format!("{}.{}.{}", part("MAJOR"), part("MINOR"), part("PATCH"));
+    assert_eq!(version, env!("CARGO_PKG_VERSION"));
+    assert!(header.contains(&format!("\n#define MLHE_VERSION \"{version}\"\n")));
+}
+
+#[test]
+fn the_sizes_of_the_header_are_those_of_the_crate() {
+    let header = text("include/mlhe.h");
+    let sizes = [
+        ("SIDE", GREATEST_SIDE),
+        ("PIXELS", GREATEST_PIXELS),
+        ("HEADER", GREATEST_HEADER),
+        ("PASSES", GREATEST_PASSES),
+        ("LEVEL", GREATEST_LEVEL.into()),
+        ("HIGH", GREATEST_HIGH.into()),
+        ("CLIP", GREATEST_CLIP.into()),
+    ];
+    for (name, size) in sizes {
+        assert_eq!(number_after(&header, &format!("MLHE_GREATEST_{name} = ")) as usize, size);
+    }
+    let named = header.lines().filter(|line| line.starts_with("    MLHE_GREATEST_")).count();
+    assert_eq!(named, sizes.len());
+}
+
+#[test]
+fn the_reasons_of_the_header_are_those_of_the_crate() {
+    let header = text("include/mlhe.h");
+    let reasons: Vec<&str> = header
+        .lines()
+        .filter_map(|line| line.trim().strip_prefix("case MLHE_REFUSED_")?.split_once(": return \""))
+        .map(|(_, rest)| rest.strip_suffix("\";").expect("the end of a line"))
+        .collect();
+    assert_eq!(reasons, Refusal::ALL.iter().map(|refusal| refusal.reason()).collect::<Vec<_>>());
+}
+
 #[test]
 fn the_refusals_of_the_header_are_those_of_the_crate() {
     let text = text("include/mlhe.h");
@@ -110,19 +169,21 @@ fn the_refusals_of_the_header_are_those_of_the_crate() {
             digits.parse().expect("a number")
         })
         .collect();
-    assert_eq!(numbers, Refusal::ALL.map(Refusal::number));
+    assert_eq!(numbers, Refusal::ALL.iter().map(|refusal| refusal.number()).collect::<Vec<_>>());
+}
+
+/// The number after a mark, which stands once in the text.
+fn number_after(text: &str, mark: &str) -> u32 {
+    let parts: Vec<&str> = text.split(mark).collect();
+    assert_eq!(parts.len(), 2, "{mark}");
+    let digits: String = parts[1].chars().take_while(char::is_ascii_digit).collect();
+    digits.parse().expect("a number")
 }
 
 /// The number that stands after each of the four names of the house setting's numbers and `between`.
 fn house_numbers(text: &str, prefix: &str, between: [&str; 4]) -> [u32; 4] {
     let names = ["LAST", "AREA", "LOW", "HIGH"];
-    [0, 1, 2, 3].map(|place| {
-        let mark = format!("{prefix}{}{} = ", names[place], between[place]);
-        let parts: Vec<&str> = text.split(&mark).collect();
-        assert_eq!(parts.len(), 2, "{mark}");
-        let digits: String = parts[1].chars().take_while(char::is_ascii_digit).collect();
-        digits.parse().expect("a number")
-    })
+    [0, 1, 2, 3].map(|place| number_after(text, &format!("{prefix}{}{} = ", names[place], between[place])))
 }
 
 #[test]
@@ -135,6 +196,6 @@ fn the_house_settings_agree() {
     let [last, area, low, high] = library;
     let number = |number: u32| u16::try_from(number).expect("16 bits");
     let rule = Rule::Plain { low: number(low), high: number(high) };
-    assert_eq!(Settings::HOUSE, Settings { last: last as u8, area, rule });
+    assert_eq!(Settings::house(), Settings::new(last as u8, area, rule));
     assert_eq!(Settings::default(), Settings::HOUSE);
 }

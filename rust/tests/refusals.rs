@@ -1,10 +1,13 @@
 //! What is turned down, through the safe types and through the C functions.
 
 use mlhe::{ffi, lent, Frame, Memory, Pass, PassList, Plane, Refusal, Rule, Settings};
+use mlhe::{
+    GREATEST_CLIP, GREATEST_HEADER, GREATEST_HIGH, GREATEST_LEVEL, GREATEST_PASSES, GREATEST_PIXELS, GREATEST_SIDE,
+};
 use std::ptr::{null, null_mut};
 
 const PLAIN: Rule = Rule::Plain { low: 0, high: 25_500 };
-const WHOLE: Pass = Pass { a: 0, b: 255, area: 1, rule: PLAIN };
+const WHOLE: Pass = Pass::new(0, 255, 1, PLAIN);
 
 #[test]
 fn frames_and_planes_have_the_length_of_their_sides() {
@@ -30,10 +33,10 @@ fn numbers_are_refused_and_nothing_changes() {
     let mut plane = Plane::new(4, 1, vec![10, 10, 20, 30]).unwrap();
     let mut memory = Memory::new();
     let refused = [
-        (Pass { a: 9, b: 8, ..WHOLE }, Refusal::Interval),
-        (Pass { area: 1_048_577, ..WHOLE }, Refusal::Area),
-        (Pass { rule: Rule::Plain { low: 81, high: 80 }, ..WHOLE }, Refusal::Limits),
-        (Pass { rule: Rule::Limited { k: 1_001 }, ..WHOLE }, Refusal::Clip),
+        (Pass::new(9, 8, 1, PLAIN), Refusal::Interval),
+        (Pass::new(0, 255, 1_048_577, PLAIN), Refusal::Area),
+        (Pass::new(0, 255, 1, Rule::Plain { low: 81, high: 80 }), Refusal::Limits),
+        (Pass::new(0, 255, 1, Rule::Limited { k: 1_001 }), Refusal::Clip),
     ];
     for (pass, refusal) in refused {
         assert_eq!(plane.pass(&pass, &mut memory), Err(refusal));
@@ -41,8 +44,37 @@ fn numbers_are_refused_and_nothing_changes() {
         assert_eq!(plane.values(), [10, 10, 20, 30]);
     }
     let frame = Frame::new(1, 1, vec![1, 2, 3]).unwrap();
-    let settings = Settings { last: 8, ..Settings::HOUSE };
+    let settings = Settings::house().with_last(8);
     assert_eq!(frame.enhanced(&settings, &mut memory), Err(Refusal::Level));
+}
+
+/// The constants are the library's own: each is accepted, and the next number is refused.
+#[test]
+fn the_sizes_are_those_of_the_library() {
+    let row = |w: usize| Frame::new(w, 1, vec![0; 3 * w]).map(|frame| frame.width());
+    assert_eq!(row(GREATEST_SIDE), Ok(GREATEST_SIDE));
+    assert_eq!(row(GREATEST_SIDE + 1), Err(Refusal::Sides));
+    let plane = |w: usize, h: usize| Plane::new(w, h, vec![0; w * h]).map(|plane| plane.values().len());
+    assert_eq!(plane(GREATEST_SIDE, GREATEST_PIXELS / GREATEST_SIDE), Ok(GREATEST_PIXELS));
+    assert_eq!(plane(1_025, 1_024), Err(Refusal::Pixels));
+    let longest = Frame::new(GREATEST_SIDE / 4, GREATEST_SIDE / 4, vec![0; 3 * GREATEST_PIXELS]).unwrap();
+    assert_eq!(longest.to_p6().len(), GREATEST_HEADER + 3 * GREATEST_PIXELS);
+
+    let list = |passes: usize| PassList::new(&vec![WHOLE; passes]).map(|list| list.bytes().len());
+    assert_eq!(list(GREATEST_PASSES), Ok(7 + 12 * GREATEST_PASSES));
+    assert_eq!(list(GREATEST_PASSES + 1), Err(Refusal::ListLength));
+    let frame = Frame::new(1, 1, vec![1, 2, 3]).unwrap();
+    let enhanced = |settings: Settings| frame.enhanced(&settings, &mut Memory::new()).map(|enhanced| enhanced.retoned);
+    let house = Settings::house();
+    assert_eq!(enhanced(house.with_last(GREATEST_LEVEL)), Ok(0));
+    assert_eq!(enhanced(house.with_last(GREATEST_LEVEL + 1)), Err(Refusal::Level));
+    let area = u32::try_from(GREATEST_PIXELS).unwrap();
+    assert_eq!(enhanced(house.with_area(area)), Ok(0));
+    assert_eq!(enhanced(house.with_area(area + 1)), Err(Refusal::Area));
+    let plain = |high| enhanced(house.with_rule(Rule::Plain { low: 0, high }));
+    assert_eq!((plain(GREATEST_HIGH), plain(GREATEST_HIGH + 1)), (Ok(0), Err(Refusal::Limits)));
+    let limited = |k| enhanced(house.with_area(2).with_rule(Rule::Limited { k })).map(|_| ());
+    assert_eq!((limited(GREATEST_CLIP), limited(GREATEST_CLIP + 1)), (Ok(()), Err(Refusal::Clip)));
 }
 
 #[test]
@@ -76,6 +108,7 @@ fn lent_memory_that_is_too_short_is_refused() {
 
 #[test]
 fn no_memory_at_all_is_refused() {
+    // SAFETY: each pointer goes with the number of elements that there are, a null pointer with 0.
     unsafe {
         let mut numbers = [7; 3];
         assert_eq!(ffi::mlhe_read(null(), 0, numbers.as_mut_ptr(), 3), -10);
@@ -95,6 +128,7 @@ fn no_memory_at_all_is_refused() {
 fn a_rule_that_there_is_not_is_refused_before_the_other_numbers() {
     let (mut plane, mut marks, mut queue) = ([1u8], [0u8], [0u32]);
     for (rule, second, refusal) in [(2, 0, -17), (255, 0, -17), (1, 1, -17), (1, 0, -5), (0, 1, -5)] {
+        // SAFETY: each of the three has one element.
         let answer = unsafe {
             let (plane, marks, queue) = (plane.as_mut_ptr(), marks.as_mut_ptr(), queue.as_mut_ptr());
             ffi::mlhe_pass(plane, 1, marks, 1, queue, 1, 1, 1, 9, 8, 0, rule, 0, second)

@@ -21,9 +21,11 @@ pub unsafe extern "C" fn checker_enhance(
     output: *mut u8,
 ) -> u64 {
     let n = w * h;
-    let frame = slice::from_raw_parts(frame, 3 * n);
-    let plane = slice::from_raw_parts_mut(plane, n);
-    let output = slice::from_raw_parts_mut(output, 3 * n);
+    // SAFETY: the caller lends so many bytes of each, and none of them overlap.
+    let (frame, plane, output) = unsafe {
+        let (plane, output) = (slice::from_raw_parts_mut(plane, n), slice::from_raw_parts_mut(output, 3 * n));
+        (slice::from_raw_parts(frame, 3 * n), plane, output)
+    };
     let settings = Settings { last_level, area, rule: Rule::Plain { low, high } };
     enhance(frame, w, h, &settings, plane, n, n, output).expect("the benchmark's calls are sound")
 }
@@ -45,7 +47,8 @@ pub unsafe extern "C" fn checker_pass(
     high: u32,
 ) -> u64 {
     let n = w * h;
-    let plane = slice::from_raw_parts_mut(plane, n);
+    // SAFETY: the caller lends so many bytes.
+    let plane = unsafe { slice::from_raw_parts_mut(plane, n) };
     let settings = Pass { a, b, area, rule: Rule::Plain { low, high } };
     pass(plane, n, n, w, h, &settings).expect("the benchmark's calls are sound")
 }

@@ -90,6 +90,7 @@ fn intensity(random: &mut Random) -> Compared {
 
     let mut expected = plane.now().to_vec();
     let answer = encoded(reference::intensity(frame.now(), w, h, &mut expected).map(|()| 0u64));
+    // SAFETY: each pointer goes with the length of its own memory.
     let library = unsafe { ffi::mlhe_intensity(frame.ptr(), frame.len(), w, h, plane.mut_ptr(), plane.len()) };
     same_answer(library, answer)?;
     same_content("plane", &plane, &expected)?;
@@ -117,6 +118,7 @@ fn recolour_call(
 ) -> Result<i64, String> {
     let mut expected = output.now().to_vec();
     let answer = encoded(reference::recolour(frame.now(), w, h, plane.now(), &mut expected).map(|()| 0u64));
+    // SAFETY: each pointer goes with the length of its own memory.
     let library = unsafe {
         ffi::mlhe_recolour(frame.ptr(), frame.len(), w, h, plane.ptr(), plane.len(), output.mut_ptr(), output.len())
     };
@@ -168,6 +170,7 @@ fn pass_call(
         }),
     };
     let answer = encoded(result);
+    // SAFETY: each pointer goes with the length of its own memory.
     let library = unsafe {
         ffi::mlhe_pass(
             plane.mut_ptr(),
@@ -218,6 +221,7 @@ fn list_call(
 ) -> Result<i64, String> {
     let mut expected = plane.now().to_vec();
     let answer = encoded(reference::run_list(list.now(), &mut expected, marks.len(), queue.len(), w, h));
+    // SAFETY: each pointer goes with the length of its own memory.
     let library = unsafe {
         ffi::mlhe_run_list(
             list.ptr(),
@@ -282,6 +286,7 @@ fn enhance_call(
                 .map_err(|number| if number == 9 { 17 } else { number }),
         };
     let answer = encoded(result);
+    // SAFETY: each pointer goes with the length of its own memory.
     let library = unsafe {
         ffi::mlhe_enhance(
             frame.ptr(),
@@ -335,6 +340,7 @@ fn read(random: &mut Random) -> Compared {
         Ok(0u64)
     });
     let answer = encoded(result);
+    // SAFETY: each pointer goes with the length of its own memory.
     let library = unsafe { ffi::mlhe_read(bytes.ptr(), bytes.len(), numbers.mut_ptr(), numbers.len()) };
     same_answer(library, answer)?;
     require(numbers.kept_beyond(numbers.len()), "the guards of the numbers are not kept")?;
@@ -354,12 +360,14 @@ fn write(random: &mut Random) -> Compared {
 
     let mut expected = output.now().to_vec();
     let answer = encoded(reference::write(raster.now(), w, h, &mut expected).map(|length| length as u64));
+    // SAFETY: each pointer goes with the length of its own memory.
     let library = unsafe { ffi::mlhe_write(raster.ptr(), raster.len(), w, h, output.mut_ptr(), output.len()) };
     same_answer(library, answer)?;
     same_content("output", &output, &expected)?;
     require(raster.untouched(), "the raster is not kept")?;
     if answer >= 0 {
         let mut numbers = [0; 3];
+        // SAFETY: so many bytes were written, and `numbers` has three elements.
         let back = unsafe { ffi::mlhe_read(output.ptr(), answer as usize, numbers.as_mut_ptr(), 3) };
         let offset = answer as usize - raster.len();
         require(back == 0 && numbers == [w, h, offset], "what was written does not read back")?;
@@ -373,6 +381,7 @@ fn chain(random: &mut Random) -> Compared {
     let n = w * h;
     let frame = Guarded::holding(&inputs::frame_bytes(random, w, 3 * n), random);
     let mut plane = Guarded::filled(n, random);
+    // SAFETY: each pointer goes with the length of its own memory.
     let filled = unsafe { ffi::mlhe_intensity(frame.ptr(), frame.len(), w, h, plane.mut_ptr(), plane.len()) };
     same_answer(filled, 0)?;
     let mut first = vec![0; n];

@@ -8,7 +8,7 @@ pub use inputs::Inputs;
 pub const OUTPUT: usize = 65_536;
 
 extern "C" {
-    fn mlhe_program(input: *const u8, length: usize, output: *mut u8) -> usize;
+    fn mlhe_program(input: *const u8, input_length: usize, output: *mut u8) -> usize;
 }
 
 /// Writes the program's answer to an input from the beginning of the output on; how many bytes it has.

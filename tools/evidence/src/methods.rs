@@ -15,7 +15,7 @@ pub const METHODS: [Method; 5] = [
     Method { name: "this library, limited, k 20", run: |frame| ours(frame, LIMITED) },
 ];
 
-const LIMITED: Settings = Settings { rule: Rule::Limited { k: 20 }, ..Settings::HOUSE };
+const LIMITED: Settings = Settings::house().with_rule(Rule::Limited { k: 20 });
 
 fn ours(frame: &Frame, settings: Settings) -> Plane {
     frame.enhanced(&settings, &mut Memory::new()).expect("the settings are sound").plane
