@@ -1,6 +1,6 @@
 //! Files that are there whole or not at all: written beside their place and renamed into it.
 
-use std::fs::{self, Permissions};
+use std::fs::{self, OpenOptions, Permissions};
 use std::io::{self, Write};
 use std::os::unix::fs::PermissionsExt;
 use std::path::{Path, PathBuf};
@@ -14,11 +14,17 @@ pub struct Beside {
 }
 
 impl Beside {
-    /// Writes the bytes beside the place, to the disk. What is at the place stays.
+    /// Writes the bytes beside the place, to the disk. What is at the place stays; it may be replaced only where it
+    /// may be written, and its permissions go over.
     pub fn write(place: &Path, bytes: &[u8]) -> io::Result<Beside> {
+        let permissions = match OpenOptions::new().write(true).open(place) {
+            Ok(earlier) => earlier.metadata()?.permissions(),
+            Err(error) if error.kind() == io::ErrorKind::NotFound => Permissions::from_mode(0o666 & !umask()),
+            Err(error) => return Err(error),
+        };
         let mut file = named(folder(place))?;
         file.write_all(bytes)?;
-        file.as_file().set_permissions(Permissions::from_mode(0o666 & !umask()))?;
+        file.as_file().set_permissions(permissions)?;
         // A full disk may be told of as late as this.
         file.as_file().sync_all()?;
         Ok(Beside { file: file.into_temp_path(), place: place.to_owned() })
