@@ -225,14 +225,14 @@ fn no_input(items: &[Item], arguments: &Enhance) -> Result<(), String> {
 
 /// Makes the folders for the results, and makes sure that files can be made in them and beside the report.
 fn make_folders(items: &[Item], arguments: &Enhance) -> Result<(), String> {
-    let folders: BTreeSet<&Path> =
-        items.iter().filter(|item| item.failed.is_none()).map(|item| save::folder(&item.target)).collect();
-    for folder in std::iter::once(arguments.to.as_path()).chain(folders) {
-        fs::create_dir_all(folder).map_err(|error| format!("{}: {error}", name(folder)))?;
-        save::writable(folder).map_err(|error| format!("{}: {error}", name(folder)))?;
+    let about = |path: &Path, error: io::Error| format!("{}: {error}", name(path));
+    if let Some(report) = &arguments.report {
+        save::writable(save::folder(report)).map_err(|error| about(report, error))?;
     }
-    match arguments.report.as_deref().map(save::folder) {
-        Some(folder) => save::writable(folder).map_err(|error| format!("{}: {error}", name(folder))),
-        None => Ok(()),
+    let targets = items.iter().filter(|item| item.failed.is_none()).map(|item| item.target.as_path());
+    let folders: BTreeSet<&Path> = targets.map(save::folder).chain([arguments.to.as_path()]).collect();
+    for folder in folders {
+        fs::create_dir_all(folder).and_then(|()| save::writable(folder)).map_err(|error| about(folder, error))?;
     }
+    Ok(())
 }
