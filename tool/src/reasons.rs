@@ -84,8 +84,8 @@ pub fn reason(refusal: Refusal, bytes: &[u8], length: u64) -> String {
             format!("{w} x {h}: sides are 1 to 4,096; nothing is done for other frames")
         }
         (Refusal::Pixels, Some(Header::Whole { w, h, .. })) => format!(
-            "{w} x {h} is {} pixels, and 1,048,576 fit: 1280 x 720 or 1024 x 1024, sides up to 4,096; scale it down, \
-             since tiles would break the guarantee",
+            "{w} x {h} is {} pixels, and 1,048,576 fit, as 1280 x 720 or 1024 x 1024: scale it down; tiles would break \
+             the guarantee",
             grouped(w * h)
         ),
         (Refusal::Raster, Some(Header::Whole { w, h, offset, .. })) => format!(
@@ -186,7 +186,7 @@ mod tests {
             (b"P6 1;1 255 abc", "malformed header, ';' at byte 5"),
             (b"P6 1 1 65535 abcdef", "16-bit: save with 8 bits"),
             (b"P6 1 1 15 abc", "the third number is 15, and has to be 255: save with 8 bits"),
-            (b"P6 1920 1080 255 ", "1920 x 1080 is 2,073,600 pixels, and 1,048,576 fit: 1280 x 720 or 1024 x 1024"),
+            (b"P6 1920 1080 255 ", "1920 x 1080 is 2,073,600 pixels, and 1,048,576 fit, as 1280 x 720 or 1024 x 1024"),
             (b"P6 5000 1 255 ", "5000 x 1: sides are 1 to 4,096"),
             (b"P6 2 1 255 abc", "cut: 14 of 17 bytes are there"),
             (b"P6 1 1 255 abcP6 1 1 255 abc", "more than one frame in the file"),
