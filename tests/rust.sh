@@ -36,6 +36,19 @@ with the numbers above"
     fail "docs/EVIDENCE.md and its pictures are made from tools/evidence, not by hand. Next: \
 cargo run --release -p mlhe_evidence, and read the difference"
 
+# From a project elsewhere the crate is used by its path, and nothing is written here.
+user=$(mktemp -d)
+trap 'rm -rf "$user"' EXIT
+mkdir "$user/src"
+printf '[package]\nname = "user"\nversion = "0.0.0"\nedition = "2021"\n[dependencies]\nmlhe = { path = "%s/rust" }\n' \
+    "$PWD" > "$user/Cargo.toml"
+echo 'fn main() { println!("{}", mlhe::Frame::from_p6(b"P6 1 1 255 abc").unwrap().width()) }' > "$user/src/main.rs"
+touch "$out/before"
+(cd "$user" && CARGO_TARGET_DIR=$user/target cargo --quiet --offline run) | grep -qx 1 ||
+    fail "a project that uses the crate does not build and run"
+written=$(find rust target/staticlib -newer "$out/before" 2> /dev/null) || true
+[ -z "$written" ] || fail "the crate writes outside cargo's build folder: $written"
+
 # Both examples, as their documentation says: frames of the corpus with the house setting and with a list, the same
 # bytes from both; and what is wrong with a file is said, with a status that is not 0.
 make --quiet -C examples/c MLHE_LIBRARY="$MLHE_LIBRARY"

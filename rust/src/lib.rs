@@ -24,12 +24,12 @@
 //! - [`lent`] has the same calls on memory that the caller lends, and [`ffi`] the C functions as they are.
 //!
 //! ```
-//! use mlhe::{Frame, Memory, Refusal, Settings};
+//! use mlhe::{Frame, Memory, Refusal, Rule, Settings};
 //!
-//! let file = b"P6\n2 1\n255\n\x0a\x0a\x0a\x14\x14\x14";
-//! let frame = Frame::from_p6(file)?;
-//! let enhanced = frame.enhanced(&Settings::house(), &mut Memory::new())?;
-//! assert_eq!(enhanced.frame.to_p6(), file);
+//! let frame = Frame::from_p6(b"P6 2 1 255 \x0a\x0a\x0a\x14\x14\x14")?;
+//! let settings = Settings::house().with_last(0).with_rule(Rule::Plain { low: 0, high: 25_500 });
+//! let enhanced = frame.enhanced(&settings, &mut Memory::new())?;
+//! assert_eq!(enhanced.plane.values(), [128, 255]);
 //! # Ok::<(), Refusal>(())
 //! ```
 

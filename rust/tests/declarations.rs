@@ -1,7 +1,7 @@
 //! Nothing in the languages holds the declarations of the C functions against their source. This does: the functions of
-//! `crates/capi`, `include/mlhe.h` and `src/ffi.rs` have the same names, parameters and types, in the same order, and the
-//! house setting has the same numbers in `crates/enhance`, `include/mlhe.h` and `src/settings.rs`. Header and crate have
-//! the same version, refusals, reasons and sizes.
+//! `crates/capi`, `include/mlhe.h` and `src/ffi.rs` have the same names, parameters and types, in the same order, and
+//! the house setting has the same numbers in `crates/enhance`, `include/mlhe.h` and `src/settings.rs`. Header and crate
+//! have the same version, refusals, reasons and sizes.
 
 use mlhe::{Refusal, Rule, Settings};
 use mlhe::{

@@ -1,5 +1,5 @@
 //! What docs/REQUIREMENTS.md and docs/CLAIMS.md name is there: each definition in the file that the rule names, each
-//! wrong program, and each theorem in the file of its row.
+//! wrong program, and each theorem in the file of its row. The example of the crate's README is that of its page.
 
 use std::fs;
 use std::path::{Path, PathBuf};
@@ -81,4 +81,14 @@ fn the_theorems_of_the_claims_are_there() {
         }
     }
     assert!(count > 15, "only {count} theorems are named");
+}
+
+/// The example of the crate's page is compiled and run as a test.
+#[test]
+fn the_example_of_the_readme_is_that_of_the_page() {
+    let readme = text("rust/README.md");
+    let (_, rest) = readme.split_once("```rust\n").expect("an example");
+    let (example, _) = rest.split_once("```\n").expect("its end");
+    let page: String = example.lines().map(|line| format!("//! {line}").trim_end().to_string() + "\n").collect();
+    assert!(text("rust/src/lib.rs").contains(&format!("//! ```\n{page}")), "the page does not have:\n{page}");
 }
