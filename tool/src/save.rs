@@ -24,7 +24,8 @@ impl Beside {
         };
         let mut file = named(folder(place))?;
         file.write_all(bytes)?;
-        file.as_file().set_permissions(permissions)?;
+        // A file system that has no such rights keeps its own.
+        let _ = file.as_file().set_permissions(permissions);
         // A full disk may be told of as late as this.
         file.as_file().sync_all()?;
         Ok(Beside { file: file.into_temp_path(), place: place.to_owned() })
