@@ -25,10 +25,15 @@ for package in "${packages[@]}"; do
     [ "$state" = installed ] || missing+=("$package")
 done
 if [ "${#missing[@]}" -gt 0 ]; then
-    [ "$(id -u)" = 0 ] || fail "missing. Next: sudo apt-get install --no-install-recommends ${missing[*]}"
-    echo "tool: installing ${missing[*]}"
-    { apt-get update && apt-get install -y --no-install-recommends "${missing[@]}"; } > "$out/apt.log" 2>&1 ||
-        { tail -n 5 "$out/apt.log" && fail "not installed; all of it is in $out/apt.log"; }
+    install=(apt-get install --yes --no-install-recommends -o DPkg::Lock::Timeout=300 "${missing[@]}")
+    if [ "$(id -u)" != 0 ] || ! command -v apt-get > /dev/null; then
+        fail "Debian's ${missing[*]} are missing. Next, as root: ${install[*]}"
+    fi
+    echo "tool: installing what is missing: ${install[*]}"
+    export DEBIAN_FRONTEND=noninteractive
+    "${install[@]}" > "$out/apt.log" 2>&1 ||
+        { apt-get update > "$out/apt.log" 2>&1 && "${install[@]}" >> "$out/apt.log" 2>&1; } ||
+        { tail -n 20 "$out/apt.log" && fail "${missing[*]} cannot be installed"; }
 fi
 
 if [ -z "${MLHE_LIBRARY:-}" ]; then
