@@ -58,18 +58,13 @@ rust=target/cargo/release/examples/enhance
 frames=(tests/corpus/pil.ppm tests/corpus/imagemagick-4096x4.ppm tests/corpus/column-1x1024.ppm)
 # One limited pass on [0, 255], area 1, clip 10.
 printf 'MLP\1\0\1\0\0\377\1\0\1\0\0\0\12\0\0\0' > "$out/limited.mlp"
-for folder in house list; do
-    rm -rf "${out:?}/$folder"
-    mkdir -p "$out/$folder"
-done
-"$rust" --to "$out/house" "${frames[@]}"
-"$rust" --list "$out/limited.mlp" --to "$out/list" "${frames[@]}"
 for frame in "${frames[@]}"; do
     name=$(basename "$frame")
-    "$c" "$frame" "$out/c.ppm"
-    cmp "$out/c.ppm" "$out/house/$name" || fail "$name: examples/c and rust/examples differ with the house setting"
-    "$c" "$out/limited.mlp" "$frame" "$out/c.ppm"
-    cmp "$out/c.ppm" "$out/list/$name" || fail "$name: examples/c and rust/examples differ with a list"
+    for list in '' "$out/limited.mlp"; do
+        "$c" ${list:+"$list"} "$frame" "$out/c.ppm"
+        "$rust" ${list:+"$list"} "$frame" "$out/rust.ppm"
+        cmp "$out/c.ppm" "$out/rust.ppm" || fail "$name: examples/c and rust/examples differ, list '$list'"
+    done
 done
 
 # A command that has to end with status 1 and to name the file and the refusal on standard error.
@@ -83,7 +78,7 @@ refused() {
 }
 short=tests/corpus/truncated-middle.ppm
 refused "$short" 12 "$c" "$short" "$out/c.ppm"
-refused "$short" 12 "$rust" --to "$out/house" "${frames[0]}" "$short"
+refused "$short" 12 "$rust" "$short" "$out/rust.ppm"
 refused "$short" 15 "$c" "$short" "${frames[0]}" "$out/c.ppm"
-refused "$short" 15 "$rust" --list "$short" --to "$out/house" "${frames[0]}"
+refused "$short" 15 "$rust" "$short" "${frames[0]}" "$out/rust.ppm"
 echo "rust: tests, differential test, examples and evidence are in order"

@@ -16,6 +16,7 @@ MLHE_LIBRARY=none MLHE_FRAMES=none cargo clippy --quiet --locked --workspace --a
     fail "clippy warns. Next: MLHE_LIBRARY=none MLHE_FRAMES=none cargo clippy --workspace --all-targets -- \
 -W clippy::undocumented_unsafe_blocks -W unsafe_op_in_unsafe_fn"
 if command -v shellcheck > /dev/null; then
-    shellcheck .ci/run .ci/report .ci/budget tests/*.sh bench/run tools/edits tools/next || fail "shellcheck warns"
+    shellcheck .ci/run .ci/report .ci/budget tests/*.sh bench/run bench/folder tools/edits tools/next ||
+        fail "shellcheck warns"
 fi
 echo "style: the layout and the lints are in order"

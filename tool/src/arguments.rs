@@ -1,0 +1,112 @@
+//! The command line.
+
+use crate::Stop;
+use clap::{Args, Parser, Subcommand};
+use mlhe::{Frame, Memory, Rule, Settings};
+use std::path::PathBuf;
+
+/// Enhances frames by morpho-local histogram equalisation, on the proved library.
+#[derive(Parser)]
+#[command(name = "zopykue", version, propagate_version = true)]
+pub struct Arguments {
+    #[command(subcommand)]
+    pub command: Command,
+}
+
+#[derive(Subcommand)]
+pub enum Command {
+    Enhance(Enhance),
+    List(List),
+}
+
+/// Enhances P6 frames, several at once, into a folder
+///
+/// A given folder is taken with all below it: the files that are named .ppm or .pnm, without hidden ones. A given file
+/// is taken whatever its name. Results keep their names and the folders that they are in: left/f1.ppm is written to
+/// FOLDER/left/f1.ppm, whether left or left/f1.ppm is given. Everything is checked before the first frame is read: no
+/// two results are the same file, and none is an input. A result is written beside its place and renamed into it, so it
+/// is never there in part.
+///
+/// Frames have sides of at most 4,096 and at most 1,048,576 pixels; for larger ones nothing is done.
+///
+/// Exit status: 0, all were enhanced; 1, something was refused or failed; 2, bad usage, and nothing was done.
+#[derive(Args)]
+pub struct Enhance {
+    /// The folder for the results, made if it is not there
+    #[arg(long, value_name = "FOLDER")]
+    pub to: PathBuf,
+    /// Write the new intensity too, as a PGM file beside the frame: the plane that the guarantee is of, and the one to
+    /// match spots on
+    #[arg(long)]
+    pub plane: bool,
+    #[command(flatten)]
+    pub settings: Numbers,
+    /// Run the passes of a pass list, in place of settings
+    #[arg(long, value_name = "FILE", conflicts_with_all = ["last", "area", "plain", "limited"])]
+    pub list: Option<PathBuf>,
+    /// Write a line for each file, with tabs between file, size, answer, count and reason
+    #[arg(long, value_name = "FILE")]
+    pub report: Option<PathBuf>,
+    /// How many frames at once; all processor cores if it is not given. A frame takes about 20 MB while it is enhanced
+    #[arg(long, value_name = "N", value_parser = clap::value_parser!(u16).range(1..))]
+    pub jobs: Option<u16>,
+    /// Frames, and folders of frames
+    #[arg(required = true, value_name = "PATH")]
+    pub paths: Vec<PathBuf>,
+}
+
+/// Prints a pass list as text, or writes one
+///
+/// The list is read from a file, made from lines of text, or else the one that an enhancement with the settings equals.
+/// A line of text is a pass: first value, last value, least area, and `plain LOW HIGH` or `limited K`. Empty lines and
+/// what follows a # are passed over. What is printed has this form too.
+#[derive(Args)]
+pub struct List {
+    /// A pass list, in the bytes of its file format
+    #[arg(value_name = "FILE", conflicts_with_all = ["text", "last", "area", "plain", "limited"])]
+    pub file: Option<PathBuf>,
+    /// Lines of text; - is standard input
+    #[arg(long, value_name = "LINES", conflicts_with_all = ["last", "area", "plain", "limited"])]
+    pub text: Option<PathBuf>,
+    #[command(flatten)]
+    pub settings: Numbers,
+    /// Write the list to this file, in place of printing it
+    #[arg(long, value_name = "FILE")]
+    pub to: Option<PathBuf>,
+}
+
+/// The settings of an enhancement. What is not given is that of the house setting.
+#[derive(Args)]
+pub struct Numbers {
+    /// The last level, 0 to 7 [house setting: 7]
+    #[arg(long, value_name = "L")]
+    last: Option<u8>,
+    /// The least area of a component, in pixels [house setting: 20]
+    #[arg(long, value_name = "PIXELS")]
+    area: Option<u32>,
+    /// Histogram equalisation, kept back where the range of values grows by less than LOW or more than HIGH hundredths
+    /// [house setting: 80 300]
+    #[arg(long, num_args = 2, value_names = ["LOW", "HIGH"])]
+    plain: Option<Vec<u16>>,
+    /// Contrast-limited equalisation with a clip of K thousandths, in place of plain
+    #[arg(long, value_name = "K", conflicts_with = "plain")]
+    limited: Option<u16>,
+}
+
+impl Numbers {
+    /// The settings, which the library has accepted.
+    pub fn settings(&self) -> Result<Settings, Stop> {
+        let house = Settings::house();
+        let rule = match (self.plain.as_deref(), self.limited) {
+            (_, Some(k)) => Rule::Limited { k },
+            (Some(&[low, high]), None) => Rule::Plain { low, high },
+            _ => house.rule,
+        };
+        let settings = Settings::new(self.last.unwrap_or(house.last), self.area.unwrap_or(house.area), rule);
+        let pixel = Frame::new(1, 1, vec![0; 3]).expect("one pixel is a frame");
+        match pixel.enhanced(&settings, &mut Memory::new()) {
+            Ok(_) => Ok(settings),
+            Err(refusal) => Err(Stop::Usage(format!("the settings are {refusal}"))),
+        }
+    }
+}

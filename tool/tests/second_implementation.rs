@@ -1,0 +1,133 @@
+//! What the tool writes, against the second implementation for small frames and against the library's own calls for
+//! large ones: the frame, the plane beside it, and the count in the report.
+
+use mlhe_reference::{enhance, intensity, list_bytes, read, recolour, run_list, Pass, Rule, Settings, GREATEST_PIXELS};
+use std::fs;
+use std::path::{Path, PathBuf};
+use std::process::Command;
+
+/// Frame, plane and count, as the second implementation has them.
+type Answer = (Vec<u8>, Vec<u8>, u64);
+
+/// Frames of the corpus that are accepted.
+const FRAMES: [&str; 6] = [
+    "pil.ppm",
+    "imagemagick-gray.ppm",
+    "imagemagick-4096x4.ppm",
+    "column-1x1024.ppm",
+    "resaved-tabs.ppm",
+    "raster-all-hashes.ppm",
+];
+
+fn corpus(name: &str) -> PathBuf {
+    Path::new(env!("CARGO_MANIFEST_DIR")).join("../tests/corpus").join(name)
+}
+
+/// An empty folder for a test.
+fn folder(name: &str) -> PathBuf {
+    let folder = Path::new(env!("CARGO_TARGET_TMPDIR")).join(name);
+    let _ = fs::remove_dir_all(&folder);
+    fs::create_dir_all(&folder).unwrap();
+    folder
+}
+
+fn zopykue(words: &[&str]) {
+    let output = Command::new(env!("CARGO_BIN_EXE_zopykue")).args(words).output().unwrap();
+    assert!(output.status.success(), "{words:?}: {output:?}");
+}
+
+/// What the tool makes of a file with these words: frame, plane and count.
+fn written(folder: &Path, file: &Path, words: &[&str]) -> Answer {
+    let [to, report] = ["to", "report.tsv"].map(|name| folder.join(name));
+    let [to_word, report_word, file_word] = [&*to, &*report, file].map(|path| path.to_str().unwrap());
+    zopykue(&[&["enhance", "--plane", "--to", to_word, "--report", report_word], words, &[file_word]].concat());
+    let target = to.join(file.parent().unwrap().file_name().unwrap()).join(file.file_name().unwrap());
+    let report = fs::read_to_string(&report).unwrap();
+    let count = report.lines().nth(1).unwrap().split('\t').nth(3).unwrap().parse().unwrap();
+    (fs::read(&target).unwrap(), fs::read(target.with_extension("pgm")).unwrap(), count)
+}
+
+/// Header and raster of a file.
+fn file(kind: &str, w: usize, h: usize, raster: &[u8]) -> Vec<u8> {
+    [format!("{kind}\n{w} {h}\n255\n").as_bytes(), raster].concat()
+}
+
+fn of_settings(bytes: &[u8], settings: &Settings) -> Answer {
+    let header = read(bytes, GREATEST_PIXELS).unwrap();
+    let (w, h, frame) = (header.w, header.h, &bytes[header.offset..]);
+    let (mut plane, mut output) = (vec![0; w * h], vec![0; 3 * w * h]);
+    let count = enhance(frame, w, h, settings, &mut plane, w * h, w * h, &mut output).unwrap();
+    (file("P6", w, h, &output), file("P5", w, h, &plane), count)
+}
+
+fn of_list(bytes: &[u8], list: &[u8]) -> Answer {
+    let header = read(bytes, GREATEST_PIXELS).unwrap();
+    let (w, h, frame) = (header.w, header.h, &bytes[header.offset..]);
+    let (mut plane, mut output) = (vec![0; w * h], vec![0; 3 * w * h]);
+    intensity(frame, w, h, &mut plane).unwrap();
+    let count = run_list(list, &mut plane, w * h, w * h, w, h).unwrap();
+    recolour(frame, w, h, &plane, &mut output).unwrap();
+    (file("P6", w, h, &output), file("P5", w, h, &plane), count)
+}
+
+#[test]
+fn settings() {
+    let folder = folder("settings");
+    let plain = |last_level, area, low, high| Settings { last_level, area, rule: Rule::Plain { low, high } };
+    for (words, settings) in [
+        (&[][..], Settings::HOUSE),
+        (&["--last", "3", "--area", "5"], plain(3, 5, 80, 300)),
+        (&["--plain", "0", "25500", "--area", "1"], plain(7, 1, 0, 25_500)),
+        (&["--limited", "40", "--last", "2"], Settings { last_level: 2, area: 20, rule: Rule::Limited { k: 40 } }),
+    ] {
+        for name in FRAMES {
+            let bytes = fs::read(corpus(name)).unwrap();
+            assert!(written(&folder, &corpus(name), words) == of_settings(&bytes, &settings), "{name} {words:?}");
+        }
+    }
+}
+
+#[test]
+fn lists() {
+    let folder = folder("lists");
+    let [text, list] = ["list.txt", "list.mlp"].map(|name| folder.join(name));
+    let (text, list) = (text.to_str().unwrap(), list.to_str().unwrap());
+    fs::write(text, "# two passes\n\n 0 255 1 plain 0 25500\n16 200 3 limited 25 # clipped\n").unwrap();
+    zopykue(&["list", "--text", text, "--to", list]);
+    let passes = [
+        Pass { a: 0, b: 255, area: 1, rule: Rule::Plain { low: 0, high: 25_500 } },
+        Pass { a: 16, b: 200, area: 3, rule: Rule::Limited { k: 25 } },
+    ];
+    assert_eq!(fs::read(list).unwrap(), list_bytes(&passes));
+    for name in FRAMES {
+        let bytes = fs::read(corpus(name)).unwrap();
+        assert!(written(&folder, &corpus(name), &["--list", list]) == of_list(&bytes, &list_bytes(&passes)), "{name}");
+    }
+}
+
+#[test]
+fn the_list_of_settings_is_the_enhancement() {
+    let folder = folder("list-of-settings");
+    let list = folder.join("list.mlp");
+    let list = list.to_str().unwrap();
+    for words in [&[][..], &["--last", "4", "--area", "3", "--limited", "30"]] {
+        zopykue(&[&["list", "--to", list], words].concat());
+        let frame = corpus("opencv.ppm");
+        assert!(written(&folder, &frame, &["--list", list]) == written(&folder, &frame, words), "{words:?}");
+    }
+}
+
+#[test]
+fn large_frames() {
+    let folder = folder("large");
+    let tile = mlhe::Frame::from_p6(&fs::read(corpus("pil.ppm")).unwrap()).unwrap();
+    for (w, h) in [(1_024, 1_024), (4_096, 256), (640, 480)] {
+        let bytes: Vec<u8> = tile.bytes().iter().copied().cycle().take(3 * w * h).collect();
+        let frame = mlhe::Frame::new(w, h, bytes).unwrap();
+        let path = folder.join(format!("{w}x{h}.ppm"));
+        fs::write(&path, frame.to_p6()).unwrap();
+        let enhanced = frame.enhanced(&mlhe::Settings::house(), &mut mlhe::Memory::new()).unwrap();
+        let expected = (enhanced.frame.to_p6(), file("P5", w, h, enhanced.plane.values()), u64::from(enhanced.retoned));
+        assert!(written(&folder, &path, &[]) == expected, "{w}x{h}");
+    }
+}
