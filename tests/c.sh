@@ -5,22 +5,13 @@
 # Proves and builds the library first, unless MLHE_LIBRARY=path/to/libcapi.a names one that is there.
 set -euo pipefail
 cd "$(dirname "$0")/.."
+# shellcheck source=tests/common.sh
+. tests/common.sh
 out=$PWD/target/c
 rm -rf "$out"
 mkdir -p "$out"
 
-fail() {
-    echo "c: $1" >&2
-    exit 1
-}
-
-if [ -z "${MLHE_LIBRARY:-}" ]; then
-    rt staticlib capi > "$out/staticlib.log" 2>&1 ||
-        { cat "$out/staticlib.log" && tools/next "$out/staticlib.log" capi && fail "capi is not proved"; }
-    MLHE_LIBRARY=$PWD/target/staticlib/libcapi.a
-fi
-MLHE_LIBRARY=$(realpath "$MLHE_LIBRARY")
-export MLHE_LIBRARY
+library "$out"
 
 # Each header stands alone, without warnings.
 strict=(-Wall -Wextra -Wpedantic -Wconversion -Werror)

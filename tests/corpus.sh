@@ -4,6 +4,8 @@
 # written follow. Proves and builds the program first, unless nothing has changed since.
 set -euo pipefail
 cd "$(dirname "$0")/.."
+# shellcheck source=tests/common.sh
+. tests/common.sh
 
 # the manifest's column for the requirements as they stand
 column=expected
@@ -14,11 +16,6 @@ export CARGO_TARGET_DIR=$PWD/target/cargo
 program=target/bin/mlhe
 reference=target/cargo/release/program
 manifest=tests/corpus/MANIFEST.tsv
-
-fail() {
-    echo "corpus: $1" >&2
-    exit 1
-}
 
 rt check mlhe > "$out/check.log" 2>&1 ||
     { cat "$out/check.log" && tools/next "$out/check.log" mlhe && fail "mlhe is not proved"; }

@@ -3,12 +3,9 @@
 # builds the static library first, unless MLHE_FRAMES=path/to/libframes.a names one that is there. Offline.
 set -euo pipefail
 cd "$(dirname "$0")/.."
+# shellcheck source=tests/common.sh
+. tests/common.sh
 export CARGO_TARGET_DIR=$PWD/target/cargo
-
-fail() {
-    echo "hostile: $1" >&2
-    exit 1
-}
 
 if [ -z "${MLHE_FRAMES:-}" ]; then
     log=target/hostile.log

@@ -7,23 +7,14 @@
 #   tests/rust.sh --long     with the long differential test
 set -euo pipefail
 cd "$(dirname "$0")/.."
+# shellcheck source=tests/common.sh
+. tests/common.sh
 out=target/rust
 mkdir -p "$out"
 export CARGO_TARGET_DIR=$PWD/target/cargo
 
-fail() {
-    echo "rust: $1" >&2
-    exit 1
-}
-
 # The library is proved and built once, here, unless it is named, and all that follows links it.
-if [ -z "${MLHE_LIBRARY:-}" ]; then
-    rt staticlib capi > "$out/staticlib.log" 2>&1 ||
-        { cat "$out/staticlib.log" && tools/next "$out/staticlib.log" capi && fail "capi is not proved"; }
-    MLHE_LIBRARY=$PWD/target/staticlib/libcapi.a
-fi
-MLHE_LIBRARY=$(realpath "$MLHE_LIBRARY")
-export MLHE_LIBRARY
+library "$out"
 cargo=(cargo --quiet --locked)
 
 # tests/hostile.sh has the package that links another library.

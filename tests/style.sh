@@ -2,12 +2,9 @@
 # The layout of all sources, and the lints of the Rust packages. Proves nothing and links nothing.
 set -euo pipefail
 cd "$(dirname "$0")/.."
+# shellcheck source=tests/common.sh
+. tests/common.sh
 export CARGO_TARGET_DIR=$PWD/target/cargo
-
-fail() {
-    echo "style: $1" >&2
-    exit 1
-}
 
 rt fmt --check || fail "a crate is not in the layout. Next: rt fmt"
 cargo fmt --all --check || fail "Rust is not in the layout. Next: cargo fmt --all"

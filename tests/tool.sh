@@ -8,41 +8,22 @@
 # one.
 set -euo pipefail
 cd "$(dirname "$0")/.."
+# shellcheck source=tests/common.sh
+. tests/common.sh
 repository=$PWD
 out=$PWD/target/tool-test
 mkdir -p "$out"
 exec < /dev/null
 
-fail() {
-    echo "tool: $1" >&2
-    exit 1
-}
-
-packages=(librust-clap-dev librust-ctrlc-dev librust-indicatif-dev librust-rayon-dev librust-tempfile-dev)
+needed=(librust-clap-dev librust-ctrlc-dev librust-indicatif-dev librust-rayon-dev librust-tempfile-dev)
 missing=()
-for package in "${packages[@]}"; do
+for package in "${needed[@]}"; do
     state=$(dpkg-query --show --showformat='${db:Status-Status}' "$package" 2> /dev/null || true)
     [ "$state" = installed ] || missing+=("$package")
 done
-if [ "${#missing[@]}" -gt 0 ]; then
-    install=(apt-get install --yes --no-install-recommends -o DPkg::Lock::Timeout=300 "${missing[@]}")
-    if [ "$(id -u)" != 0 ] || ! command -v apt-get > /dev/null; then
-        fail "Debian's ${missing[*]} are missing. Next, as root: ${install[*]}"
-    fi
-    echo "tool: installing what is missing: ${install[*]}"
-    export DEBIAN_FRONTEND=noninteractive
-    "${install[@]}" > "$out/apt.log" 2>&1 ||
-        { apt-get update > "$out/apt.log" 2>&1 && "${install[@]}" >> "$out/apt.log" 2>&1; } ||
-        { tail -n 20 "$out/apt.log" && fail "${missing[*]} cannot be installed"; }
-fi
+packages "$out" "${missing[@]}"
 
-if [ -z "${MLHE_LIBRARY:-}" ]; then
-    rt staticlib capi > "$out/staticlib.log" 2>&1 ||
-        { cat "$out/staticlib.log" && tools/next "$out/staticlib.log" capi && fail "capi is not proved"; }
-    MLHE_LIBRARY=$PWD/target/staticlib/libcapi.a
-fi
-MLHE_LIBRARY=$(realpath "$MLHE_LIBRARY")
-export MLHE_LIBRARY
+library "$out"
 unset CARGO_TARGET_DIR
 
 # A lock that another release of Debian left would name versions that are not there.
