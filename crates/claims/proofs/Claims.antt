@@ -2,6 +2,7 @@
 use Prim.Native.Nat.{ℕ, _-_, _*_, _/_, _≤_}
 use mathlib.Core.Path.{_≡_, refl, sym, ap, subst, _∙_}
 use mathlib.Core.List.{List, [], _∷_}
+use native.Mathlib.Omega.{arith}
 use native.Mathlib.Nat.{le-of-lt}
 use lib.ListN.{length, take, drop}
 use lib.Seq.{take-at}
@@ -132,7 +133,7 @@ demand-2 = record {
           output-given O,
           (
             chain-accepted w h t frame plane marks queue output taken,
-            λ bytes. chain-published w h t frame plane marks queue output bytes taken,
+            λ bytes. chain-published w h t frame plane marks queue output (λ k. omega (arith, bytes .each k)) taken,
           ),
         ),
       );

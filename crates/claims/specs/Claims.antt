@@ -23,6 +23,7 @@
 --   Sequence           calls of `pass`, each lent the plane as the one before left it (passes/specs/Calls)
 --   readReply          what reading replies to some bytes (netpbm/specs/Reading)
 --   IsHeader, IsFrame  a list of bytes begins with a P6 header, is a P6 frame, by its parts (netpbm/specs/Frames)
+--   Bytes              every member is a byte (passlists/specs/Format)
 --   Emitted            what the program's function ensures: some bytes at the beginning of the output (frames)
 use Prim.Native.Nat.{ℕ, suc, _-_, _*_, _/_, _≤_, _<_}
 use mathlib.Core.Path.{_≡_}
@@ -49,7 +50,7 @@ use Rattle.enhance.specs.Published.{publishedOf}
 use Rattle.netpbm.specs.Reading.{frameRefusal, readReply}
 use Rattle.netpbm.specs.Frames.{IsHeader, IsFrame}
 use Rattle.netpbm.specs.Writing.{encoding, writeRefusal, WriteOutcome}
-use Rattle.passlists.specs.Format.{passesOf}
+use Rattle.passlists.specs.Format.{Bytes, passesOf}
 use Rattle.passlists.specs.Outcomes.{fileRefusal, memoryRefusal, ListOutcome, PassesOutcome}
 use Rattle.frames.specs.Program.{refusalLine, enhancedFrame, programOutput, Emitted}
 use Rattle.frames.specs.Program as program
@@ -128,10 +129,6 @@ pub record Had (n : ℕ) (e : Effect) (marks queue values plane' marks' queue' :
   pub marks-rest : Beyond n marks marks'
   pub queue-rest : Beyond n queue queue'
 
--- every member is a byte, as the type of a lent slice of bytes has it
-abbrev pub Bytes : List ℕ → Type 0
-Bytes xs = (k : ℕ) → at xs k ≤ 255
-
 pub record Demand2 : Type 0 where
   pub of-intensity : (w h : ℕ) {frame plane values plane' : List ℕ}
       → IntensityOutcome w h frame plane (gives values) plane' → plane' ≡ intensity frame
@@ -141,8 +138,8 @@ pub record Demand2 : Type 0 where
   pub of-recolour : (w h : ℕ) {frame plane output values output' : List ℕ}
       → RecolourOutcome w h frame plane output (gives values) output'
       → output' ≡ overwritten output (recolour frame plane)
-  -- the chain of passes that the requirements name, none of which is refused; it comes to what the published recursion
-  -- by components comes to
+  -- the chain of passes that the requirements name, none of which is refused; where the frame has bytes, as the type of
+  -- a lent frame says, it comes to what the published recursion by components comes to
   pub of-enhance : (w h : ℕ) (t : Settings) (frame : List ℕ)
       {plane marks queue output values plane' marks' queue' output' : List ℕ}
       → EnhanceOutcome w h t frame plane marks queue output (gives values) plane' marks' queue' output'

@@ -1,7 +1,6 @@
 -- What writing leaves.
 --
 --   wrote-refused, wrote-accepted   the contract, from a refusal and from bytes put into the output
---   wrote-nothing                   a refusal leaves the output as it was
 --   wrote-frame, wrote-beyond       the first bytes are the frame, and those beyond it are as they were
 --
 -- Assumes nothing.
@@ -17,8 +16,8 @@ use borrow.Author.Tests.{ltb-false, eqb-true, not-false}
 use Rattle.planes.specs.Refusals.{when, _▷_, sizeRefusal, greatestPixels, Sized}
 use Rattle.planes.proofs.Refusals.{when-none, ▷-none, sized}
 use Rattle.planes.specs.Lists.{at}
-use Rattle.planes.specs.Replies.{refuses, gives, after, overwritten}
-use Rattle.planes.proofs.Replies.{replied-refuses, replied-gives}
+use Rattle.planes.specs.Replies.{gives}
+use Rattle.planes.proofs.Replies.{replied-gives}
 use Rattle.netpbm.specs.Writing.{heading, encoding, writeRefusal, writtenReply, WriteOutcome, Put}
 use Rattle.netpbm.specs.declared.Written.the-variants.{Refused, Length}
 
@@ -55,14 +54,6 @@ module _ (raster : List ℕ) (w h : ℕ) (output : List ℕ) where
         answer = rw e (ap (λ (n : ℕ). gives (n ∷ [])) whole);
         output-is = rw e (p .leaves ∙ ap (λ (n : ℕ). encoding raster w h ++ drop n output) (zero-add size));
       }
-
-pub wrote-nothing : {raster : List ℕ} {w h : ℕ} {output : List ℕ} {number : ℕ} {output' : List ℕ}
-    → WriteOutcome raster w h output (refuses number) output' → output' ≡ output
-wrote-nothing {raster} {w} {h} {output} wrote =
-    let frame = encoding raster w h in
-    let (j, (is, _)) = replied-refuses (writeRefusal w h (length raster) (length output)) (length frame ∷ [])
-    (sym (wrote .answer)) in
-    wrote .output-is ∙ ap (λ (k : ℕ). after k output (overwritten output frame)) is
 
 module _ {raster : List ℕ} {w h : ℕ} {output : List ℕ} {size : ℕ} {output' : List ℕ}
     (wrote : WriteOutcome raster w h output (gives (size ∷ [])) output') where
