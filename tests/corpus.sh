@@ -39,7 +39,7 @@ Next: cmp $out/answer $out/reference; look at crates/frames and reference/src/pr
 # the answer is not the expected one
 wrong() {
     fail "$2: expected '$1', answered '$(head -c 14 "$out/answer" | tr '\n' ' ' | tr -cd '[:print:]')'. Next: the requirements decide \
-whether column $column of $manifest or crates/netpbm and crates/frames are wrong"
+whether column $column of $manifest or crates/headers, crates/netpbm and crates/frames are wrong"
 }
 
 # the program answered the line

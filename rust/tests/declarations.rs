@@ -1,6 +1,6 @@
 //! Nothing in the languages holds the declarations of the C functions against their source. This does: the functions of
 //! `crates/capi`, `include/mlhe.h` and `src/ffi.rs` have the same names, parameters and types, in the same order, and
-//! the house setting has the same numbers in `crates/enhance`, `include/mlhe.h` and `src/settings.rs`. Header and crate
+//! the house setting has the same numbers in `crates/levels`, `include/mlhe.h` and `src/settings.rs`. Header and crate
 //! have the same version, refusals, reasons and sizes.
 
 use mlhe::{Refusal, Rule, Settings};
@@ -112,7 +112,7 @@ fn the_declarations_of_the_program_agree() {
     assert!(header.contains("\nsize_t mlhe_program(const uint8_t *input, size_t input_length, uint8_t *output);\n"));
     let tested = text("tests/hostile/src/lib.rs");
     assert!(tested.contains("fn mlhe_program(input: *const u8, input_length: usize, output: *mut u8) -> usize;"));
-    let constants = text("crates/frames/src/lib.rt");
+    let constants = text("crates/frames/src/lib.rt") + &text("crates/printing/src/lib.rt");
     for name in ["INPUT", "OUTPUT", "PIXELS"] {
         let library = number_after(&constants, &format!("pub const {name}: usize = "));
         assert_eq!(number_after(&header, &format!("MLHE_PROGRAM_{name} = ")), library);
@@ -189,7 +189,7 @@ fn house_numbers(text: &str, prefix: &str, between: [&str; 4]) -> [u32; 4] {
 #[test]
 fn the_house_settings_agree() {
     let types = [": u8", ": u32", ": u16", ": u16"];
-    let library = house_numbers(&text("crates/enhance/src/lib.rt"), "pub const HOUSE_", types);
+    let library = house_numbers(&text("crates/levels/src/lib.rt"), "pub const HOUSE_", types);
     let header = text("include/mlhe.h");
     assert_eq!(house_numbers(&header, "MLHE_HOUSE_", [""; 4]), library);
     assert!(header.contains("MLHE_HOUSE_RULE = MLHE_PLAIN,"));

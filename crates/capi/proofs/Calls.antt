@@ -1,15 +1,19 @@
 -- What each C function does, by what the call under it does: the answer is encoded, and the memory is as the call
 -- leaves it. Where the numbers stand for no rule the call is not made. Assumes nothing.
-use Prim.Native.Nat.{ℕ, zero, suc, _*_, _≤_}
-use mathlib.Core.Path.{_≡_, refl, sym, ap, subst, _∙_}
+use Prim.Native.Nat.{ℕ}
+use mathlib.Core.Path.{_≡_, sym, ap, subst, _∙_}
 use mathlib.Core.List.{List, [], _∷_}
 use native.Mathlib.Omega.{arith}
 use lib.IntN.{ℤ}
-use lib.ListN.{length, drop, set, length-append}
+use lib.ListN.{length, length-append}
 use Rattle.planes.specs.Refusals.{_▷_, greatestPixels}
 use Rattle.planes.specs.Replies.{gives}
-use Rattle.planes.proofs.Refusals.{▷-none, ▷-left, ▷-right}
+use Rattle.planes.specs.Shapes.{shapeOf, lentRefusal}
+use Rattle.planes.specs.declared.Shape.{Shape}
+use Rattle.planes.proofs.Refusals.{▷-none, ▷-left, ▷-right, ▷-assoc}
 use Rattle.tones.specs.declared.Rule.{Rule}
+use Rattle.tones.specs.declared.RuleNumbers.{RuleNumbers}
+use Rattle.tones.specs.Numbers.{ruleOf, formRefusal}
 use Rattle.colours.specs.Calls.{intensityRefusal, recolourRefusal, statusReply, IntensityOutcome, RecolourOutcome}
 use Rattle.colours.specs.declared.Status.{Status}
 use Rattle.model.specs.declared.Pass.{Pass}
@@ -17,31 +21,25 @@ use Rattle.model.specs.declared.Answer.{Answer}
 use Rattle.model.specs.declared.Answer.the-variants as Answer
 use Rattle.model.specs.Effects.{Effect, counts}
 use Rattle.model.specs.Outcomes.{answerReply, Outcome, OutputOutcome}
-use Rattle.model.specs.Calls.{lentRefusal, numbersRefusal, passRefusal}
+use Rattle.model.specs.Calls.{numbersRefusal, passRefusal}
 use Rattle.model.proofs.Outcomes.{outcome-number, refused-by, output-number, output-refused-by}
-use Rattle.passes.specs.Calls.{refusalOf, PassOutcome}
-use Rattle.enhance.specs.declared.Settings.{Settings}
+use Rattle.passes.specs.Calls.{passCallRefusal, PassOutcome}
+use Rattle.levels.specs.declared.Settings.{Settings}
 use Rattle.enhance.specs.Calls as enhance
-use Rattle.passlists.specs.Format.{ruleOf}
+use Rattle.texts.specs.Heading.{heading}
+use Rattle.texts.proofs.Heading.{heading-short}
 use Rattle.netpbm.specs.declared.Header.{Header}
 use Rattle.netpbm.specs.declared.Header.the-variants as Header
 use Rattle.netpbm.specs.Reading.{readAnswer}
 use Rattle.netpbm.specs.declared.Written.{Written}
-use Rattle.netpbm.specs.Writing.{heading, encoding, writeRefusal, writtenReply, WriteOutcome}
+use Rattle.netpbm.specs.Writing.{encoding, writeRefusal, writtenReply, WriteOutcome}
 use Rattle.netpbm.proofs.Writing.{wrote-size, wrote-writable}
-use Rattle.netpbm.proofs.Heading.{heading-length}
-use Rattle.netpbm.proofs.Decimal.{decimal-numeral}
-use Rattle.capi.specs.Numbers.{encoded, numberReply, doneReply, statusNumber, answerNumber, writtenNumber, Short}
-use Rattle.capi.specs.Numbers.{formRefusal, passOf, settingsOf}
+use Rattle.cnumbers.specs.Numbers.{encoded, numberReply, doneReply, statusNumber, answerNumber, writtenNumber, Short}
+use Rattle.cnumbers.specs.Numbers.{numbersFor, passOf, settingsOf}
 use Rattle.capi.specs.Calls.{passRefusalOf, PassNumber, enhanceRefusalOf, EnhanceNumber}
-use Rattle.capi.specs.Calls.{readNumber, numbersAfter, ReadNumber}
-use Rattle.capi.proofs.Numbers.{status-reads, answer-reads, written-reads}
-
--- ## Orders of refusals
-
-▷-assoc : (x y z : ℕ) → x ▷ (y ▷ z) ≡ (x ▷ y) ▷ z
-▷-assoc zero y z = refl
-▷-assoc (suc x) y z = refl
+use Rattle.cnumbers.specs.Numbers.{readNumber, numbersAfter}
+use Rattle.capi.specs.Calls.{ReadNumber}
+use Rattle.cnumbers.proofs.Numbers.{status-reads, answer-reads, written-reads}
 
 -- ## Outcomes with the answer as a number
 
@@ -90,9 +88,18 @@ module _ {n number : ℕ} {e : Effect} {plane marks queue plane' marks' queue' :
 -- ## Passes
 
 module _ (w h a b area rule first second : ℕ) (plane marks queue : List ℕ) where
+  abbrev z : Shape
+  z = shapeOf w h
+
+  abbrev numbers : RuleNumbers
+  numbers = numbersFor rule first second
+
   -- 1 to 4 and 17
+  abbrev lent : ℕ
+  lent = lentRefusal z (length plane) (length marks) (length queue)
+
   abbrev passFirst : ℕ
-  passFirst = lentRefusal w h (length plane) (length marks) (length queue) ▷ formRefusal rule second
+  passFirst = lent ▷ formRefusal numbers
 
   abbrev thePass : Pass
   thePass = passOf a b area rule first second
@@ -101,48 +108,50 @@ module _ (w h a b area rule first second : ℕ) (plane marks queue : List ℕ) w
   abbrev ruled : Rule → Pass
   ruled x = record { a = a; b = b; area = area; rule = x }
 
-  pass-order : passRefusalOf w h rule second thePass plane marks queue ≡ passFirst ▷ numbersRefusal thePass
+  pass-order : passRefusalOf z numbers thePass plane marks queue ≡ passFirst ▷ numbersRefusal thePass
   unfolding passRefusalOf
-  pass-order = ▷-assoc (lentRefusal w h (length plane) (length marks) (length queue)) (formRefusal rule second) _
+  pass-order = sym (▷-assoc lent (formRefusal numbers) _)
 
   -- refused before the pass is made
   pub pass-refused : {k : ℕ} {r : ℤ} → k ≡ passFirst → (k ≡ 0 → ⊥) → r ≡ encoded k 0
       → PassNumber w h a b area rule first second plane marks queue r plane marks queue
   pass-refused {k} e f d =
-      let is : k ≡ passRefusalOf w h rule second thePass plane marks queue =
-      e ∙ sym (pass-order ∙ ▷-left passFirst _ (λ z. f (e ∙ z))) in
+      let is : k ≡ passRefusalOf z numbers thePass plane marks queue =
+      e ∙ sym (pass-order ∙ ▷-left passFirst _ (λ x. f (e ∙ x))) in
       coded (Answer.Refused k) d (refused-by k is f)
 
   -- with no refusal before it, those of the call are the pass's
   pass-same : passFirst ≡ 0
-      → passRefusalOf w h rule second thePass plane marks queue ≡ refusalOf w h thePass plane marks queue
+      → passRefusalOf z numbers thePass plane marks queue ≡ passCallRefusal z thePass plane marks queue
   unfolding passRefusal
   pass-same e =
-      let lent = ▷-none (lentRefusal w h (length plane) (length marks) (length queue)) _ e .0 in
-      pass-order ∙ ▷-right passFirst _ e ∙ sym (▷-right _ _ lent)
+      pass-order ∙ ▷-right passFirst _ e ∙ sym (▷-right lent _ (▷-none lent _ e .0))
 
   pub pass-made : {rule' : Rule} {plane' marks' queue' : List ℕ} (s : Answer) {r : ℤ} → passFirst ≡ 0
-      → rule' ≡ ruleOf rule first second
-      → PassOutcome w h (ruled rule') plane marks queue (answerReply s) plane' marks' queue'
+      → rule' ≡ ruleOf numbers
+      → PassOutcome z (ruled rule') plane marks queue (answerReply s) plane' marks' queue'
       → r ≡ answerNumber s
       → PassNumber w h a b area rule first second plane marks queue r plane' marks' queue'
   pass-made {rule'} {plane'} {marks'} {queue'} s e d o g =
-      let made : PassOutcome w h thePass plane marks queue (answerReply s) plane' marks' queue' =
-      subst (λ (x : Rule). PassOutcome w h (ruled x) plane marks queue (answerReply s) plane' marks' queue') d o in
+      let made : PassOutcome z thePass plane marks queue (answerReply s) plane' marks' queue' =
+      subst (λ (x : Rule). PassOutcome z (ruled x) plane marks queue (answerReply s) plane' marks' queue') d o in
       coded s g (outcome-number (sym (pass-same e)) made)
 
 -- ## Enhancement
 
 module _ (w h last area rule first second : ℕ) (frame plane marks queue output : List ℕ) where
-  -- 1, 2, 3; 4, 14; and with 17
-  abbrev shape : ℕ
-  shape = intensityRefusal w h (length frame) (length plane)
+  abbrev shape : Shape
+  shape = shapeOf w h
 
+  abbrev ruleNumbers : RuleNumbers
+  ruleNumbers = numbersFor rule first second
+
+  -- 1, 2, 3, 4, 14; and with 17
   abbrev memory : ℕ
-  memory = enhance.memoryRefusal (w * h) (length marks) (length queue) (length output)
+  memory = enhance.memoryRefusal shape (length frame) (length plane) (length marks) (length queue) (length output)
 
   abbrev enhanceFirst : ℕ
-  enhanceFirst = shape ▷ memory ▷ formRefusal rule second
+  enhanceFirst = memory ▷ formRefusal ruleNumbers
 
   abbrev theSettings : Settings
   theSettings = settingsOf last area rule first second
@@ -152,49 +161,39 @@ module _ (w h last area rule first second : ℕ) (frame plane marks queue output
   settled x = record { last = last; area = area; rule = x }
 
   abbrev enhanceWhole : ℕ
-  enhanceWhole = enhanceRefusalOf w h rule second theSettings frame plane marks queue output
+  enhanceWhole = enhanceRefusalOf shape ruleNumbers theSettings frame plane marks queue output
 
   enhance-order : enhanceWhole ≡ enhanceFirst ▷ enhance.settingsRefusal theSettings
   unfolding enhanceRefusalOf
-  enhance-order =
-      ap (λ (x : ℕ). shape ▷ x) (▷-assoc memory (formRefusal rule second) _)
-      ∙ ▷-assoc shape (memory ▷ formRefusal rule second) _
+  enhance-order = sym (▷-assoc memory (formRefusal ruleNumbers) _)
 
   -- refused before the enhancement is made
   pub enhance-refused : {k : ℕ} {r : ℤ} → k ≡ enhanceFirst → (k ≡ 0 → ⊥) → r ≡ encoded k 0
       → EnhanceNumber w h last area rule first second frame plane marks queue output r plane marks queue output
   enhance-refused {k} e f d =
-      let is : k ≡ enhanceWhole = e ∙ sym (enhance-order ∙ ▷-left enhanceFirst _ (λ z. f (e ∙ z))) in
+      let is : k ≡ enhanceWhole = e ∙ sym (enhance-order ∙ ▷-left enhanceFirst _ (λ x. f (e ∙ x))) in
       output-coded (Answer.Refused k) d (output-refused-by k is f)
 
   -- with no refusal before it, those of the call are the enhancement's
-  enhance-same : enhanceFirst ≡ 0 → enhanceWhole ≡ enhance.refusalOf w h theSettings frame plane marks queue output
+  enhance-same : enhanceFirst ≡ 0
+      → enhanceWhole ≡ enhance.enhanceCallRefusal shape theSettings frame plane marks queue output
   unfolding enhance.enhanceRefusal
   enhance-same e =
-      let first = ▷-none shape _ e in
-      let second = ▷-none memory _ (first .1) in
-      enhance-order ∙ ▷-right enhanceFirst _ e ∙ sym (▷-right shape _ (first .0) ∙ ▷-right memory _ (second .0))
+      enhance-order ∙ ▷-right enhanceFirst _ e ∙ sym (▷-right memory _ (▷-none memory _ e .0))
 
   pub enhance-made : {rule' : Rule} {plane' marks' queue' output' : List ℕ} (s : Answer) {r : ℤ} → enhanceFirst ≡ 0
-      → rule' ≡ ruleOf rule first second
-      → enhance.EnhanceOutcome w h (settled rule') frame plane marks queue output (answerReply s)
+      → rule' ≡ ruleOf ruleNumbers
+      → enhance.EnhanceOutcome shape (settled rule') frame plane marks queue output (answerReply s)
       plane' marks' queue' output'
       → r ≡ answerNumber s
       → EnhanceNumber w h last area rule first second frame plane marks queue output r plane' marks' queue' output'
   enhance-made {rule'} {plane'} {marks'} {queue'} {output'} s e d o g =
       let Made : Rule → Type 0 =
-      λ x. enhance.EnhanceOutcome w h (settled x) frame plane marks queue output (answerReply s)
+      λ x. enhance.EnhanceOutcome shape (settled x) frame plane marks queue output (answerReply s)
       plane' marks' queue' output' in
       output-coded s g (output-number (sym (enhance-same e)) (subst Made d o))
 
 -- ## Reading
-
-pub three : (numbers : List ℕ) (w h offset : ℕ) → 3 ≤ length numbers
-    → set (set (set numbers 0 w) 1 h) 2 offset ≡ w ∷ h ∷ offset ∷ drop 3 numbers
-three [] w h offset e = absurd (omega arith)
-three (x ∷ []) w h offset e = absurd (omega arith)
-three (x ∷ y ∷ []) w h offset e = absurd (omega arith)
-three (x ∷ y ∷ z ∷ numbers) w h offset e = refl
 
 pub read-refused : {bytes numbers : List ℕ} {k : ℕ} {r : ℤ} → readAnswer bytes greatestPixels ≡ Header.Refused k
     → r ≡ encoded k 0 → ReadNumber bytes numbers r numbers
@@ -223,8 +222,6 @@ write-short {w} {h} {raster} {output} {output'} s o = record {
       subst (λ (x : Written). WriteOutcome raster w h output (writtenReply x) output') e o in
       let fits = wrote-writable wrote in
       let sides = fits .size in
-      let counted = heading-length w h in
-      let wide = decimal-numeral w (omega (arith, sides .narrow)) .few in
-      let high = decimal-numeral h (omega (arith, sides .low)) .few in
+      let short = heading-short w h (omega (arith, sides .narrow)) (omega (arith, sides .low)) in
       omega (arith, wrote-size wrote, length-append (heading w h) raster, sides .few, fits .filled);
 }

@@ -6,6 +6,7 @@ use crate::parts;
 use crate::records;
 use enhance::Settings;
 use model::Answer;
+use planes::Shape;
 
 // Room for marks and queue, and for an output.
 const MEMORY: usize = 320;
@@ -14,6 +15,11 @@ const OUTPUT: usize = 3200;
 
 // What every byte of an output is before the call.
 const FILL: u8 = 170;
+
+// The shape of a case.
+fn shape_of(case: Case) -> Shape {
+    Shape::new(case.w, case.h)
+}
 
 // The settings of a case.
 fn settings_of(case: Case) -> Settings {
@@ -46,8 +52,7 @@ fn pass_with(case: Case, plane: &mut [u8], marks: &mut [u8], queue: &mut [u32]) 
         plane,
         marks,
         queue,
-        case.w,
-        case.h,
+        shape_of(case),
         records::case_pass(case),
     );
     lines::answer(answer);
@@ -70,7 +75,7 @@ pub fn pass(case: Case, plane: &mut [u8]) {
 
 // A list with lent working memory.
 fn list_with(case: Case, bytes: &[u8], plane: &mut [u8], marks: &mut [u8], queue: &mut [u32]) {
-    let answer = passlists::run_list(bytes, plane, marks, queue, case.w, case.h);
+    let answer = passlists::run_list(bytes, plane, marks, queue, shape_of(case));
     lines::answer(answer);
     lines::bytes(plane);
     end_with_strays(answer, plane.len(), marks, queue);
@@ -94,7 +99,7 @@ pub fn list(case: Case, bytes: &[u8], plane: &mut [u8]) {
 fn passes_with(case: Case, bytes: &[u8], plane: &mut [u8], marks: &mut [u8], queue: &mut [u32]) {
     let list = records::passes_of(bytes);
     let count = bytes.len() / records::RECORD;
-    let answer = passarrays::run_array(list, count, plane, marks, queue, case.w, case.h);
+    let answer = passarrays::run_array(list, count, plane, marks, queue, shape_of(case));
     lines::answer(answer);
     lines::bytes(plane);
     end_with_strays(answer, plane.len(), marks, queue);
@@ -137,7 +142,7 @@ fn enhance_with(
     queue: &mut [u32],
     output: &mut [u8],
 ) {
-    let answer = enhance::enhance(frame, case.w, case.h, settings, plane, marks, queue, output);
+    let answer = enhance::enhance(frame, shape_of(case), settings, plane, marks, queue, output);
     lines::answer(answer);
     lines::bytes(plane);
     lines::bytes(output);

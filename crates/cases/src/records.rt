@@ -5,19 +5,19 @@ use crate::head::Case;
 use model::Pass;
 use passarrays::ROOM;
 use tones::Rule;
+use tones::RuleNumbers;
 
 // The length of a record.
 pub const RECORD: usize = 12;
 
 // The tone rule of these numbers.
-fn rule_of(rule: u8, first: u16, second: u16) -> Rule {
-    if rule == 0 {
-        return Rule::Plain {
-            low: first,
-            high: second,
-        };
-    }
-    Rule::Limited { k: first }
+fn rule_of(code: u8, first: u16, second: u16) -> Rule {
+    tones::rule_of(RuleNumbers {
+        code,
+        extra: 0,
+        first,
+        second,
+    })
 }
 
 // The tone rule of a case.
@@ -32,7 +32,7 @@ pub fn case_pass(case: Case) -> Pass {
         a: case.a,
         b: case.b,
         area: case.area,
-        rule: rule,
+        rule,
     }
 }
 
@@ -68,7 +68,7 @@ fn pass_at(bytes: &[u8], i: usize) -> Pass
         a: byte_at(bytes, i),
         b: byte_at(bytes, i + 1),
         area: long_at(bytes, i + 4),
-        rule: rule,
+        rule,
     }
 }
 

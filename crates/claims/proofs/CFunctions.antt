@@ -1,5 +1,5 @@
 -- The C functions answer what the calls answer: `c-functions`. Assumes nothing.
-use Prim.Native.Nat.{ℕ, zero, suc, _*_, _≤_, _<_}
+use Prim.Native.Nat.{ℕ, zero, suc, _≤_, _<_}
 use mathlib.Core.Path.{_≡_, refl, sym, ap, subst, _∙_}
 use mathlib.Core.Bool.{Bool, cond}
 use mathlib.Core.List.{List, [], _∷_}
@@ -10,7 +10,11 @@ use lib.Dec.{ltb}
 use borrow.Author.Tests.{lt-ltb, le-ltb}
 use Rattle.planes.specs.Refusals.{when, _▷_, greatestPixels}
 use Rattle.planes.specs.Replies.{Reply, refuses, gives, replied}
+use Rattle.planes.specs.Shapes.{shapeOf, lentRefusal}
+use Rattle.planes.specs.declared.Shape.{Shape}
 use Rattle.planes.proofs.Refusals.{▷-none}
+use Rattle.tones.specs.declared.RuleNumbers.{RuleNumbers}
+use Rattle.tones.specs.Numbers.{formRefusal}
 use Rattle.planes.proofs.Replies.{refuses-not-gives, gives-same, replied-refused}
 use Rattle.colours.specs.declared.Status.{Status}
 use Rattle.colours.specs.declared.Status.the-variants as Status
@@ -20,9 +24,9 @@ use Rattle.model.specs.declared.Answer.{Answer}
 use Rattle.model.specs.declared.Answer.the-variants as Answer
 use Rattle.model.specs.Effects.{Effect, counts}
 use Rattle.model.specs.Outcomes.{answerReply, Outcome, OutputOutcome}
-use Rattle.model.specs.Calls.{lentRefusal, numbersRefusal, passRefusal}
+use Rattle.model.specs.Calls.{numbersRefusal, passRefusal}
 use Rattle.model.proofs.Outcomes.{outcome-number, output-number, outcome-stays, output-stays}
-use Rattle.enhance.specs.declared.Settings.{Settings}
+use Rattle.levels.specs.declared.Settings.{Settings}
 use Rattle.passes.specs.Calls.{PassOutcome}
 use Rattle.enhance.specs.Calls.{settingsRefusal, memoryRefusal, enhanceRefusal, EnhanceOutcome}
 use Rattle.passlists.specs.Outcomes.{ListOutcome}
@@ -33,9 +37,10 @@ use Rattle.netpbm.specs.declared.Written.the-variants as Written
 use Rattle.netpbm.specs.Reading.{readAnswer}
 use Rattle.netpbm.specs.Writing.{writtenReply, WriteOutcome}
 use Rattle.netpbm.proofs.Replies.{refused-answer, framed-answer, refused-some}
-use Rattle.capi.specs.Numbers.{encoded, numberReply, doneReply, statusNumber, answerNumber, writtenNumber}
-use Rattle.capi.specs.Numbers.{formRefusal, passOf, settingsOf}
-use Rattle.capi.specs.Calls.{passRefusalOf, enhanceRefusalOf, readNumber, numbersAfter, ReadNumber}
+use Rattle.cnumbers.specs.Numbers.{encoded, numberReply, doneReply, statusNumber, answerNumber, writtenNumber}
+use Rattle.cnumbers.specs.Numbers.{numbersFor, passOf, settingsOf}
+use Rattle.cnumbers.specs.Numbers.{readNumber, numbersAfter}
+use Rattle.capi.specs.Calls.{passRefusalOf, enhanceRefusalOf, ReadNumber}
 use Rattle.claims.specs.CFunctions.{Stands, CFunctions}
 
 -- ## From a number to the answer that it stands for
@@ -101,26 +106,23 @@ module _ {n number : ℕ} {e : Effect} {plane marks queue plane' marks' queue' :
 some-17 : (x : ℕ) → x ▷ 17 ≡ 0 → ⊥
 some-17 x e = omega (arith, ▷-none x 17 e .1)
 
-module _ (w h rule second : ℕ) (s : Pass) (plane marks queue : List ℕ) where
+module _ (z : Shape) (n : RuleNumbers) (s : Pass) (plane marks queue : List ℕ) where
   abbrev lent : ℕ
-  lent = lentRefusal w h (length plane) (length marks) (length queue)
+  lent = lentRefusal z (length plane) (length marks) (length queue)
 
-  pass-by : (k : ℕ) → formRefusal rule second ≡ k
-      → passRefusalOf w h rule second s plane marks queue ≡ lent ▷ k ▷ numbersRefusal s
+  pass-by : (k : ℕ) → formRefusal n ≡ k
+      → passRefusalOf z n s plane marks queue ≡ lent ▷ k ▷ numbersRefusal s
   unfolding passRefusalOf
   pass-by k e = ap (λ (x : ℕ). lent ▷ x ▷ numbersRefusal s) e
 
-module _ (w h rule second : ℕ) (t : Settings) (frame plane marks queue output : List ℕ) where
-  abbrev shape : ℕ
-  shape = intensityRefusal w h (length frame) (length plane)
-
+module _ (z : Shape) (n : RuleNumbers) (t : Settings) (frame plane marks queue output : List ℕ) where
   abbrev memory : ℕ
-  memory = memoryRefusal (w * h) (length marks) (length queue) (length output)
+  memory = memoryRefusal z (length frame) (length plane) (length marks) (length queue) (length output)
 
-  enhance-by : (k : ℕ) → formRefusal rule second ≡ k
-      → enhanceRefusalOf w h rule second t frame plane marks queue output ≡ shape ▷ memory ▷ k ▷ settingsRefusal t
+  enhance-by : (k : ℕ) → formRefusal n ≡ k
+      → enhanceRefusalOf z n t frame plane marks queue output ≡ memory ▷ k ▷ settingsRefusal t
   unfolding enhanceRefusalOf
-  enhance-by k e = ap (λ (x : ℕ). shape ▷ memory ▷ x ▷ settingsRefusal t) e
+  enhance-by k e = ap (λ (x : ℕ). memory ▷ x ▷ settingsRefusal t) e
 
 -- ## Reading
 
@@ -166,30 +168,35 @@ c-functions = record {
       stands-status (λ y. RecolourOutcome w h frame plane output y output')
       (recolourRefusal w h (length frame) (length plane) (length output)) r (O .answer) O;
   of-pass = λ w h a b area rule first second {plane} {marks} {queue} {plane'} {marks'} {queue'} r fine O.
+      let z = shapeOf w h in
       let s = passOf a b area rule first second in
-      stands-answer (λ y. PassOutcome w h s plane marks queue y plane' marks' queue') r
-      (outcome-number (pass-by w h rule second s plane marks queue 0 fine) O);
+      stands-answer (λ y. PassOutcome z s plane marks queue y plane' marks' queue') r
+      (outcome-number (pass-by z (numbersFor rule first second) s plane marks queue 0 fine) O);
   of-no-pass = λ w h a b area rule first second {plane} {marks} {queue} r bad O.
+      let z = shapeOf w h in
+      let n = numbersFor rule first second in
       let s = passOf a b area rule first second in
-      refused-outcome (some-17 (lent w h rule second s plane marks queue))
-      (outcome-number (pass-by w h rule second s plane marks queue 17 bad) O);
+      refused-outcome (some-17 (lent z n s plane marks queue))
+      (outcome-number (pass-by z n s plane marks queue 17 bad) O);
   of-list = λ w h list {plane} {marks} {queue} {plane'} {marks'} {queue'} r O.
-      stands-answer (λ y. ListOutcome w h list plane marks queue y plane' marks' queue') r O;
+      stands-answer (λ y. ListOutcome (shapeOf w h) list plane marks queue y plane' marks' queue') r O;
   of-enhance = λ w h last area rule first second frame {plane} {marks} {queue} {output} {plane'} {marks'} {queue'}
       {output'} r fine O.
+      let z = shapeOf w h in
       let t = settingsOf last area rule first second in
       stands-answer
-      (λ y. EnhanceOutcome w h t frame plane marks queue output y plane' marks' queue' output') r
-      (output-number (enhance-by w h rule second t frame plane marks queue output 0 fine) O);
+      (λ y. EnhanceOutcome z t frame plane marks queue output y plane' marks' queue' output') r
+      (output-number (enhance-by z (numbersFor rule first second) t frame plane marks queue output 0 fine) O);
   of-no-enhance = λ w h last area rule first second frame {plane} {marks} {queue} {output} r bad O.
+      let z = shapeOf w h in
+      let n = numbersFor rule first second in
       let t = settingsOf last area rule first second in
-      let x = shape w h rule second t frame plane marks queue output in
-      let y = memory w h rule second t frame plane marks queue output in
-      refused-output (λ e. some-17 y (▷-none x (y ▷ 17) e .1))
-      (output-number (enhance-by w h rule second t frame plane marks queue output 17 bad) O);
+      refused-output (some-17 (memory z n t frame plane marks queue output))
+      (output-number (enhance-by z n t frame plane marks queue output 17 bad) O);
   of-write = λ w h {raster} {output} {output'} r O.
       stands-written (λ y. WriteOutcome raster w h output y output') r O;
   of-read-refused = λ bytes numbers r k e R. read-refuses bytes numbers r R k (refused-answer bytes greatestPixels e);
   of-read = λ bytes numbers r w h offset e R. reads bytes numbers r R w h offset (framed-answer bytes greatestPixels e);
-  of-read-short = λ bytes numbers r w h offset e R. short bytes numbers r R w h offset (framed-answer bytes greatestPixels e);
+  of-read-short = λ bytes numbers r w h offset e R. short bytes numbers r R w h offset
+      (framed-answer bytes greatestPixels e);
 }

@@ -7,6 +7,9 @@ use native.Mathlib.Nat.{le-of-lt}
 use lib.ListN.{length, take, drop}
 use lib.Seq.{take-at}
 use Rattle.planes.specs.Lists.{at}
+use Rattle.planes.specs.Shapes.{pixels, neighbours}
+use Rattle.planes.specs.declared.Shape.{Shape}
+use Rattle.planes.proofs.Shapes.{neighbours-sym}
 use Rattle.planes.specs.Replies.{Reply, refuses, gives, replied, after, overwritten}
 use Rattle.planes.proofs.Replies.{refuses-not-gives, gives-same, replied-refuses, replied-gives}
 use Rattle.colours.specs.Frames.{intensity, recolour}
@@ -21,7 +24,7 @@ use Rattle.model.specs.Enhancement.{enhanced}
 use Rattle.model.proofs.Outcomes.{outcome-given, outcome-stays, output-given}
 use Rattle.model.proofs.Chains.{Fine, chain-fine}
 use Rattle.passes.proofs.Calls.{sequence-is}
-use Rattle.enhance.specs.declared.Settings.{Settings}
+use Rattle.levels.specs.declared.Settings.{Settings}
 use Rattle.enhance.specs.Calls.{chainOf, EnhanceOutcome}
 use Rattle.enhance.proofs.Calls.{fine, chain-accepted}
 use Rattle.enhance.proofs.Published.{chain-published}
@@ -31,9 +34,9 @@ use Rattle.netpbm.proofs.Replies.{malformed-reply, headed-reply, framed-reply}
 use Rattle.passlists.proofs.Chains.{list-taken, list-chain, passes-taken, passes-chain}
 use Rattle.frames.specs.Program.{programOutput}
 use Rattle.frames.proofs.Program.{long-output, frame-output, refused-output}
-use Rattle.claims.specs.Claims.{AsListed, ReadAsListed, Writes, Demand1, Had, Demand2, Shapes, Coloured}
+use Rattle.claims.specs.Claims.{AsListed, ReadAsListed, Writes, Demand1, Had, Demand2, ShapePreserving, Coloured}
 use Rattle.claims.specs.Claims.{Demand3Holds, passesChain, Chained, ListsAreChains}
-use Rattle.claims.proofs.Shapes.{fine-shapes, grey-file}
+use Rattle.claims.proofs.ShapePreserving.{fine-shapes, grey-file}
 
 -- ## Demand 1
 
@@ -61,7 +64,8 @@ module _ {n number : ℕ} {e : Effect} {plane marks queue plane' marks' queue' :
       outcome-stays (subst (λ (y : Reply). Outcome n number e plane marks queue y plane' marks' queue') q O)
 
 module _ {n number : ℕ} {e : Effect} {bytes plane marks queue output plane' marks' queue' output' : List ℕ}
-    {reply : Reply} (O : OutputOutcome n number e bytes plane marks queue output reply plane' marks' queue' output') where
+    {reply : Reply}
+    (O : OutputOutcome n number e bytes plane marks queue output reply plane' marks' queue' output') where
   unwritten : (k : ℕ) → reply ≡ refuses k
       → (plane' ≡ plane) × ((marks' ≡ marks) × ((queue' ≡ queue) × (output' ≡ output)))
   unwritten k q =
@@ -88,14 +92,14 @@ demand-1 = record {
   of-intensity = λ w h {frame} {plane} O.
       let number = intensityRefusal w h (length frame) (length plane) in
       (as-listed number [] (O .answer), stays number [] plane (intensity frame) (O .answer) (O .plane-is));
-  of-pass = λ w h s O. (outcome-listed O, unchanged O);
+  of-pass = λ z s O. (outcome-listed O, unchanged O);
   of-recolour = λ w h {frame} {plane} {output} O.
       let number = recolourRefusal w h (length frame) (length plane) (length output) in
       let new = overwritten output (recolour frame plane) in
       (as-listed number [] (O .answer), stays number [] output new (O .answer) (O .output-is));
-  of-enhance = λ w h t frame O. (outcome-listed (O .retoned), unwritten O);
-  of-list = λ w h list O. (outcome-listed O, unchanged O);
-  of-passes = λ w h ss O. (outcome-listed O, unchanged O);
+  of-enhance = λ z t frame O. (outcome-listed (O .retoned), unwritten O);
+  of-list = λ z list O. (outcome-listed O, unchanged O);
+  of-passes = λ z ss O. (outcome-listed O, unchanged O);
   of-write = λ w h {raster} {output} O.
       let number = writeRefusal w h (length raster) (length output) in
       let values = length (encoding raster w h) ∷ [] in
@@ -122,23 +126,23 @@ had O =
 pub demand-2 : Demand2
 demand-2 = record {
   of-intensity = λ w h {frame} {plane} O. intensity-given w h frame plane O .1;
-  of-pass = λ w h s O. had O;
+  of-pass = λ z s O. had O;
   of-recolour = λ w h {frame} {plane} {output} O.
       let number = recolourRefusal w h (length frame) (length plane) (length output) in
       recolour-given w h frame plane output (replied-gives number [] (sym (O .answer)) .0) O .1;
-  of-enhance = λ w h t frame {plane} {marks} {queue} {output} O.
+  of-enhance = λ z t frame {plane} {marks} {queue} {output} O.
       let taken = outcome-given (O .retoned) .0 in (
         had (O .retoned),
         (
           output-given O,
           (
-            chain-accepted w h t frame plane marks queue output taken,
-            λ bytes. chain-published w h t frame plane marks queue output (λ k. omega (arith, bytes .each k)) taken,
+            chain-accepted z t frame plane marks queue output taken,
+            λ bytes. chain-published z t frame plane marks queue output (λ k. omega (arith, bytes .each k)) taken,
           ),
         ),
       );
-  of-list = λ w h list O. had O;
-  of-passes = λ w h ss O. had O;
+  of-list = λ z list O. had O;
+  of-passes = λ z ss O. had O;
   of-write = λ w h {raster} {output} O.
       let number = writeRefusal w h (length raster) (length output) in
       let given = replied-gives number (length (encoding raster w h) ∷ []) (sym (O .answer)) in
@@ -148,95 +152,102 @@ demand-2 = record {
 -- ## Demand 3
 
 -- a frame recoloured from a plane that keeps the order of its intensity
-coloured : {w h : ℕ} {frame plane : List ℕ} (output : List ℕ) {output' : List ℕ} → length frame ≡ 3 * (w * h)
-    → Fine w (intensity frame) plane → output' ≡ overwritten output (recolour frame plane)
-    → Coloured w h frame plane output'
-coloured {w} {h} {frame} {plane} output {output'} size keeps e =
+coloured : {z : Shape} {frame plane : List ℕ} (output : List ℕ) {output' : List ℕ} → length frame ≡ 3 * pixels z
+    → Fine (neighbours z) (intensity frame) plane → output' ≡ overwritten output (recolour frame plane)
+    → Coloured z frame plane output'
+coloured {z} {frame} {plane} output {output'} size keeps e =
     let new = recolour frame plane in
-    let exact : take (3 * (w * h)) output' ≡ new =
-    ap (take (3 * (w * h))) e
-    ∙ take-at new (drop (length new) output) (3 * (w * h)) (length-recolour frame plane ∙ size) in
+    let exact : take (3 * pixels z) output' ≡ new =
+    ap (take (3 * pixels z)) e
+    ∙ take-at new (drop (length new) output) (3 * pixels z) (length-recolour frame plane ∙ size) in
     record {
       exact = exact;
-      byte = λ k h. subst (λ (x : ℕ). x ≤ 255) (recolour-at frame plane (k / 3) k refl h) (recolour-bytes frame plane k);
+      byte = λ k h. subst (λ (x : ℕ). x ≤ 255) (recolour-at frame plane (k / 3) k refl h)
+          (recolour-bytes frame plane k);
       channels = λ k l hk hl p h. channels-ordered frame plane k l hk hl p (le-of-lt h);
       grey-file = λ grey.
-          subst (λ (f : List ℕ). Shapes w (intensity frame) (intensity f)) (sym exact)
-          (grey-file w frame plane grey keeps);
+          subst (λ (f : List ℕ). ShapePreserving (neighbours z) (intensity frame) (intensity f)) (sym exact)
+          (grey-file (neighbours z) (neighbours-sym z) frame plane grey keeps);
     }
 
 -- the chain of an enhancement keeps the order of the frame's intensity
-enhanced-fine : (w h : ℕ) (t : Settings) (frame : List ℕ) → Fine w (intensity frame) (chainOf w h t frame .plane)
+enhanced-fine : (z : Shape) (t : Settings) (frame : List ℕ)
+    → Fine (neighbours z) (intensity frame) (chainOf z t frame .plane)
 unfolding enhanced
-enhanced-fine w h t frame = chain-fine w h (start (intensity frame)) _
+enhanced-fine z t frame = chain-fine z (start (intensity frame)) _
 
-module _ {w h : ℕ} {frame lent values first : List ℕ} (I : IntensityOutcome w h frame lent (gives values) first) where
+module _ {z : Shape} {frame lent values first : List ℕ}
+    (I : IntensityOutcome (z .w) (z .h) frame lent (gives values) first) where
   abbrev filled : first ≡ intensity frame
-  filled = intensity-given w h frame lent I .1
+  filled = intensity-given (z .w) (z .h) frame lent I .1
 
-  abbrev shape : intensityRefusal w h (length frame) (length lent) ≡ 0
-  shape = intensity-given w h frame lent I .0
+  abbrev accepts : intensityRefusal (z .w) (z .h) (length frame) (length lent) ≡ 0
+  accepts = intensity-given (z .w) (z .h) frame lent I .0
 
-  channels : length frame ≡ 3 * (w * h)
-  channels = intensity-accepted w h (length frame) (length lent) shape .channels
+  channels : length frame ≡ 3 * pixels z
+  channels = intensity-accepted (z .w) (z .h) (length frame) (length lent) accepts .channels
 
   -- recolouring from a plane that keeps the order of the first
-  recolours : {last output output' : List ℕ} {reply : Reply} → Fine w first last → 3 * (w * h) ≤ length output
-      → RecolourOutcome w h frame last output reply output' → (reply ≡ gives []) × Coloured w h frame last output'
+  recolours : {last output output' : List ℕ} {reply : Reply} → Fine (neighbours z) first last
+      → 3 * pixels z ≤ length output
+      → RecolourOutcome (z .w) (z .h) frame last output reply output'
+      → (reply ≡ gives []) × Coloured z frame last output'
   recolours {last} {output} keeps room O =
-      let pixels = intensity-accepted w h (length frame) (length lent) shape .pixels in
-      let same : length last ≡ length lent = keeps .size ∙ filled-length w h frame lent I ∙ sym pixels in
-      let fine = ap (intensityRefusal w h (length frame)) same ∙ shape in
-      let accepts = recolour-accepts w h (length frame) (length last) (length output) fine room in
-      let given = recolour-given w h frame last output accepts O in
-      (given .0, coloured output channels (subst (λ (p : List ℕ). Fine w p last) filled keeps) (given .1))
+      let size = intensity-accepted (z .w) (z .h) (length frame) (length lent) accepts .pixels in
+      let same : length last ≡ length lent = keeps .size ∙ filled-length (z .w) (z .h) frame lent I ∙ sym size in
+      let fine = ap (intensityRefusal (z .w) (z .h) (length frame)) same ∙ accepts in
+      let taken = recolour-accepts (z .w) (z .h) (length frame) (length last) (length output) fine room in
+      let given = recolour-given (z .w) (z .h) frame last output taken O in
+      (given .0, coloured output channels (subst (λ (p : List ℕ). Fine (neighbours z) p last) filled keeps) (given .1))
 
   -- an accepted enhancement
   enhances : (t : Settings) {plane marks queue output values plane' marks' queue' output' : List ℕ}
-      → EnhanceOutcome w h t frame plane marks queue output (gives values) plane' marks' queue' output'
-      → (plane' ≡ chainOf w h t frame .plane) × ((values ≡ counts (chainEffect (chainOf w h t frame)))
-      × (Shapes w first plane' × Coloured w h frame plane' output'))
+      → EnhanceOutcome z t frame plane marks queue output (gives values) plane' marks' queue' output'
+      → (plane' ≡ chainOf z t frame .plane) × ((values ≡ counts (chainEffect (chainOf z t frame)))
+      × (ShapePreserving (neighbours z) first plane' × Coloured z frame plane' output'))
   enhances t {output = output} {plane' = plane'} O =
       let H = had (O .retoned) in
-      let keeps = subst (Fine w (intensity frame)) (sym (H .plane-is)) (enhanced-fine w h t frame) in
+      let keeps = subst (Fine (neighbours z) (intensity frame)) (sym (H .plane-is)) (enhanced-fine z t frame) in
       let written = output-given O ∙ ap (λ (p : List ℕ). overwritten output (recolour frame p)) (sym (H .plane-is)) in
-      let shapes = subst (λ (p : List ℕ). Shapes w p plane') (sym filled) (fine-shapes keeps) in
+      let shapes = subst (λ (p : List ℕ). ShapePreserving (neighbours z) p plane') (sym filled)
+      (fine-shapes (neighbours-sym z) keeps) in
       (H .plane-is, (H .values-are, (shapes, coloured output channels keeps written)))
 
 pub demand-3 : Demand3Holds
-demand-3 w h frame lent values first last calls replies I S =
+demand-3 z frame lent values first last calls replies I S =
     let model = sequence-is S in
-    let last-is : chain w h (start first) calls .plane ≡ last = ap (λ (s : State). s .plane) model in
-    let keeps = subst (Fine w first) last-is (chain-fine w h (start first) calls) in
+    let last-is : chain z (start first) calls .plane ≡ last = ap (λ (s : State). s .plane) model in
+    let keeps = subst (Fine (neighbours z) first) last-is (chain-fine z (start first) calls) in
     record {
       first-is = filled I;
       replies-are = sym (ap (λ (s : State). s .answers) model);
       last-is = sym last-is;
-      shapes = fine-shapes keeps;
+      shapes = fine-shapes (neighbours-sym z) keeps;
       recoloured = λ room O. recolours I keeps room O;
       enhanced = λ t O. enhances I t O;
     }
 
 -- ## Lists of passes
 
-chained : {w h marks queue : ℕ} {ss : List Pass} {plane values plane' : List ℕ}
-    → AllAccepted (passesChain w h marks queue ss plane .answers)
-    → (plane' ≡ passesChain w h marks queue ss plane .plane)
-    × (gives values ≡ gives (counts (chainEffect (passesChain w h marks queue ss plane))))
-    → Chained w h marks queue ss plane values plane'
-chained {w} {h} {plane = plane} accepted e = record {
+chained : {z : Shape} {marks queue : ℕ} {ss : List Pass} {plane values plane' : List ℕ}
+    → AllAccepted (passesChain z marks queue ss plane .answers)
+    → (plane' ≡ passesChain z marks queue ss plane .plane)
+    × (gives values ≡ gives (counts (chainEffect (passesChain z marks queue ss plane))))
+    → Chained z marks queue ss plane values plane'
+chained {z} {plane = plane} accepted e = record {
   accepted = accepted;
   plane-is = e .0;
   values-are = gives-same (e .1);
-  shapes = subst (Shapes w plane) (sym (e .0)) (fine-shapes (chain-fine w h (start plane) _));
+  shapes = subst (ShapePreserving (neighbours z) plane) (sym (e .0))
+      (fine-shapes (neighbours-sym z) (chain-fine z (start plane) _));
 }
 
 pub lists-are-chains : ListsAreChains
 lists-are-chains = record {
-  of-list = λ w h list {plane} {marks} {queue} O.
+  of-list = λ z list {plane} {marks} {queue} O.
       let taken = outcome-given O .0 in
-      chained (list-taken w h plane marks queue list taken) (list-chain w h plane marks queue _ _ _ _ list taken O);
-  of-passes = λ w h ss {plane} {marks} {queue} O.
+      chained (list-taken z plane marks queue list taken) (list-chain z plane marks queue _ _ _ _ list taken O);
+  of-passes = λ z ss {plane} {marks} {queue} O.
       let taken = outcome-given O .0 in
-      chained (passes-taken w h plane marks queue ss taken) (passes-chain w h plane marks queue _ _ _ _ ss taken O);
+      chained (passes-taken z plane marks queue ss taken) (passes-chain z plane marks queue _ _ _ _ ss taken O);
 }

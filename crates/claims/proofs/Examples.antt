@@ -4,34 +4,42 @@ use Prim.Native.Nat.{ℕ, suc}
 use mathlib.Core.Path.{_≡_, refl}
 use mathlib.Core.List.{List, [], _∷_}
 use native.Mathlib.Omega.{arith}
-use Rattle.planes.specs.Refusals.{sizeRefusal}
+use Rattle.planes.specs.Refusals.{sizeRefusal, sideRefusal, pixelRefusal, lengthRefusal, roomRefusal}
+use Rattle.planes.specs.Shapes.{neighbours, shapeRefusal, lentRefusal}
 use Rattle.planes.specs.Neighbours.{four, linked, component, first}
 use Rattle.planes.specs.Extrema.{flat, extreme, extremes}
 use Rattle.planes.proofs.Lists.{beyond-refl}
-use Rattle.tones.specs.Tones.{plainTone, clipped, limitedTone, tone, kept}
-use Rattle.colours.specs.Frames.{third, pixelIntensity, intensity, greatestChannel, newChannel, recolour}
+use Rattle.plain.specs.Plain.{plainTone, plainKept}
+use Rattle.limited.specs.Limited.{clipped, limitedTone}
+use Rattle.tones.specs.Tones.{tone, kept}
+use Rattle.channels.specs.Channels.{third, newChannel}
+use Rattle.colours.specs.Frames.{pixelIntensity, intensity, greatestChannel, recolour}
 use Rattle.colours.specs.Calls.{intensityRefusal}
-use Rattle.model.specs.Passes.{inside, values, changes, retone, newTone, passed, passCount}
-use Rattle.model.specs.Runs.{run, runCount}
-use Rattle.model.specs.Calls.{planeRefusal, roomRefusal, areaRefusal, ruleRefusal, numbersRefusal, lentRefusal}
-use Rattle.model.specs.Calls.{passRefusal, call, chain}
+use Rattle.model.specs.Passes.{inside, componentValues, changes, retone, newTone, passed, passCount}
+use Rattle.model.specs.Neighbourhoods.{passNeighbours}
+use Rattle.model.specs.Effects.{runEffect}
+use Rattle.tones.specs.Refusals.{ruleRefusal}
+use Rattle.model.specs.Calls.{areaRefusal, numbersRefusal, passRefusal, call, chain}
 use Rattle.model.specs.Enhancement.{section, level, levels, passes, callOf, enhanced}
 use Rattle.tones.specs.Examples.{anyRatio}
 use Rattle.model.proofs.PublishedExamples.{published-examples}
 use Rattle.passes.specs.Calls.{none, more}
-use Rattle.passlists.specs.Format.{passAt, passesOf, malformed, misnamed, miscounted, headRefusal, encodePass}
-use Rattle.passlists.specs.Format.{encodePasses, encode}
-use Rattle.passlists.specs.Refusals.{recordRefusal, recordRefusals, listRefusal}
-use Rattle.netpbm.specs.Bytes.{isDigit, isWhite}
-use Rattle.netpbm.specs.Grammar.{mark, number, field, header}
-use Rattle.netpbm.specs.Reading.{frameRefusal, readAnswer}
-use Rattle.netpbm.specs.Writing.{decimal, heading}
-use Rattle.frames.specs.Program.{enhancedFrame, programOutput}
+use Rattle.tones.specs.Numbers.{malformed}
+use Rattle.listformat.specs.Format.{passAt, passesOf, misnamed, miscounted, headRefusal, encodePass}
+use Rattle.listformat.specs.Format.{encodePasses, encode}
+use Rattle.listformat.specs.Refusals.{recordRefusal, recordRefusals, listRefusal}
+use Rattle.texts.specs.Ascii.{isDigit, decimal}
+use Rattle.texts.specs.Heading.{heading}
+use Rattle.headers.specs.Bytes.{isWhite}
+use Rattle.headers.specs.Grammar.{mark, numeral, field, header}
+use Rattle.netpbm.specs.Reading.{maxvalRefusal, rasterRefusal, trailingRefusal, frameRefusal, readAnswer}
+use Rattle.printing.specs.Printing.{enhancedFrame}
+use Rattle.frames.specs.Program.{programOutput}
 use Rattle.claims.specs.Examples.{on, PassExamples, ExtremaExamples, Starred, Demand3Met}
 
 pass-examples : PassExamples
-unfolding four linked component first plainTone clipped limitedTone tone kept
-    inside values changes retone newTone passed passCount
+unfolding passNeighbours neighbours four linked component first plainTone plainKept clipped limitedTone tone kept
+    inside componentValues changes retone newTone passed passCount
 pass-examples = record {
   A = refl;
   B = refl;
@@ -48,7 +56,7 @@ pass-examples = record {
 }
 
 extrema-examples : ExtremaExamples
-unfolding four linked first flat extreme extremes
+unfolding neighbours four linked first flat extreme extremes
 extrema-examples = record {
   constant = record { maxima-are = refl; minima-are = refl };
   single = record { maxima-are = refl; minima-are = refl };
@@ -61,14 +69,16 @@ extrema-examples = record {
 }
 
 pub starred : Starred
-unfolding sizeRefusal four linked component first plainTone clipped limitedTone tone kept
+unfolding shapeRefusal sizeRefusal sideRefusal pixelRefusal lengthRefusal passNeighbours neighbours four linked
+    component first plainTone plainKept clipped limitedTone tone kept
     third pixelIntensity intensity greatestChannel newChannel recolour
-    inside values changes retone newTone passed passCount run runCount
-    planeRefusal roomRefusal areaRefusal ruleRefusal numbersRefusal lentRefusal passRefusal call chain
+    inside componentValues changes retone newTone passed passCount runEffect
+    roomRefusal areaRefusal ruleRefusal numbersRefusal lentRefusal passRefusal call chain
     section level levels passes callOf enhanced
     passAt passesOf malformed misnamed miscounted headRefusal encodePass encodePasses encode
     recordRefusal recordRefusals listRefusal
-    isDigit isWhite mark number field header frameRefusal readAnswer decimal heading enhancedFrame programOutput
+    isDigit isWhite mark numeral field header maxvalRefusal rasterRefusal trailingRefusal frameRefusal readAnswer
+    decimal heading enhancedFrame programOutput
 starred = record {
   passes = pass-examples;
   extrema = extrema-examples;
@@ -93,10 +103,11 @@ taken : (k : ℕ) → 0 ≡ suc k → ⊥
 taken k e = omega (arith, e)
 
 pub demand-3-met : Demand3Met
-unfolding sizeRefusal four linked component first plainTone tone kept
+unfolding shapeRefusal sizeRefusal sideRefusal pixelRefusal lengthRefusal passNeighbours neighbours four linked
+    component first plainTone plainKept tone kept
     third pixelIntensity intensity intensityRefusal
-    inside values changes retone newTone passed passCount
-    planeRefusal roomRefusal areaRefusal ruleRefusal numbersRefusal lentRefusal passRefusal
+    inside componentValues changes retone newTone passed passCount
+    roomRefusal areaRefusal ruleRefusal numbersRefusal lentRefusal passRefusal
 demand-3-met = record {
   filled = record { answer = refl; plane-is = refl };
   calls = more {s = on 0 255 1 anyRatio} {marks = two} {queue = two} {plane' = 128 ∷ 255 ∷ []}

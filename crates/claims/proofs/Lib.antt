@@ -1,4 +1,4 @@
-pub mod Shapes
+pub mod ShapePreserving
 pub mod Claims
 pub mod CFunctions
 pub mod Contracts

@@ -1,25 +1,26 @@
--- The C functions answer what the calls answer: for each there is an answer of the call whose number it answers, and with
--- which the memory that it leaves meets the call's own contract. Definitions only.
+-- The C functions answer what the calls answer: for each there is an answer of the call whose number it answers, and
+-- with which the memory that it leaves meets the call's own contract. Definitions only.
 --
 --   Stands          an answer of some kind that the number stands for, with what holds of it
 --   CFunctions      one claim for each function; a pass and an enhancement by numbers that stand for no rule get 17
-use Prim.Native.Nat.{ℕ, _*_, _≤_, _<_}
+use Prim.Native.Nat.{ℕ, _≤_, _<_}
 use mathlib.Core.Path.{_≡_}
 use mathlib.Core.List.{List, [], _∷_}
 use lib.IntN.{ℤ, pos}
 use lib.ListN.{length, drop}
 use Rattle.planes.specs.Refusals.{_▷_, greatestPixels}
 use Rattle.planes.specs.Replies.{refuses, gives}
-use Rattle.colours.specs.Calls.{statusReply, intensityRefusal, IntensityOutcome, RecolourOutcome}
+use Rattle.planes.specs.Shapes.{shapeOf, lentRefusal}
+use Rattle.tones.specs.Numbers.{formRefusal}
+use Rattle.colours.specs.Calls.{statusReply, IntensityOutcome, RecolourOutcome}
 use Rattle.model.specs.Outcomes.{answerReply}
-use Rattle.model.specs.Calls.{lentRefusal}
 use Rattle.passes.specs.Calls.{PassOutcome}
 use Rattle.enhance.specs.Calls.{memoryRefusal, EnhanceOutcome}
 use Rattle.passlists.specs.Outcomes.{ListOutcome}
 use Rattle.netpbm.specs.Reading.{readReply}
 use Rattle.netpbm.specs.Writing.{writtenReply, WriteOutcome}
-use Rattle.capi.specs.Numbers.{numberReply, doneReply, statusNumber, answerNumber, writtenNumber}
-use Rattle.capi.specs.Numbers.{formRefusal, passOf, settingsOf}
+use Rattle.cnumbers.specs.Numbers.{numberReply, doneReply, statusNumber, answerNumber, writtenNumber}
+use Rattle.cnumbers.specs.Numbers.{numbersFor, passOf, settingsOf}
 use Rattle.capi.specs.Calls.{PassNumber, EnhanceNumber, ReadNumber}
 
 -- r is the number of an answer a of which P holds
@@ -36,32 +37,34 @@ pub record CFunctions : Type 0 where
       → RecolourOutcome w h frame plane output (doneReply r) output'
       → Stands statusNumber (λ s. RecolourOutcome w h frame plane output (statusReply s) output') r
   pub of-pass : (w h a b area rule first second : ℕ) {plane marks queue plane' marks' queue' : List ℕ} (r : ℤ)
-      → formRefusal rule second ≡ 0
+      → formRefusal (numbersFor rule first second) ≡ 0
       → PassNumber w h a b area rule first second plane marks queue r plane' marks' queue'
-      → Stands answerNumber
-      (λ s. PassOutcome w h (passOf a b area rule first second) plane marks queue (answerReply s) plane' marks' queue')
-      r
+      → Stands answerNumber (λ s. PassOutcome (shapeOf w h) (passOf a b area rule first second)
+      plane marks queue (answerReply s) plane' marks' queue') r
   -- 17 after 1 to 4, and nothing changes
   pub of-no-pass : (w h a b area rule first second : ℕ) {plane marks queue plane' marks' queue' : List ℕ} (r : ℤ)
-      → formRefusal rule second ≡ 17
+      → formRefusal (numbersFor rule first second) ≡ 17
       → PassNumber w h a b area rule first second plane marks queue r plane' marks' queue'
-      → (numberReply r ≡ refuses (lentRefusal w h (length plane) (length marks) (length queue) ▷ 17))
+      → (numberReply r ≡ refuses (lentRefusal (shapeOf w h) (length plane) (length marks) (length queue) ▷ 17))
       × ((plane' ≡ plane) × ((marks' ≡ marks) × (queue' ≡ queue)))
   pub of-list : (w h : ℕ) (list : List ℕ) {plane marks queue plane' marks' queue' : List ℕ} (r : ℤ)
-      → ListOutcome w h list plane marks queue (numberReply r) plane' marks' queue'
-      → Stands answerNumber (λ s. ListOutcome w h list plane marks queue (answerReply s) plane' marks' queue') r
+      → ListOutcome (shapeOf w h) list plane marks queue (numberReply r) plane' marks' queue'
+      → Stands answerNumber (λ s. ListOutcome (shapeOf w h) list
+      plane marks queue (answerReply s) plane' marks' queue') r
   pub of-enhance : (w h last area rule first second : ℕ) (frame : List ℕ)
-      {plane marks queue output plane' marks' queue' output' : List ℕ} (r : ℤ) → formRefusal rule second ≡ 0
+      {plane marks queue output plane' marks' queue' output' : List ℕ} (r : ℤ)
+      → formRefusal (numbersFor rule first second) ≡ 0
       → EnhanceNumber w h last area rule first second frame plane marks queue output r plane' marks' queue' output'
-      → Stands answerNumber (λ s. EnhanceOutcome w h (settingsOf last area rule first second) frame
+      → Stands answerNumber (λ s. EnhanceOutcome (shapeOf w h) (settingsOf last area rule first second) frame
       plane marks queue output (answerReply s) plane' marks' queue' output') r
   -- 17 after 1, 2, 3, 4 and 14, and nothing changes
   pub of-no-enhance : (w h last area rule first second : ℕ) (frame : List ℕ)
-      {plane marks queue output plane' marks' queue' output' : List ℕ} (r : ℤ) → formRefusal rule second ≡ 17
+      {plane marks queue output plane' marks' queue' output' : List ℕ} (r : ℤ)
+      → formRefusal (numbersFor rule first second) ≡ 17
       → EnhanceNumber w h last area rule first second frame plane marks queue output r plane' marks' queue' output'
       → (numberReply r
-      ≡ refuses (intensityRefusal w h (length frame) (length plane)
-      ▷ memoryRefusal (w * h) (length marks) (length queue) (length output) ▷ 17))
+      ≡ refuses (memoryRefusal (shapeOf w h) (length frame) (length plane) (length marks) (length queue) (length output)
+      ▷ 17))
       × ((plane' ≡ plane) × ((marks' ≡ marks) × ((queue' ≡ queue) × (output' ≡ output))))
   pub of-write : (w h : ℕ) {raster output output' : List ℕ} (r : ℤ)
       → WriteOutcome raster w h output (numberReply r) output'
@@ -72,8 +75,10 @@ pub record CFunctions : Type 0 where
       → (numberReply r ≡ refuses k) × (numbers' ≡ numbers)
   -- width, height and offset stand in three lent numbers; fewer get 14, and stay
   pub of-read : (bytes numbers : List ℕ) {numbers' : List ℕ} (r : ℤ) (w h offset : ℕ)
-      → readReply bytes greatestPixels ≡ gives (w ∷ h ∷ offset ∷ []) → ReadNumber bytes numbers r numbers' → 3 ≤ length numbers
+      → readReply bytes greatestPixels ≡ gives (w ∷ h ∷ offset ∷ []) → ReadNumber bytes numbers r numbers'
+      → 3 ≤ length numbers
       → (r ≡ pos 0) × (numbers' ≡ w ∷ h ∷ offset ∷ drop 3 numbers)
   pub of-read-short : (bytes numbers : List ℕ) {numbers' : List ℕ} (r : ℤ) (w h offset : ℕ)
-      → readReply bytes greatestPixels ≡ gives (w ∷ h ∷ offset ∷ []) → ReadNumber bytes numbers r numbers' → length numbers < 3
+      → readReply bytes greatestPixels ≡ gives (w ∷ h ∷ offset ∷ []) → ReadNumber bytes numbers r numbers'
+      → length numbers < 3
       → (numberReply r ≡ refuses 14) × (numbers' ≡ numbers)

@@ -5,7 +5,9 @@
 --
 -- Glossary
 --   plane              the list of its pixels' values in reading order; a pixel is its index (planes/specs/Lists)
---   four w             the four-neighbours in a plane of w columns (planes/specs/Neighbours)
+--   Shape              the columns w and rows h of a plane; pixels z is their product (planes/specs/Shapes)
+--   neighbours z       the four-neighbours in a plane of the shape z (planes/specs/Shapes, Neighbours)
+--   passNeighbours z   the neighbours by which a pass takes its components (model/specs/Neighbourhoods)
 --   extreme ltb, gtb   a pixel's flat zone is a regional maximum, minimum (planes/specs/Extrema)
 --   Contains           the flat zone of a pixel of one plane contains a whole regional extremum of another
 --   maxima, minima     how many regional maxima and minima there are
@@ -22,9 +24,10 @@
 --                      calls ensure, by the reply of their answer
 --   Sequence           calls of `pass`, each lent the plane as the one before left it (passes/specs/Calls)
 --   readReply          what reading replies to some bytes (netpbm/specs/Reading)
---   IsHeader, IsFrame  a list of bytes begins with a P6 header, is a P6 frame, by its parts (netpbm/specs/Frames)
---   Bytes              every member is a byte (passlists/specs/Format)
---   Emitted            what the program's function ensures: some bytes at the beginning of the output (frames)
+--   IsHeader           a list of bytes begins with a P6 header, by its parts (headers/specs/Headers)
+--   IsFrame            a list of bytes is a P6 frame, by its parts (netpbm/specs/Frames)
+--   Bytes              every member is a byte (listformat/specs/Format)
+--   Emitted            what the program's function ensures: some bytes at the beginning of the output (printing)
 use Prim.Native.Nat.{ℕ, suc, _-_, _*_, _/_, _≤_, _<_}
 use mathlib.Core.Path.{_≡_}
 use mathlib.Core.Logic.{_↔_}
@@ -34,26 +37,28 @@ use lib.ListN.{length, take, drop}
 use lib.Dec.{ltb}
 use Rattle.planes.specs.Lists.{at, Beyond}
 use Rattle.planes.specs.Replies.{Reply, refuses, gives, replied, overwritten}
-use Rattle.planes.specs.Neighbours.{four}
+use Rattle.planes.specs.Neighbours.{Near}
+use Rattle.planes.specs.Shapes.{pixels, neighbours}
+use Rattle.planes.specs.declared.Shape.{Shape}
 use Rattle.planes.specs.Extrema.{extreme, gtb, maxima, minima, Contains}
 use Rattle.colours.specs.Frames.{intensity, newChannelAt, recolour, Grey}
 use Rattle.colours.specs.Calls.{intensityRefusal, recolourRefusal, IntensityOutcome, RecolourOutcome}
 use Rattle.model.specs.declared.Pass.{Pass}
+use Rattle.model.specs.Neighbourhoods.{passNeighbours}
 use Rattle.model.specs.Effects.{Effect, counts, passEffect, runEffect}
 use Rattle.model.specs.Calls.{Call, AllAccepted, State, start, chain, chainEffect}
-use Rattle.passes.specs.Calls.{callOn, PassOutcome, Sequence}
-use Rattle.passes.specs.Calls as passes
-use Rattle.enhance.specs.declared.Settings.{Settings}
-use Rattle.enhance.specs.Calls.{chainOf, EnhanceOutcome}
-use Rattle.enhance.specs.Calls as enhance
+use Rattle.passes.specs.Calls.{callOn, passCallRefusal, PassOutcome, Sequence}
+use Rattle.levels.specs.declared.Settings.{Settings}
+use Rattle.enhance.specs.Calls.{chainOf, enhanceCallRefusal, EnhanceOutcome}
 use Rattle.enhance.specs.Published.{publishedOf}
+use Rattle.headers.specs.Headers.{IsHeader}
 use Rattle.netpbm.specs.Reading.{frameRefusal, readReply}
-use Rattle.netpbm.specs.Frames.{IsHeader, IsFrame}
+use Rattle.netpbm.specs.Frames.{IsFrame}
 use Rattle.netpbm.specs.Writing.{encoding, writeRefusal, WriteOutcome}
-use Rattle.passlists.specs.Format.{Bytes, passesOf}
-use Rattle.passlists.specs.Outcomes.{fileRefusal, memoryRefusal, ListOutcome, PassesOutcome}
-use Rattle.frames.specs.Program.{refusalLine, enhancedFrame, programOutput, Emitted}
-use Rattle.frames.specs.Program as program
+use Rattle.listformat.specs.Format.{Bytes, passesOf}
+use Rattle.passlists.specs.Outcomes.{runListRefusal, runPassesRefusal, ListOutcome, PassesOutcome}
+use Rattle.printing.specs.Printing.{greatestFrame, refusalLine, enhancedFrame, Emitted}
+use Rattle.frames.specs.Program.{greatestInput, programOutput}
 
 -- ## Demand 1: exactly what is listed is refused, by its number, and a refusal leaves all lent memory as it was
 
@@ -76,38 +81,38 @@ pub record ReadAsListed (bytes : List ℕ) (limit : ℕ) (reply : Reply) : Type 
 -- what the program writes for an input: `refused 13` where it is too long, else the enhanced frame for exactly the
 -- frames within its limits, else `refused N` with the number that reading replies
 pub record Writes (input written : List ℕ) : Type 0 where
-  pub long : program.greatestInput < length input → written ≡ refusalLine 13
-  pub frame : length input ≤ program.greatestInput → (w h offset : ℕ)
-      → IsFrame input program.greatestPixels w h offset → written ≡ enhancedFrame (drop offset input) w h
-  pub refused : length input ≤ program.greatestInput → (k : ℕ)
-      → readReply input program.greatestPixels ≡ refuses k → written ≡ refusalLine k
+  pub long : greatestInput < length input → written ≡ refusalLine 13
+  pub frame : length input ≤ greatestInput → (w h offset : ℕ)
+      → IsFrame input greatestFrame w h offset → written ≡ enhancedFrame (drop offset input) w h
+  pub refused : length input ≤ greatestInput → (k : ℕ)
+      → readReply input greatestFrame ≡ refuses k → written ≡ refusalLine k
 
 pub record Demand1 : Type 0 where
   pub of-intensity : (w h : ℕ) {frame plane plane' : List ℕ} {reply : Reply}
       → IntensityOutcome w h frame plane reply plane'
       → AsListed (intensityRefusal w h (length frame) (length plane)) reply
       × ((k : ℕ) → reply ≡ refuses k → plane' ≡ plane)
-  pub of-pass : (w h : ℕ) (s : Pass) {plane marks queue plane' marks' queue' : List ℕ} {reply : Reply}
-      → PassOutcome w h s plane marks queue reply plane' marks' queue'
-      → AsListed (passes.refusalOf w h s plane marks queue) reply
+  pub of-pass : (z : Shape) (s : Pass) {plane marks queue plane' marks' queue' : List ℕ} {reply : Reply}
+      → PassOutcome z s plane marks queue reply plane' marks' queue'
+      → AsListed (passCallRefusal z s plane marks queue) reply
       × ((k : ℕ) → reply ≡ refuses k → (plane' ≡ plane) × ((marks' ≡ marks) × (queue' ≡ queue)))
   pub of-recolour : (w h : ℕ) {frame plane output output' : List ℕ} {reply : Reply}
       → RecolourOutcome w h frame plane output reply output'
       → AsListed (recolourRefusal w h (length frame) (length plane) (length output)) reply
       × ((k : ℕ) → reply ≡ refuses k → output' ≡ output)
-  pub of-enhance : (w h : ℕ) (t : Settings) (frame : List ℕ)
+  pub of-enhance : (z : Shape) (t : Settings) (frame : List ℕ)
       {plane marks queue output plane' marks' queue' output' : List ℕ} {reply : Reply}
-      → EnhanceOutcome w h t frame plane marks queue output reply plane' marks' queue' output'
-      → AsListed (enhance.refusalOf w h t frame plane marks queue output) reply
+      → EnhanceOutcome z t frame plane marks queue output reply plane' marks' queue' output'
+      → AsListed (enhanceCallRefusal z t frame plane marks queue output) reply
       × ((k : ℕ) → reply ≡ refuses k
       → (plane' ≡ plane) × ((marks' ≡ marks) × ((queue' ≡ queue) × (output' ≡ output))))
-  pub of-list : (w h : ℕ) (list : List ℕ) {plane marks queue plane' marks' queue' : List ℕ} {reply : Reply}
-      → ListOutcome w h list plane marks queue reply plane' marks' queue'
-      → AsListed (fileRefusal w h list plane marks queue) reply
+  pub of-list : (z : Shape) (list : List ℕ) {plane marks queue plane' marks' queue' : List ℕ} {reply : Reply}
+      → ListOutcome z list plane marks queue reply plane' marks' queue'
+      → AsListed (runListRefusal z list plane marks queue) reply
       × ((k : ℕ) → reply ≡ refuses k → (plane' ≡ plane) × ((marks' ≡ marks) × (queue' ≡ queue)))
-  pub of-passes : (w h : ℕ) (ss : List Pass) {plane marks queue plane' marks' queue' : List ℕ} {reply : Reply}
-      → PassesOutcome w h ss plane marks queue reply plane' marks' queue'
-      → AsListed (memoryRefusal w h ss plane marks queue) reply
+  pub of-passes : (z : Shape) (ss : List Pass) {plane marks queue plane' marks' queue' : List ℕ} {reply : Reply}
+      → PassesOutcome z ss plane marks queue reply plane' marks' queue'
+      → AsListed (runPassesRefusal z ss plane marks queue) reply
       × ((k : ℕ) → reply ≡ refuses k → (plane' ≡ plane) × ((marks' ≡ marks) × (queue' ≡ queue)))
   pub of-write : (w h : ℕ) {raster output output' : List ℕ} {reply : Reply}
       → WriteOutcome raster w h output reply output'
@@ -132,28 +137,28 @@ pub record Had (n : ℕ) (e : Effect) (marks queue values plane' marks' queue' :
 pub record Demand2 : Type 0 where
   pub of-intensity : (w h : ℕ) {frame plane values plane' : List ℕ}
       → IntensityOutcome w h frame plane (gives values) plane' → plane' ≡ intensity frame
-  pub of-pass : (w h : ℕ) (s : Pass) {plane marks queue values plane' marks' queue' : List ℕ}
-      → PassOutcome w h s plane marks queue (gives values) plane' marks' queue'
-      → Had (w * h) (passEffect (four w) s plane) marks queue values plane' marks' queue'
+  pub of-pass : (z : Shape) (s : Pass) {plane marks queue values plane' marks' queue' : List ℕ}
+      → PassOutcome z s plane marks queue (gives values) plane' marks' queue'
+      → Had (pixels z) (passEffect (passNeighbours z) s plane) marks queue values plane' marks' queue'
   pub of-recolour : (w h : ℕ) {frame plane output values output' : List ℕ}
       → RecolourOutcome w h frame plane output (gives values) output'
       → output' ≡ overwritten output (recolour frame plane)
   -- the chain of passes that the requirements name, none of which is refused; where the frame has bytes, as the type of
   -- a lent frame says, it comes to what the published recursion by components comes to
-  pub of-enhance : (w h : ℕ) (t : Settings) (frame : List ℕ)
+  pub of-enhance : (z : Shape) (t : Settings) (frame : List ℕ)
       {plane marks queue output values plane' marks' queue' output' : List ℕ}
-      → EnhanceOutcome w h t frame plane marks queue output (gives values) plane' marks' queue' output'
-      → Had (w * h) (chainEffect (chainOf w h t frame)) marks queue values plane' marks' queue'
-      × ((output' ≡ overwritten output (recolour frame (chainOf w h t frame .plane)))
-      × (AllAccepted (chainOf w h t frame .answers)
-      × (Bytes frame → chainEffect (chainOf w h t frame) ≡ publishedOf w t frame)))
+      → EnhanceOutcome z t frame plane marks queue output (gives values) plane' marks' queue' output'
+      → Had (pixels z) (chainEffect (chainOf z t frame)) marks queue values plane' marks' queue'
+      × ((output' ≡ overwritten output (recolour frame (chainOf z t frame .plane)))
+      × (AllAccepted (chainOf z t frame .answers)
+      × (Bytes frame → chainEffect (chainOf z t frame) ≡ publishedOf z t frame)))
   -- a list is the run of its passes, and the sum of their counts
-  pub of-list : (w h : ℕ) (list : List ℕ) {plane marks queue values plane' marks' queue' : List ℕ}
-      → ListOutcome w h list plane marks queue (gives values) plane' marks' queue'
-      → Had (w * h) (runEffect (four w) (passesOf list) plane) marks queue values plane' marks' queue'
-  pub of-passes : (w h : ℕ) (ss : List Pass) {plane marks queue values plane' marks' queue' : List ℕ}
-      → PassesOutcome w h ss plane marks queue (gives values) plane' marks' queue'
-      → Had (w * h) (runEffect (four w) ss plane) marks queue values plane' marks' queue'
+  pub of-list : (z : Shape) (list : List ℕ) {plane marks queue values plane' marks' queue' : List ℕ}
+      → ListOutcome z list plane marks queue (gives values) plane' marks' queue'
+      → Had (pixels z) (runEffect (passNeighbours z) (passesOf list) plane) marks queue values plane' marks' queue'
+  pub of-passes : (z : Shape) (ss : List Pass) {plane marks queue values plane' marks' queue' : List ℕ}
+      → PassesOutcome z ss plane marks queue (gives values) plane' marks' queue'
+      → Had (pixels z) (runEffect (passNeighbours z) ss plane) marks queue values plane' marks' queue'
   pub of-write : (w h : ℕ) {raster output values output' : List ℕ}
       → WriteOutcome raster w h output (gives values) output'
       → (values ≡ length (encoding raster w h) ∷ []) × (output' ≡ overwritten output (encoding raster w h))
@@ -161,71 +166,73 @@ pub record Demand2 : Type 0 where
 -- ## Demand 3: one claim about a whole chain of calls
 
 -- from the first plane to the last no neighbours part or are reversed, and no spot is invented
-pub record Shapes (w : ℕ) (first last : List ℕ) : Type 0 where
+pub record ShapePreserving (near : Near) (first last : List ℕ) : Type 0 where
   pub size : length last ≡ length first
-  -- equal four-neighbours stay equal
-  pub equal : (i j : ℕ) → i < length first → j < length first → four w i j ≡ true
+  -- equal neighbours stay equal
+  pub equal : (i j : ℕ) → i < length first → j < length first → near i j ≡ true
       → at first i ≡ at first j → at last i ≡ at last j
   -- unequal ones are never reversed: the one that was higher is never lower
-  pub ordered : (i j : ℕ) → i < length first → j < length first → four w i j ≡ true
+  pub ordered : (i j : ℕ) → i < length first → j < length first → near i j ≡ true
       → at first i < at first j → at last i ≤ at last j
   -- each regional maximum of the last plane contains a whole one of the first; likewise minima
-  pub tops : (i : ℕ) → i < length first → extreme ltb (four w) last i ≡ true → Contains ltb (four w) first last i
-  pub pits : (i : ℕ) → i < length first → extreme gtb (four w) last i ≡ true → Contains gtb (four w) first last i
+  pub tops : (i : ℕ) → i < length first → extreme ltb near last i ≡ true → Contains ltb near first last i
+  pub pits : (i : ℕ) → i < length first → extreme gtb near last i ≡ true → Contains gtb near first last i
   -- neither grows in number
-  pub fewer-tops : maxima (four w) last ≤ maxima (four w) first
-  pub fewer-pits : minima (four w) last ≤ minima (four w) first
+  pub fewer-tops : maxima near last ≤ maxima near first
+  pub fewer-pits : minima near last ≤ minima near first
 
 -- a frame recoloured from a plane: Algorithm 6 byte for byte, each number in 0 to 255 before it is stored, and no two
 -- channels of a pixel reversed
-pub record Coloured (w h : ℕ) (frame plane output' : List ℕ) : Type 0 where
-  pub exact : take (3 * (w * h)) output' ≡ recolour frame plane
+pub record Coloured (z : Shape) (frame plane output' : List ℕ) : Type 0 where
+  pub exact : take (3 * pixels z) output' ≡ recolour frame plane
   pub byte : (k : ℕ) → k < length frame → newChannelAt frame plane k ≤ 255
   pub channels : (k l : ℕ) → k < length frame → l < length frame → k / 3 ≡ l / 3
       → at frame k < at frame l → at (recolour frame plane) k ≤ at (recolour frame plane) l
   -- the written frame's own intensity is another plane; for a grey frame it keeps shapes too
-  pub grey-file : Grey frame → Shapes w (intensity frame) (intensity (take (3 * (w * h)) output'))
+  pub grey-file : Grey frame
+      → ShapePreserving (neighbours z) (intensity frame) (intensity (take (3 * pixels z) output'))
 
-pub record Demand3 (w h : ℕ) (frame first : List ℕ) (calls : List Call) (replies : List Reply) (last : List ℕ)
+pub record Demand3 (z : Shape) (frame first : List ℕ) (calls : List Call) (replies : List Reply) (last : List ℕ)
     : Type 0 where
   -- the first plane is Algorithm 1's
   pub first-is : first ≡ intensity frame
   -- replies and last plane are the model's
-  pub replies-are : replies ≡ chain w h (start first) calls .answers
-  pub last-is : last ≡ chain w h (start first) calls .plane
-  pub shapes : Shapes w first last
+  pub replies-are : replies ≡ chain z (start first) calls .answers
+  pub last-is : last ≡ chain z (start first) calls .plane
+  pub shapes : ShapePreserving (neighbours z) first last
   -- recolouring from the last plane, with an output that is long enough
-  pub recoloured : {output output' : List ℕ} {reply : Reply} → 3 * (w * h) ≤ length output
-      → RecolourOutcome w h frame last output reply output' → (reply ≡ gives []) × Coloured w h frame last output'
+  pub recoloured : {output output' : List ℕ} {reply : Reply} → 3 * pixels z ≤ length output
+      → RecolourOutcome (z .w) (z .h) frame last output reply output'
+      → (reply ≡ gives []) × Coloured z frame last output'
   -- every accepted enhancement of the frame leaves the plane, the output and the count of its chain
   pub enhanced : (t : Settings) {plane marks queue output values plane' marks' queue' output' : List ℕ}
-      → EnhanceOutcome w h t frame plane marks queue output (gives values) plane' marks' queue' output'
-      → (plane' ≡ chainOf w h t frame .plane) × ((values ≡ counts (chainEffect (chainOf w h t frame)))
-      × (Shapes w first plane' × Coloured w h frame plane' output'))
+      → EnhanceOutcome z t frame plane marks queue output (gives values) plane' marks' queue' output'
+      → (plane' ≡ chainOf z t frame .plane) × ((values ≡ counts (chainEffect (chainOf z t frame)))
+      × (ShapePreserving (neighbours z) first plane' × Coloured z frame plane' output'))
 
 -- every frame that intensity accepts, and every sequence of calls from the plane that it fills, refused ones included
 abbrev pub Demand3Holds : Type 0
-Demand3Holds = (w h : ℕ) (frame lent values first last : List ℕ) (calls : List Call) (replies : List Reply)
-    → IntensityOutcome w h frame lent (gives values) first → Sequence w h first calls replies last
-    → Demand3 w h frame first calls replies last
+Demand3Holds = (z : Shape) (frame lent values first last : List ℕ) (calls : List Call) (replies : List Reply)
+    → IntensityOutcome (z .w) (z .h) frame lent (gives values) first → Sequence z first calls replies last
+    → Demand3 z frame first calls replies last
 
 -- ## Lists of passes are chains
 
 -- the chain of calls of some passes, each lent as many entries of marks and queue
-abbrev pub passesChain : ℕ → ℕ → ℕ → ℕ → List Pass → List ℕ → State
-passesChain w h marks queue ss plane = chain w h (start plane) (map (callOn marks queue) ss)
+abbrev pub passesChain : Shape → ℕ → ℕ → List Pass → List ℕ → State
+passesChain z marks queue ss plane = chain z (start plane) (map (callOn marks queue) ss)
 
 -- none of them is refused, and their chain comes to this plane and these values
-pub record Chained (w h marks queue : ℕ) (ss : List Pass) (plane values plane' : List ℕ) : Type 0 where
-  pub accepted : AllAccepted (passesChain w h marks queue ss plane .answers)
-  pub plane-is : plane' ≡ passesChain w h marks queue ss plane .plane
-  pub values-are : values ≡ counts (chainEffect (passesChain w h marks queue ss plane))
-  pub shapes : Shapes w plane plane'
+pub record Chained (z : Shape) (marks queue : ℕ) (ss : List Pass) (plane values plane' : List ℕ) : Type 0 where
+  pub accepted : AllAccepted (passesChain z marks queue ss plane .answers)
+  pub plane-is : plane' ≡ passesChain z marks queue ss plane .plane
+  pub values-are : values ≡ counts (chainEffect (passesChain z marks queue ss plane))
+  pub shapes : ShapePreserving (neighbours z) plane plane'
 
 pub record ListsAreChains : Type 0 where
-  pub of-list : (w h : ℕ) (list : List ℕ) {plane marks queue values plane' marks' queue' : List ℕ}
-      → ListOutcome w h list plane marks queue (gives values) plane' marks' queue'
-      → Chained w h (length marks) (length queue) (passesOf list) plane values plane'
-  pub of-passes : (w h : ℕ) (ss : List Pass) {plane marks queue values plane' marks' queue' : List ℕ}
-      → PassesOutcome w h ss plane marks queue (gives values) plane' marks' queue'
-      → Chained w h (length marks) (length queue) ss plane values plane'
+  pub of-list : (z : Shape) (list : List ℕ) {plane marks queue values plane' marks' queue' : List ℕ}
+      → ListOutcome z list plane marks queue (gives values) plane' marks' queue'
+      → Chained z (length marks) (length queue) (passesOf list) plane values plane'
+  pub of-passes : (z : Shape) (ss : List Pass) {plane marks queue values plane' marks' queue' : List ℕ}
+      → PassesOutcome z ss plane marks queue (gives values) plane' marks' queue'
+      → Chained z (length marks) (length queue) ss plane values plane'

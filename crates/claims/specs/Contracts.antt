@@ -1,12 +1,12 @@
--- The tie to the code: what the contract of each public call, as its own crate declares it, tells a caller is the record
--- that the claims speak of, and no call asks anything of its caller. `Learnt` and `Asked` are the plain readings of a
--- function's `ensures` and `requires` clauses, made from the source by the checker; `a` are the arguments in their order,
--- `s` the parameters at exit, and `now` is what a reference refers to. A contract that said less would give no such record.
--- Definitions only.
+-- The tie to the code: what the contract of each public call, as its own crate declares it, tells a caller is the
+-- record that the claims speak of, and no call asks anything of its caller. `Learnt` and `Asked` are the plain readings
+-- of a function's `ensures` and `requires` clauses, made from the source by the checker; `a` are the arguments in their
+-- order, `s` the parameters at exit, and `now` is what a reference refers to. A contract that said less would give no
+-- such record. Definitions only.
 --
---   Contracts   the calls for Rattle, and the program's function. Passes in memory stand here through `run_array`, whose
---               contract is that of `run_passes` for the passes of an array: a function over a slice of structs has no
---               plain reading
+--   Contracts   the calls for Rattle, and the program's function. Passes in memory stand here through `run_array`,
+--               whose contract is that of `run_passes` for the passes of an array: a function over a slice of structs
+--               has no plain reading
 --   CContracts  the functions for C
 use mathlib.Core.Path.{_≡_}
 use lib.ListN.{take}
@@ -15,6 +15,7 @@ use denote.Ref.{now}
 use denote.Triple.Clauses.{AtExit}
 use borrow.Fn.World.{ArgsD, ResD}
 use Rattle.planes.specs.Refusals.{greatestPixels}
+use Rattle.planes.specs.Shapes.{shapeOf}
 use Rattle.colours.specs.Calls.{statusReply, IntensityOutcome, RecolourOutcome}
 use Rattle.colours.proofs.intensity as intensity
 use Rattle.colours.proofs.intensity.Reads as intensity-reads
@@ -40,10 +41,11 @@ use Rattle.netpbm.proofs.read_within as read-within
 use Rattle.netpbm.proofs.read_within.Reads as read-within-reads
 use Rattle.netpbm.proofs.write as write
 use Rattle.netpbm.proofs.write.Reads as write-reads
-use Rattle.frames.specs.Program.{programOutput, Emitted}
+use Rattle.printing.specs.Printing.{Emitted}
+use Rattle.frames.specs.Program.{programOutput}
 use Rattle.frames.proofs.program_output as program-output
 use Rattle.frames.proofs.program_output.Reads as program-output-reads
-use Rattle.capi.specs.Numbers.{numberReply, doneReply}
+use Rattle.cnumbers.specs.Numbers.{numberReply, doneReply}
 use Rattle.capi.specs.Calls.{PassNumber, EnhanceNumber, ReadNumber}
 use Rattle.capi.proofs.mlhe_intensity as mlhe-intensity
 use Rattle.capi.proofs.mlhe_intensity.Reads as mlhe-intensity-reads
@@ -73,32 +75,31 @@ pub record Contracts : Type 0 where
       → RecolourOutcome (a .1 .0) (a .1 .1 .0) (now (a .0)) (now (a .1 .1 .1 .0)) (now (a .1 .1 .1 .1 .0))
       (statusReply r) (now (s .1 .1 .1 .1 .0))
   pub recolour-asks : (κs : Lfts 3) (a : ArgsD recolour.signature κs) → recolour-reads.Asked κs a
-  -- pass(plane, marks, queue, w, h, pass)
+  -- pass(plane, marks, queue, shape, pass)
   pub of-pass : (κs : Lfts 3) (a : ArgsD pass.signature κs) (r : ResD pass.signature κs) (s : AtExit pass.ended κs)
       → pass-reads.Learnt κs a r s
-      → PassOutcome (a .1 .1 .1 .0) (a .1 .1 .1 .1 .0) (a .1 .1 .1 .1 .1 .0)
+      → PassOutcome (a .1 .1 .1 .0) (a .1 .1 .1 .1 .0)
       (now (a .0)) (now (a .1 .0)) (now (a .1 .1 .0)) (answerReply r)
       (now (s .0)) (now (s .1 .0)) (now (s .1 .1 .0))
   pub pass-asks : (κs : Lfts 3) (a : ArgsD pass.signature κs) → pass-reads.Asked κs a
-  -- enhance(frame, w, h, settings, plane, marks, queue, output)
+  -- enhance(frame, shape, settings, plane, marks, queue, output)
   pub of-enhance : (κs : Lfts 5) (a : ArgsD enhance.signature κs) (r : ResD enhance.signature κs)
       (s : AtExit enhance.ended κs) → enhance-reads.Learnt κs a r s
-      → EnhanceOutcome (a .1 .0) (a .1 .1 .0) (a .1 .1 .1 .0) (now (a .0)) (now (a .1 .1 .1 .1 .0))
-      (now (a .1 .1 .1 .1 .1 .0)) (now (a .1 .1 .1 .1 .1 .1 .0)) (now (a .1 .1 .1 .1 .1 .1 .1 .0)) (answerReply r)
-      (now (s .1 .1 .1 .1 .0)) (now (s .1 .1 .1 .1 .1 .0)) (now (s .1 .1 .1 .1 .1 .1 .0))
-      (now (s .1 .1 .1 .1 .1 .1 .1 .0))
+      → EnhanceOutcome (a .1 .0) (a .1 .1 .0) (now (a .0)) (now (a .1 .1 .1 .0))
+      (now (a .1 .1 .1 .1 .0)) (now (a .1 .1 .1 .1 .1 .0)) (now (a .1 .1 .1 .1 .1 .1 .0)) (answerReply r)
+      (now (s .1 .1 .1 .0)) (now (s .1 .1 .1 .1 .0)) (now (s .1 .1 .1 .1 .1 .0)) (now (s .1 .1 .1 .1 .1 .1 .0))
   pub enhance-asks : (κs : Lfts 5) (a : ArgsD enhance.signature κs) → enhance-reads.Asked κs a
-  -- run_list(list, plane, marks, queue, w, h)
+  -- run_list(list, plane, marks, queue, shape)
   pub of-list : (κs : Lfts 4) (a : ArgsD run-list.signature κs) (r : ResD run-list.signature κs)
       (s : AtExit run-list.ended κs) → run-list-reads.Learnt κs a r s
-      → ListOutcome (a .1 .1 .1 .1 .0) (a .1 .1 .1 .1 .1 .0) (now (a .0))
+      → ListOutcome (a .1 .1 .1 .1 .0) (now (a .0))
       (now (a .1 .0)) (now (a .1 .1 .0)) (now (a .1 .1 .1 .0)) (answerReply r)
       (now (s .1 .0)) (now (s .1 .1 .0)) (now (s .1 .1 .1 .0))
   pub list-asks : (κs : Lfts 4) (a : ArgsD run-list.signature κs) → run-list-reads.Asked κs a
-  -- run_array(list, count, plane, marks, queue, w, h)
+  -- run_array(list, count, plane, marks, queue, shape)
   pub of-passes : (κs : Lfts 3) (a : ArgsD run-array.signature κs) (r : ResD run-array.signature κs)
       (s : AtExit run-array.ended κs) → run-array-reads.Learnt κs a r s
-      → PassesOutcome (a .1 .1 .1 .1 .1 .0) (a .1 .1 .1 .1 .1 .1 .0) (take (a .1 .0) (a .0))
+      → PassesOutcome (a .1 .1 .1 .1 .1 .0) (take (a .1 .0) (a .0))
       (now (a .1 .1 .0)) (now (a .1 .1 .1 .0)) (now (a .1 .1 .1 .1 .0)) (answerReply r)
       (now (s .1 .1 .0)) (now (s .1 .1 .1 .0)) (now (s .1 .1 .1 .1 .0))
   pub passes-asks : (κs : Lfts 3) (a : ArgsD run-array.signature κs) → run-array-reads.Asked κs a
@@ -145,7 +146,7 @@ pub record CContracts : Type 0 where
   -- mlhe_run_list(list, plane, marks, queue, w, h)
   pub of-list : (κs : Lfts 4) (a : ArgsD mlhe-run-list.signature κs) (r : ResD mlhe-run-list.signature κs)
       (s : AtExit mlhe-run-list.ended κs) → mlhe-run-list-reads.Learnt κs a r s
-      → ListOutcome (a .1 .1 .1 .1 .0) (a .1 .1 .1 .1 .1 .0) (now (a .0))
+      → ListOutcome (shapeOf (a .1 .1 .1 .1 .0) (a .1 .1 .1 .1 .1 .0)) (now (a .0))
       (now (a .1 .0)) (now (a .1 .1 .0)) (now (a .1 .1 .1 .0)) (numberReply r)
       (now (s .1 .0)) (now (s .1 .1 .0)) (now (s .1 .1 .1 .0))
   pub list-asks : (κs : Lfts 4) (a : ArgsD mlhe-run-list.signature κs) → mlhe-run-list-reads.Asked κs a

@@ -1,46 +1,49 @@
--- The worked examples of the requirements that hold by the rules themselves, as one statement, and a chain of calls that
--- meets the hypotheses of demand 3. Definitions only.
+-- The worked examples of the requirements that hold by the rules themselves, as one statement, and a chain of calls
+-- that meets the hypotheses of demand 3. Definitions only.
 --
 --   After, PassExamples       a pass leaves a plane and a count: examples A to J, and others
 --   Extrema, ExtremaExamples  how many regional maxima and minima a plane has
 --   Enhancing                 an enhancement leaves a plane and a count: examples K and L
---   Starred                   all of them, with the published recursion on K, L and M, recolouring (N, O), the program (P)
---                             and a list (Q)
+--   Starred                   all of them, with the published recursion on K, L and M, recolouring (N, O), the program
+--                             (P) and a list (Q)
 --   Demand3Met                an accepted frame, and calls from its plane of which one is accepted and two are refused
 use Prim.Native.Nat.{ℕ}
 use mathlib.Core.Path.{_≡_}
 use mathlib.Core.List.{List, [], _∷_, _++_}
 use Rattle.planes.specs.Replies.{refuses, gives}
-use Rattle.planes.specs.Neighbours.{four}
+use Rattle.planes.specs.Shapes.{shapeOf, neighbours}
+use Rattle.planes.specs.declared.Shape.{Shape}
 use Rattle.planes.specs.Extrema.{maxima, minima}
 use Rattle.tones.specs.declared.Rule.{Rule}
 use Rattle.tones.specs.declared.Rule.the-variants.{Plain, Limited}
 use Rattle.colours.specs.Frames.{intensity, recolour}
 use Rattle.colours.specs.Calls.{IntensityOutcome}
 use Rattle.model.specs.declared.Pass.{Pass}
+use Rattle.model.specs.Neighbourhoods.{passNeighbours}
 use Rattle.model.specs.Effects.{passEffect, runEffect}
 use Rattle.model.specs.Calls.{chainEffect}
 use Rattle.model.specs.Enhancement.{enhanced}
-use Rattle.tones.specs.Examples.{anyRatio}
+use Rattle.tones.specs.Examples.{anyRatio, rowA}
 use Rattle.model.specs.PublishedExamples.{PublishedExamples}
 use Rattle.passes.specs.Calls.{callOn, Sequence}
-use Rattle.passlists.specs.Format.{passesOf, encode}
-use Rattle.passlists.specs.Refusals.{listRefusal}
-use Rattle.netpbm.specs.Bytes.{ascii}
+use Rattle.listformat.specs.Format.{passesOf, encode}
+use Rattle.listformat.specs.Refusals.{listRefusal}
+use Rattle.texts.specs.Ascii.{ascii}
 use Rattle.frames.specs.Program.{programOutput}
 
 -- ## Passes
 
--- a pass over a plane p of w columns leaves the plane q and retones k components
-abbrev pub After : ℕ → List ℕ → Pass → List ℕ → ℕ → Type 0
-After w p s q k = passEffect (four w) s p ≡ record { plane = q; retoned = k }
+-- a pass over a plane p leaves the plane q and retones k components
+abbrev pub After : Shape → List ℕ → Pass → List ℕ → ℕ → Type 0
+After z p s q k = passEffect (passNeighbours z) s p ≡ record { plane = q; retoned = k }
+
+-- one row of w pixels
+abbrev pub row : ℕ → Shape
+row w = shapeOf w 1
 
 -- a pass on [a, b]
 abbrev pub on : ℕ → ℕ → ℕ → Rule → Pass
 on a b area rule = record { a = a; b = b; area = area; rule = rule }
-
-abbrev pub rowA : List ℕ
-rowA = 10 ∷ 10 ∷ 20 ∷ 30 ∷ []
 
 abbrev pub rowC : List ℕ
 rowC = 0 ∷ 1 ∷ []
@@ -53,53 +56,53 @@ abbrev pub planeJ : List ℕ
 planeJ = 10 ∷ 200 ∷ 200 ∷ 20 ∷ []
 
 pub record PassExamples : Type 0 where
-  pub A : After 4 rowA (on 0 255 1 anyRatio) (128 ∷ 128 ∷ 191 ∷ 255 ∷ []) 1
+  pub A : After (row 4) rowA (on 0 255 1 anyRatio) (128 ∷ 128 ∷ 191 ∷ 255 ∷ []) 1
   -- kept back: 100 × 127 > 300 × 20
-  pub B : After 4 rowA (on 0 255 1 (Plain 0 300)) rowA 0
-  pub C : After 2 rowC (on 0 1 1 anyRatio) (1 ∷ 1 ∷ []) 1
+  pub B : After (row 4) rowA (on 0 255 1 (Plain 0 300)) rowA 0
+  pub C : After (row 2) rowC (on 0 1 1 anyRatio) (1 ∷ 1 ∷ []) 1
   -- kept back: 100 × 0 < 80 × 1
-  pub D : After 2 rowC (on 0 1 1 (Plain 80 25500)) rowC 0
+  pub D : After (row 2) rowC (on 0 1 1 (Plain 80 25500)) rowC 0
   -- two components; the second has one value
-  pub E : After 5 rowE (on 0 127 1 anyRatio) (64 ∷ 127 ∷ 200 ∷ 10 ∷ 10 ∷ []) 1
-  pub F : After 5 rowE (on 0 127 3 anyRatio) rowE 0
-  pub G : After 4 rowA (on 0 255 1 (Limited 10)) (13 ∷ 13 ∷ 25 ∷ 38 ∷ []) 1
-  pub H : After 4 rowA (on 0 255 1 (Limited 1000)) (128 ∷ 128 ∷ 191 ∷ 255 ∷ []) 1
-  pub I : After 4 rowA (on 0 255 1 (Limited 0)) (11 ∷ 11 ∷ 21 ∷ 31 ∷ []) 1
+  pub E : After (row 5) rowE (on 0 127 1 anyRatio) (64 ∷ 127 ∷ 200 ∷ 10 ∷ 10 ∷ []) 1
+  pub F : After (row 5) rowE (on 0 127 3 anyRatio) rowE 0
+  pub G : After (row 4) rowA (on 0 255 1 (Limited 10)) (13 ∷ 13 ∷ 25 ∷ 38 ∷ []) 1
+  pub H : After (row 4) rowA (on 0 255 1 (Limited 1000)) (128 ∷ 128 ∷ 191 ∷ 255 ∷ []) 1
+  pub I : After (row 4) rowA (on 0 255 1 (Limited 0)) (11 ∷ 11 ∷ 21 ∷ 31 ∷ []) 1
   -- 10 and 20 touch at a corner only: two components of one pixel
-  pub J : After 2 planeJ (on 0 127 1 anyRatio) planeJ 0
+  pub J : After (shapeOf 2 2) planeJ (on 0 127 1 anyRatio) planeJ 0
   -- components of exactly the least area
-  pub least : After 5 rowE (on 0 127 2 anyRatio) (64 ∷ 127 ∷ 200 ∷ 10 ∷ 10 ∷ []) 1
+  pub least : After (row 5) rowE (on 0 127 2 anyRatio) (64 ∷ 127 ∷ 200 ∷ 10 ∷ 10 ∷ []) 1
   -- neighbours may become one
-  pub joined : After 3 (0 ∷ 1 ∷ 0 ∷ []) (on 0 1 1 anyRatio) (1 ∷ 1 ∷ 1 ∷ []) 1
+  pub joined : After (row 3) (0 ∷ 1 ∷ 0 ∷ []) (on 0 1 1 anyRatio) (1 ∷ 1 ∷ 1 ∷ []) 1
 
 -- ## Regional extrema
 
--- a plane p of w columns has that many regional maxima and minima
-pub record Extrema (w : ℕ) (p : List ℕ) (tops pits : ℕ) : Type 0 where
-  pub maxima-are : maxima (four w) p ≡ tops
-  pub minima-are : minima (four w) p ≡ pits
+-- a plane p has that many regional maxima and minima
+pub record Extrema (z : Shape) (p : List ℕ) (tops pits : ℕ) : Type 0 where
+  pub maxima-are : maxima (neighbours z) p ≡ tops
+  pub minima-are : minima (neighbours z) p ≡ pits
 
 pub record ExtremaExamples : Type 0 where
   -- a constant plane is both
-  pub constant : Extrema 2 (7 ∷ 7 ∷ 7 ∷ 7 ∷ []) 1 1
-  pub single : Extrema 1 (7 ∷ []) 1 1
+  pub constant : Extrema (shapeOf 2 2) (7 ∷ 7 ∷ 7 ∷ 7 ∷ []) 1 1
+  pub single : Extrema (row 1) (7 ∷ []) 1 1
   -- a plateau counts once; one between a lower and a higher pixel is neither
-  pub plateau : Extrema 5 (3 ∷ 5 ∷ 5 ∷ 3 ∷ 4 ∷ []) 2 2
-  pub step : Extrema 4 (3 ∷ 5 ∷ 5 ∷ 7 ∷ []) 1 1
+  pub plateau : Extrema (row 5) (3 ∷ 5 ∷ 5 ∷ 3 ∷ 4 ∷ []) 2 2
+  pub step : Extrema (row 4) (3 ∷ 5 ∷ 5 ∷ 7 ∷ []) 1 1
   -- pixels that touch at a corner only are no neighbours
-  pub corners : Extrema 2 planeJ 2 2
+  pub corners : Extrema (shapeOf 2 2) planeJ 2 2
   -- a hole in a ring
-  pub ring : Extrema 3 (9 ∷ 9 ∷ 9 ∷ 9 ∷ 1 ∷ 9 ∷ 9 ∷ 9 ∷ 9 ∷ []) 1 1
+  pub ring : Extrema (shapeOf 3 3) (9 ∷ 9 ∷ 9 ∷ 9 ∷ 1 ∷ 9 ∷ 9 ∷ 9 ∷ 9 ∷ []) 1 1
   -- the pass `joined`: two minima become one
-  pub before-joined : Extrema 3 (0 ∷ 1 ∷ 0 ∷ []) 1 2
-  pub after-joined : Extrema 3 (1 ∷ 1 ∷ 1 ∷ []) 1 1
+  pub before-joined : Extrema (row 3) (0 ∷ 1 ∷ 0 ∷ []) 1 2
+  pub after-joined : Extrema (row 3) (1 ∷ 1 ∷ 1 ∷ []) 1 1
 
 -- ## All of them
 
 -- an enhancement of a frame leaves the plane q and counts k
-abbrev pub Enhancing : List ℕ → ℕ → ℕ → ℕ → ℕ → Rule → List ℕ → ℕ → Type 0
-Enhancing frame w h last area rule q k =
-    chainEffect (enhanced w h (intensity frame) last area rule) ≡ record { plane = q; retoned = k }
+abbrev pub Enhancing : List ℕ → Shape → ℕ → ℕ → Rule → List ℕ → ℕ → Type 0
+Enhancing frame z last area rule q k =
+    chainEffect (enhanced z (intensity frame) last area rule) ≡ record { plane = q; retoned = k }
 
 -- the grey frame 10 20
 abbrev pub greyK : List ℕ
@@ -116,8 +119,8 @@ listQ = 77 ∷ 76 ∷ 80 ∷ 1 ∷ 0 ∷ 1 ∷ 0 ∷ 0 ∷ 127 ∷ 0 ∷ 0 ∷ 1
 pub record Starred : Type 0 where
   pub passes : PassExamples
   pub extrema : ExtremaExamples
-  pub K : Enhancing greyK 2 1 0 20 anyRatio (128 ∷ 255 ∷ []) 1
-  pub L : Enhancing greyK 2 1 1 1 anyRatio (192 ∷ 255 ∷ []) 2
+  pub K : Enhancing greyK (row 2) 0 20 anyRatio (128 ∷ 255 ∷ []) 1
+  pub L : Enhancing greyK (row 2) 1 1 anyRatio (192 ∷ 255 ∷ []) 2
   -- K, L and M by components
   pub published : PublishedExamples
   pub N : recolour (200 ∷ 100 ∷ 0 ∷ []) (120 ∷ []) ≡ 240 ∷ 120 ∷ 0 ∷ []
@@ -128,7 +131,8 @@ pub record Starred : Type 0 where
   -- the list is that of E's pass, is not refused, and does E
   pub Q-is : encode (on 0 127 1 anyRatio ∷ []) ≡ listQ
   pub Q-accepted : listRefusal listQ ≡ 0
-  pub Q : runEffect (four 5) (passesOf listQ) rowE ≡ record { plane = 64 ∷ 127 ∷ 200 ∷ 10 ∷ 10 ∷ []; retoned = 1 }
+  pub Q : runEffect (passNeighbours (row 5)) (passesOf listQ) rowE
+      ≡ record { plane = 64 ∷ 127 ∷ 200 ∷ 10 ∷ 10 ∷ []; retoned = 1 }
 
 -- ## The hypotheses of demand 3 can be met
 
@@ -136,6 +140,6 @@ pub record Starred : Type 0 where
 -- short, and with the ends of its interval exchanged
 pub record Demand3Met : Type 0 where
   pub filled : IntensityOutcome 2 1 greyK (0 ∷ 0 ∷ []) (gives []) (10 ∷ 20 ∷ [])
-  pub calls : Sequence 2 1 (10 ∷ 20 ∷ [])
+  pub calls : Sequence (row 2) (10 ∷ 20 ∷ [])
       (callOn 2 2 (on 0 255 1 anyRatio) ∷ callOn 2 1 (on 0 255 1 anyRatio) ∷ callOn 2 2 (on 255 0 1 anyRatio) ∷ [])
       (gives (1 ∷ []) ∷ refuses 4 ∷ refuses 5 ∷ []) (128 ∷ 255 ∷ [])

@@ -2,17 +2,14 @@
 -- that is refused and of one that is done. Assumes nothing.
 use Prim.Native.Nat.{ℕ, _*_, _≤_}
 use mathlib.Core.Path.{_≡_, sym, ap, _∙_}
-use mathlib.Core.Bool.{not, _||_}
 use mathlib.Core.List.{List, [], _++_}
 use native.Mathlib.Omega.{arith}
-use lib.Dec.{ltb, eqb}
 use lib.ListN.{length, drop}
-use borrow.Author.Tests.{eqb-true, ltb-false, le-ltb, not-false}
-use Rattle.planes.specs.Refusals.{when, _▷_, sizeRefusal, greatestPixels}
-use Rattle.planes.proofs.Refusals.{when-none, ▷-none, sized}
+use Rattle.planes.specs.Refusals.{_▷_, lengthRefusal, outputRefusal, sizeRefusal, greatestPixels}
+use Rattle.planes.proofs.Refusals.{▷-none, ▷-both, ▷-assoc, length-fits, length-none, output-fits, output-none}
+use Rattle.planes.proofs.Refusals.{sized, sized-none}
 use Rattle.planes.specs.Replies.{Reply, gives, replied, after, overwritten}
 use Rattle.planes.proofs.Replies.{replied-gives, replied-refused, after-refused}
-use Rattle.planes.proofs.Tests.{or-none}
 use Rattle.colours.specs.declared.Status.the-variants.{Done, Refused}
 use Rattle.colours.specs.Frames.{intensity, recolour}
 use Rattle.colours.specs.Calls.{intensityRefusal, recolourRefusal, Accepted, statusReply}
@@ -22,31 +19,51 @@ use Rattle.colours.proofs.Frames.{length-intensity, length-recolour}
 
 -- ## Refusals
 
-pub intensity-accepted : (w h frame plane : ℕ) → intensityRefusal w h frame plane ≡ 0 → Accepted w h frame plane
-unfolding intensityRefusal
-intensity-accepted w h frame plane e =
-    let other = not (eqb plane (w * h)) || not (eqb frame (3 * (w * h))) in
-    let tests = ▷-none (sizeRefusal w h greatestPixels) (when other 3) e in
-    let equal = or-none (not (eqb plane (w * h))) (not (eqb frame (3 * (w * h)))) (when-none other 2 (tests .1)) in
-    record {
-      size = sized w h greatestPixels (tests .0);
-      pixels = eqb-true plane (w * h) (not-false (eqb plane (w * h)) (equal .0));
-      channels = eqb-true frame (3 * (w * h)) (not-false (eqb frame (3 * (w * h))) (equal .1));
-    }
+module _ (w h frame plane : ℕ) where
+  -- the refusals by the lengths of the plane and the frame
+  abbrev lengths : ℕ
+  lengths = lengthRefusal plane (w * h) ▷ lengthRefusal frame (3 * (w * h))
 
-pub recolour-accepted : (w h frame plane output : ℕ) → recolourRefusal w h frame plane output ≡ 0
-    → Accepted w h frame plane × (3 * (w * h) ≤ output)
-unfolding recolourRefusal
-recolour-accepted w h frame plane output e =
-    let short = ltb output (3 * (w * h)) in
-    let tests = ▷-none (intensityRefusal w h frame plane) (when short 14) e in
-    (intensity-accepted w h frame plane (tests .0), ltb-false output (3 * (w * h)) (when-none short 13 (tests .1)))
+  pub intensity-accepted : intensityRefusal w h frame plane ≡ 0 → Accepted w h frame plane
+  unfolding intensityRefusal
+  intensity-accepted e =
+      let tests = ▷-none (sizeRefusal w h greatestPixels) lengths e in
+      let fit = ▷-none (lengthRefusal plane (w * h)) (lengthRefusal frame (3 * (w * h))) (tests .1) in
+      record {
+        size = sized w h greatestPixels (tests .0);
+        pixels = length-fits plane (w * h) (fit .0);
+        channels = length-fits frame (3 * (w * h)) (fit .1);
+      }
 
--- a frame and a plane that `intensity` accepts are accepted by `recolour`, with an output that is long enough
-pub recolour-accepts : (w h frame plane output : ℕ) → intensityRefusal w h frame plane ≡ 0 → 3 * (w * h) ≤ output
-    → recolourRefusal w h frame plane output ≡ 0
-unfolding recolourRefusal
-recolour-accepts w h frame plane output e room = simp (e, le-ltb output (3 * (w * h)) room)
+  -- and back
+  pub intensity-accepts : Accepted w h frame plane → intensityRefusal w h frame plane ≡ 0
+  unfolding intensityRefusal
+  intensity-accepts a =
+      ▷-both (sizeRefusal w h greatestPixels) lengths (sized-none w h greatestPixels (a .size))
+      (▷-both (lengthRefusal plane (w * h)) _ (length-none plane (w * h) (a .pixels))
+      (length-none frame (3 * (w * h)) (a .channels)))
+
+  module _ (output : ℕ) where
+    -- the refusals of `recolour` are those of `intensity`, then 14
+    pub recolour-order : recolourRefusal w h frame plane output
+        ≡ intensityRefusal w h frame plane ▷ outputRefusal output (3 * (w * h))
+    unfolding intensityRefusal recolourRefusal
+    recolour-order =
+        let last = outputRefusal output (3 * (w * h)) in
+        ap (_▷_ (sizeRefusal w h greatestPixels)) (sym (▷-assoc (lengthRefusal plane (w * h)) _ last))
+        ∙ sym (▷-assoc (sizeRefusal w h greatestPixels) lengths last)
+
+    pub recolour-accepted : recolourRefusal w h frame plane output ≡ 0
+        → Accepted w h frame plane × (3 * (w * h) ≤ output)
+    recolour-accepted e =
+        let tests = ▷-none (intensityRefusal w h frame plane) _ (sym recolour-order ∙ e) in
+        (intensity-accepted (tests .0), output-fits output (3 * (w * h)) (tests .1))
+
+    -- a frame and a plane that `intensity` accepts are accepted by `recolour`, with an output that is long enough
+    pub recolour-accepts : intensityRefusal w h frame plane ≡ 0 → 3 * (w * h) ≤ output
+        → recolourRefusal w h frame plane output ≡ 0
+    recolour-accepts e room =
+        recolour-order ∙ ▷-both (intensityRefusal w h frame plane) _ e (output-none output (3 * (w * h)) room)
 
 -- ## Outcomes
 

@@ -3,27 +3,18 @@
 use Prim.Native.Nat.{ℕ, zero, suc, _+_, _*_, _/_, _%_, _≤_, _<_, zero-le}
 use mathlib.Core.Path.{_≡_, refl}
 use mathlib.Core.Logic.{inl, inr}
-use mathlib.Core.Bool.{Bool, true, false, cond}
 use mathlib.Core.List.{List}
-use native.Mathlib.Nat.{mul-le-mul-right}
 use native.Mathlib.Omega.{arith}
-use lib.Dec.{leb, eqb}
 use lib.ListN.{length, List·getD-eq-default}
-use borrow.Author.Tests.{leb-true}
 use Rattle.planes.specs.Lists.{at}
-use Rattle.planes.specs.Rounding.{rounded}
 use Rattle.planes.proofs.Lists.{all-at, length-all}
-use Rattle.planes.proofs.Rounding.{rounded-mono, rounded-le, rounded-in}
+use Rattle.planes.proofs.Rounding.{rounded-in}
 use Rattle.planes.proofs.Tests.{less-or-not}
-use Rattle.colours.specs.Frames.{third, thirds, pixelIntensity, intensity}
-use Rattle.colours.specs.Frames.{greatestChannel, newChannel, newChannelAt, recolour}
+use Rattle.channels.specs.Channels.{third, newChannel}
+use Rattle.channels.proofs.Channels.{channel-mono, channel-byte}
+use Rattle.colours.specs.Frames.{pixelIntensity, intensity, greatestChannel, newChannelAt, recolour}
 
 -- ## Intensity
-
--- the table holds the rounded third of each channel sum
-pub thirds-at : (sum : ℕ) → sum < 766 → at thirds sum ≡ third sum
-unfolding thirds
-thirds-at sum h = all-at third 766 sum h
 
 pub length-intensity : (frame : List ℕ) → length (intensity frame) ≡ length frame / 3
 unfolding intensity
@@ -47,28 +38,6 @@ intensity-bytes frame bytes i = elim (less-or-not i (length frame / 3)) [
 ]
 
 -- ## Channels
-
--- of two channels of a pixel, one that is no higher becomes no higher
-pub channel-mono : (I M J : ℕ) {C E : ℕ} → C ≤ E → newChannel I M J C ≤ newChannel I M J E
-unfolding newChannel
-channel-mono I M J {C} {E} h = go (eqb I 0) (leb (J * M) (255 * I))
-  where
-    go : (s t : Bool)
-        → cond s 0 (cond t (rounded (C * J) I) (rounded (255 * C) M))
-        ≤ cond s 0 (cond t (rounded (E * J) I) (rounded (255 * E) M))
-    go true t = zero-le
-    go false true = rounded-mono I (mul-le-mul-right J h)
-    go false false = rounded-mono M (omega arith)
-
--- a channel becomes a byte, whatever the numbers are
-pub channel-byte : (I M J C : ℕ) → C ≤ M → newChannel I M J C ≤ 255
-unfolding newChannel
-channel-byte I M J C h = go (eqb I 0) (leb (J * M) (255 * I)) refl
-  where
-    go : (s t : Bool) → leb (J * M) (255 * I) ≡ t → cond s 0 (cond t (rounded (C * J) I) (rounded (255 * C) M)) ≤ 255
-    go true t e = zero-le
-    go false true e = rounded-in 255 I (C * J) (omega (arith, mul-le-mul-right J h, leb-true (J * M) (255 * I) e))
-    go false false e = rounded-le 255 M C h
 
 -- the channel at index k is at most the greatest of its pixel i
 pub channel-below : (frame : List ℕ) (i k : ℕ) → k / 3 ≡ i → at frame k ≤ greatestChannel frame i
@@ -109,8 +78,3 @@ module _ (frame plane : List ℕ) where
       → at frame k ≤ at frame l → at (recolour frame plane) k ≤ at (recolour frame plane) l
   channels-ordered k l hk hl e h =
       rw (recolour-at (l / 3) k e hk, recolour-at (l / 3) l refl hl) (channel-mono _ _ _ h)
-
-  -- so no two channels of a pixel are reversed: one that was higher is not lower afterwards
-  pub channels-not-reversed : (k l : ℕ) → k < length frame → l < length frame → k / 3 ≡ l / 3
-      → at frame k < at frame l → at (recolour frame plane) l < at (recolour frame plane) k → ⊥
-  channels-not-reversed k l hk hl e higher lower = omega (arith, channels-ordered k l hk hl e (omega arith))

@@ -17,8 +17,8 @@ use borrow.Author.Tests.{leb-true, leb-false, ne-eqb}
 use Rattle.planes.specs.Lists.{at}
 use Rattle.planes.specs.Rounding.{rounded}
 use Rattle.planes.proofs.Rounding.{rounded-exact}
-use Rattle.colours.specs.Frames.{red, third, pixelIntensity, intensity, greatestChannel, newChannel}
-use Rattle.colours.specs.Frames.{recolour, Grey}
+use Rattle.channels.specs.Channels.{third, newChannel}
+use Rattle.colours.specs.Frames.{red, pixelIntensity, intensity, greatestChannel, recolour, Grey}
 use Rattle.colours.proofs.Frames.{intensity-at, length-recolour, recolour-at}
 
 third-of : (g : ℕ) → third (g + g + g) ≡ g

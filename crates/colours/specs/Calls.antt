@@ -8,11 +8,9 @@
 --   RecolourOutcome    the contract of `recolour`
 use Prim.Native.Nat.{ℕ, _*_}
 use mathlib.Core.Path.{_≡_}
-use mathlib.Core.Bool.{not, _||_}
 use mathlib.Core.List.{List, []}
-use lib.Dec.{ltb, eqb}
 use lib.ListN.{length}
-use Rattle.planes.specs.Refusals.{when, _▷_, sizeRefusal, greatestPixels, Sized}
+use Rattle.planes.specs.Refusals.{_▷_, lengthRefusal, outputRefusal, sizeRefusal, greatestPixels, Sized}
 use Rattle.planes.specs.Replies.{Reply, refuses, gives, replied, after, overwritten}
 use Rattle.colours.specs.Frames.{intensity, recolour}
 use Rattle.colours.specs.declared.Status.{Status}
@@ -20,14 +18,16 @@ use Rattle.colours.specs.declared.Status.the-variants.{Done, Refused}
 
 -- ## Refusals, by the lengths of what is lent
 
--- 1 and 2 by the size; 3: the plane is not n bytes, or the frame not 3 × n
+-- 1, 2, 3 (the plane, the frame)
 unfoldable pub intensityRefusal : ℕ → ℕ → ℕ → ℕ → ℕ
 intensityRefusal w h frame plane =
-    sizeRefusal w h greatestPixels ▷ when (not (eqb plane (w * h)) || not (eqb frame (3 * (w * h)))) 3
+    sizeRefusal w h greatestPixels ▷ lengthRefusal plane (w * h) ▷ lengthRefusal frame (3 * (w * h))
 
--- 14: the output is shorter than 3 × n
+-- 1, 2, 3 (the plane, the frame), 14
 unfoldable pub recolourRefusal : ℕ → ℕ → ℕ → ℕ → ℕ → ℕ
-recolourRefusal w h frame plane output = intensityRefusal w h frame plane ▷ when (ltb output (3 * (w * h))) 14
+recolourRefusal w h frame plane output =
+    sizeRefusal w h greatestPixels ▷ lengthRefusal plane (w * h) ▷ lengthRefusal frame (3 * (w * h))
+    ▷ outputRefusal output (3 * (w * h))
 
 -- a frame and a plane that are not refused
 pub record Accepted (w h frame plane : ℕ) : Type 0 where

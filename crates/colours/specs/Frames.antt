@@ -2,21 +2,18 @@
 -- A frame of n pixels is the list of its 3 × n channels R, G, B, pixel after pixel in reading order. Definitions only.
 --
 --   red, green, blue   the channels of a pixel
---   third, thirds      the rounded third of a channel sum, and the table of all of them
 --   pixelIntensity     I: the intensity of a pixel
 --   intensity          the plane of the intensities of a frame
 --   greatestChannel    M: the greatest channel of a pixel
---   newChannel         what a channel becomes
+--   newChannelAt       what a channel becomes
 --   recolour           the frame of what all channels become
 --   Grey               a frame whose pixels are all grey
 use Prim.Native.Nat.{ℕ, _+_, _*_, _/_, max, _<_}
 use mathlib.Core.Path.{_≡_}
-use mathlib.Core.Bool.{cond}
 use mathlib.Core.List.{List, map}
-use lib.Dec.{leb, eqb}
 use lib.ListN.{length}
 use Rattle.planes.specs.Lists.{from, at}
-use Rattle.planes.specs.Rounding.{rounded}
+use Rattle.channels.specs.Channels.{third, newChannel}
 
 -- ## Pixels of a frame
 
@@ -31,14 +28,6 @@ blue frame i = at frame (3 * i + 2)
 
 -- ## Intensity
 
--- round(sum / 3)
-unfoldable pub third : ℕ → ℕ
-third sum = rounded sum 3
-
--- the rounded thirds of the 766 channel sums
-unfoldable pub thirds : List ℕ
-thirds = map third (from 0 766)
-
 -- I of pixel i: round((R + G + B) / 3)
 unfoldable pub pixelIntensity : List ℕ → ℕ → ℕ
 pixelIntensity frame i = third (red frame i + green frame i + blue frame i)
@@ -52,11 +41,6 @@ intensity frame = map (pixelIntensity frame) (from 0 (length frame / 3))
 -- M of pixel i
 unfoldable pub greatestChannel : List ℕ → ℕ → ℕ
 greatestChannel frame i = max (red frame i) (max (green frame i) (blue frame i))
-
--- what a channel C becomes in a pixel of intensity I and greatest channel M, from the new intensity J: 0 if I = 0; else
--- round(C × J / I) if J × M ≤ 255 × I, and round(255 × C / M) otherwise
-unfoldable pub newChannel : ℕ → ℕ → ℕ → ℕ → ℕ
-newChannel I M J C = cond (eqb I 0) 0 (cond (leb (J * M) (255 * I)) (rounded (C * J) I) (rounded (255 * C) M))
 
 -- what the channel at index k becomes, from a plane of new intensities; it belongs to pixel k / 3
 abbrev pub newChannelAt : List ℕ → List ℕ → ℕ → ℕ

@@ -2,11 +2,12 @@
 -- row. The entries in use are pixels of the component, each once, and all that has changed is that they lost their
 -- marks; no pixel beside them in their rows has the code, and no neighbour of those already spread from. When all have
 -- been spread from, the entries are closed under neighbours, so they are the whole component. Assumes nothing.
-use Prim.Native.Nat.{ℕ, zero, suc, _+_, _*_, _≤_, _<_}
+use Prim.Native.Nat.{ℕ, zero, suc, _+_, _≤_, _<_}
 use mathlib.Core.Path.{_≡_, refl, sym, ap, ap₂, subst, _∙_}
 use mathlib.Core.Logic.{_⊎_, inl, inr}
-use mathlib.Core.Bool.{Bool, true, false, cond, _||_, true≢false}
+use mathlib.Core.Bool.{Bool, true, false, cond, _||_, true≢false, or-false}
 use mathlib.Core.List.{List}
+use mathlib.Mathlib.Data.Bool.Basic.{or-inr}
 use native.Mathlib.Nat.{eq-or-lt-of-le, mul-mod-right}
 use native.Mathlib.Numerals.{add-one}
 use native.Mathlib.Omega.{arith}
@@ -17,18 +18,21 @@ use borrow.Author.Tests.{eq-eqb, ne-eqb}
 use Rattle.planes.specs.Lists.{at}
 use Rattle.planes.specs.Neighbours.{Near, Chain, here, step}
 use Rattle.planes.specs.Enumerations.{among, Enumerates}
-use Rattle.planes.proofs.Tests.{or-right, or-false, same-test, less-or-not}
+use Rattle.planes.specs.Shapes.{pixels, Narrower}
+use Rattle.planes.specs.declared.Shape.{Shape}
+use Rattle.planes.proofs.Tests.{same-test, less-or-not}
 use Rattle.planes.proofs.Stores.{at-set}
 use Rattle.planes.proofs.Neighbours.{filled}
 use Rattle.planes.proofs.Enumerations.{among-at, among-place, entries-size}
-use Rattle.components.specs.Rows.{Width}
-use Rattle.components.specs.Regions.{alike, region}
-use Rattle.components.specs.Floods.{inRow, rowEnd, Shut, Joined, Beyond, Taken, none, one, Reached, Spread}
-use Rattle.components.specs.Floods.{Room, Floodable, Flooded}
-use Rattle.components.proofs.Regions.{alike-of, alike-to, alike-near, alike-on, region-below, region-linked}
-use Rattle.components.proofs.Rows.{row-end-le, width-of}
-use Rattle.components.proofs.Taken.{room-for, room-less, room-of}
-use Rattle.components.proofs.Taken.{taken-kept, taken-room, taken-was, taken-map}
+use Rattle.rows.specs.Rows.{inRow, rowEnd, Width}
+use Rattle.rows.specs.Codes.{alike, Joined, Shut}
+use Rattle.rows.specs.Runs.{Room, Taken, none, one, Reached}
+use Rattle.rows.proofs.Rows.{row-end-le, width-of}
+use Rattle.rows.proofs.Codes.{alike-of, alike-to, alike-near, alike-on}
+use Rattle.rows.proofs.Taken.{room-for, room-less, room-whole, taken-kept, taken-room, taken-was, taken-map}
+use Rattle.components.specs.Regions.{region}
+use Rattle.components.specs.Floods.{JoinedBeyond, Spread, Floodable, Flooded}
+use Rattle.components.proofs.Regions.{region-below, region-linked}
 
 -- the first `tail` entries are pixels of the component of `start`, each once; they lost their marks, and nothing else
 -- has changed since marks₀ and queue₀
@@ -95,7 +99,7 @@ module _ {near : Near} {n code start : ℕ} {marks₀ queue₀ marks queue : Lis
 
   new-marks : (p : ℕ) → at marks' p ≡ cond (among queue' (tail + 1) p) 0 (at marks₀ p)
   new-marks p = at-set (λ (x : ℕ). x ≡ Mark (among queue' (tail + 1) p)) marks q p 0 (omega (arith, R .covered))
-      (λ d. sym (ap Mark (among-new p ∙ or-right (among queue tail p) (eqb p q) (eq-eqb p q d))))
+      (λ d. sym (ap Mark (among-new p ∙ or-inr (among queue tail p) (eqb p q) (eq-eqb p q d))))
       (λ d. I .marks-are p
       ∙ sym (ap Mark (among-new p ∙ ap (among queue tail p ||_) (ne-eqb p q d) ∙ or-false (among queue tail p))))
     where
@@ -148,34 +152,41 @@ nothing-yet near n code start marks queue = record {
   queue-length = refl;
 }
 
-module _ {near : Near} {marks queue : List ℕ} {w h inverse code start : ℕ}
-    (rows-near : (u v : ℕ) → inRow w u v ≡ true → near u v ≡ true)
-    (F : Floodable marks queue w h inverse code start) where
-  ends : rowEnd w start ≤ w * h
-  ends = row-end-le w (w * h) start (F .size .wide) (mul-mod-right w h) (F .inside)
+module _ {marks queue : List ℕ} {z : Shape} {inverse code start : ℕ}
+    (F : Floodable marks queue z inverse code start) where
+  abbrev n : ℕ
+  n = pixels z
+
+  ends : rowEnd (z .w) start ≤ n
+  ends = row-end-le (z .w) n start (F .size .wide) (mul-mod-right (z .w) (z .h)) (F .inside)
+
+  whole : Room marks queue n code 0
+  whole = room-whole marks queue n code (F .size .few) (F .real) (F .covered) (F .spare)
 
   -- what `reach` requires of the first pixel
-  pub may-begin : Width w inverse × Room marks queue (rowEnd w start) code 0
-  may-begin = (width-of (F .size) (F .inverse-is), room-less (room-of F) (rowEnd w start) ends)
+  pub may-begin : Width (z .w) inverse × Room marks queue (rowEnd (z .w) start) code 0
+  may-begin = (width-of (F .size) (F .inverse-is), room-less whole (rowEnd (z .w) start) ends)
 
-  -- a chain leads to what is joined to `start` in its row
-  first-chain : (x : ℕ) → Joined (inRow w) (rowEnd w start) marks code start x
-      → Chain (alike near marks code) (w * h) start x
-  first-chain x j =
-      alike-on (inRow w) near (rowEnd w start) (w * h) code marks marks ends rows-near (λ u e. e) here (j .chain)
+  module _ {near : Near} (rows-near : Narrower (inRow (z .w)) near) where
+    -- a chain leads to what is joined to `start` in its row
+    first-chain : (x : ℕ) → Joined (inRow (z .w)) (rowEnd (z .w) start) marks code start x
+        → Chain (alike near marks code) n start x
+    first-chain x j =
+        alike-on (inRow (z .w)) near (rowEnd (z .w) start) n code marks marks ends rows-near (λ u e. e) here (j .chain)
 
-  pub flood-begin : {tail' : ℕ} {marks' queue' : List ℕ} → Reached w code start marks queue 0 marks' queue' tail'
-      → Flooding near w (w * h) code start marks queue marks' queue' 0 tail'
-  flood-begin T =
-      let taken = taken-map ends first-chain (T .taken) in
-      record {
-        searched = take-all (nothing-yet near (w * h) code start marks queue) (room-of F) taken;
-        room = taken-room (room-of F) taken;
-        begun = T .off;
-        order = omega arith;
-        rows = λ k l. T .rows k (omega arith) l;
-        closed = λ k q l. absurd (omega arith);
-      }
+    pub flood-begin : {tail' : ℕ} {marks' queue' : List ℕ}
+        → Reached (z .w) code start marks queue 0 marks' queue' tail'
+        → Flooding near (z .w) n code start marks queue marks' queue' 0 tail'
+    flood-begin T =
+        let taken = taken-map ends first-chain (T .taken) in
+        record {
+          searched = take-all (nothing-yet near n code start marks queue) whole taken;
+          room = taken-room whole taken;
+          begun = T .off;
+          order = omega arith;
+          rows = λ k l. T .rows k (omega arith) l;
+          closed = λ k q l. absurd (omega arith);
+        }
 
 -- ## One turn of the loop
 
@@ -204,11 +215,11 @@ module _ {near : Near} {w n code start head tail : ℕ} {marks₀ queue₀ marks
       go false d = sym (F .searched .marks-are x ∙ ap (λ (t : Bool). cond t 0 (at marks₀ x)) d) ∙ e
 
   -- a chain leads to what is beyond the entry at the head
-  from-start : (x : ℕ) → Beyond near n marks code (at queue head) x → Chain (alike near marks₀ code) n start x
+  from-start : (x : ℕ) → JoinedBeyond near n marks code (at queue head) x → Chain (alike near marks₀ code) n start x
   from-start x b =
       let had = F .searched .had head l in
       let first = first-had (b .next) (b .joined .has) in
-      let link = alike-of near n code marks₀ had first (b .nearby) in
+      let link = alike-of near code marks₀ had first (b .nearby) in
       alike-on near near n n code marks marks₀ (omega arith) (λ u v e. e) first-had
       (step (F .searched .reached head l) link (b .below)) (b .joined .chain)
 
@@ -256,8 +267,8 @@ module _ {near : Near} {w n code start : ℕ} {marks₀ queue₀ marks queue : L
   shut : (u v : ℕ) → u < n → v < n → among queue tail u ≡ true → Link u v ≡ true → among queue tail v ≡ true
   shut u v hu hv m e =
       let r = among-place queue tail u m in
-      let nearby = alike-near near n code marks₀ u v e in
-      gone v (alike-to near n code marks₀ u v e) (λ d. F .closed (r .index) v (omega (arith, r .below)) hv
+      let nearby = alike-near near code marks₀ u v e in
+      gone v (alike-to near code marks₀ u v e) (λ d. F .closed (r .index) v (omega (arith, r .below)) hv
       (subst (λ (x : ℕ). near x v ≡ true) (sym (r .holds)) nearby) d)
 
   -- and a chain leads to each

@@ -1,18 +1,22 @@
 -- Regions as sets, over any neighbour relation: a region is what chains of neighbours that have the code reach, it is
 -- one for all its pixels where the relation is symmetric, and it stays as it is when the pixels of whole other regions
 -- get marks that are not the code. Each law goes by induction over a chain. Assumes nothing.
-use Prim.Native.Nat.{ℕ, _≤_, _<_}
-use mathlib.Core.Path.{_≡_, refl, sym, ap, ap₂, _∙_}
+use Prim.Native.Nat.{ℕ, _<_}
+use mathlib.Core.Path.{_≡_, refl, sym, ap, _∙_}
 use mathlib.Core.Bool.{Bool, true, false, cond, _&&_}
 use mathlib.Core.List.{List}
+use mathlib.Mathlib.Data.Bool.Basic.{and-elim-left}
 use native.Mathlib.Omega.{arith}
-use lib.Dec.{ltb, eqb}
-use borrow.Author.Tests.{eqb-true, eq-eqb, lt-ltb, ltb-true}
+use lib.Dec.{ltb}
+use borrow.Author.Tests.{lt-ltb, ltb-true}
 use Rattle.planes.specs.Lists.{at}
 use Rattle.planes.specs.Neighbours.{Near, Chain, here, step, linked}
-use Rattle.planes.proofs.Tests.{and-left, and-right, and-both, and-comm, same-test}
+use Rattle.planes.specs.Shapes.{Symmetric}
+use Rattle.planes.proofs.Tests.{same-test}
 use Rattle.planes.proofs.Links.{linked-iff, link-near, link-refl, link-trans, link-sym}
-use Rattle.components.specs.Regions.{alike, region}
+use Rattle.rows.specs.Codes.{alike}
+use Rattle.rows.proofs.Codes.{alike-of, alike-from, alike-to, alike-near, alike-sym, alike-on}
+use Rattle.components.specs.Regions.{region}
 
 -- ## Regions as sets
 
@@ -23,27 +27,9 @@ module _ (near : Near) (n code : ℕ) (marks : List ℕ) where
   abbrev Region : ℕ → ℕ → Bool
   Region = region near n marks code
 
-  pub alike-of : {u v : ℕ} → at marks u ≡ code → at marks v ≡ code → near u v ≡ true → Link u v ≡ true
-  unfolding alike
-  alike-of a b e = and-both (and-both (eq-eqb _ _ a) (eq-eqb _ _ b)) e
-
-  both-coded : (u v : ℕ) → Link u v ≡ true → (eqb (at marks u) code && eqb (at marks v) code) ≡ true
-  unfolding alike
-  both-coded u v e = and-left (eqb (at marks u) code && eqb (at marks v) code) (near u v) e
-
-  pub alike-from : (u v : ℕ) → Link u v ≡ true → at marks u ≡ code
-  alike-from u v e = eqb-true _ _ (and-left (eqb (at marks u) code) (eqb (at marks v) code) (both-coded u v e))
-
-  pub alike-to : (u v : ℕ) → Link u v ≡ true → at marks v ≡ code
-  alike-to u v e = eqb-true _ _ (and-right (eqb (at marks u) code) (eqb (at marks v) code) (both-coded u v e))
-
-  pub alike-near : (u v : ℕ) → Link u v ≡ true → near u v ≡ true
-  unfolding alike
-  alike-near u v e = and-right (eqb (at marks u) code && eqb (at marks v) code) (near u v) e
-
   pub region-below : (s x : ℕ) → Region s x ≡ true → x < n
   unfolding region
-  region-below s x e = ltb-true x n (and-left (ltb x n) (linked Link n s x) e)
+  region-below s x e = ltb-true x n (and-elim-left (ltb x n) (linked Link n s x) e)
 
   pub region-linked : (s x : ℕ) → x < n → Region s x ≡ linked Link n s x
   unfolding region
@@ -68,18 +54,15 @@ module _ (near : Near) (n code : ℕ) (marks : List ℕ) where
 
   coded-along : {s x : ℕ} → at marks s ≡ code → Chain Link n s x → at marks x ≡ code
   coded-along a here = a
-  coded-along a (step {j = j} {k = k} c e l) = alike-to j k e
+  coded-along a (step {j = j} {k = k} c e l) = alike-to near code marks j k e
 
   pub region-coded : (s x : ℕ) → s < n → at marks s ≡ code → Region s x ≡ true → at marks x ≡ code
   region-coded s x h a e = coded-along a (region-chain s x h e)
 
-  module _ (symm : (i j : ℕ) → near i j ≡ near j i) where
-    pub alike-sym : (u v : ℕ) → Link u v ≡ Link v u
-    unfolding alike
-    alike-sym u v = ap₂ _&&_ (and-comm (eqb (at marks u) code) (eqb (at marks v) code)) (symm u v)
-
+  module _ (symm : Symmetric near) where
     pub region-sym : (s x : ℕ) → s < n → x < n → Region s x ≡ Region x s
-    region-sym s x h k = region-linked s x k ∙ link-sym Link alike-sym n s x ∙ sym (region-linked x s h)
+    region-sym s x h k =
+        region-linked s x k ∙ link-sym Link (alike-sym near code marks symm) n s x ∙ sym (region-linked x s h)
 
     -- neighbours that have the code are in the same regions
     pub region-whole : (s u v : ℕ) → u < n → v < n → Link u v ≡ true → Region s u ≡ Region s v
@@ -87,23 +70,8 @@ module _ (near : Near) (n code : ℕ) (marks : List ℕ) where
         region-linked s u hu
         ∙ same-test (linked Link n s u) (linked Link n s v)
         (λ d. link-trans Link n s u v hu d (link-near Link n e))
-        (λ d. link-trans Link n s v u hv d (link-near Link n (alike-sym v u ∙ e)))
+        (λ d. link-trans Link n s v u hv d (link-near Link n (alike-sym near code marks symm v u ∙ e)))
         ∙ sym (region-linked s v hv)
-
--- ## Chains of one relation go on with those of another
-
--- where near₁ holds near does, and what has the code in marks₁ has it in marks
-pub alike-on : (near₁ near : Near) (m n code : ℕ) (marks₁ marks : List ℕ) → m ≤ n
-    → ((u v : ℕ) → near₁ u v ≡ true → near u v ≡ true) → ((u : ℕ) → at marks₁ u ≡ code → at marks u ≡ code)
-    → {s i j : ℕ} → Chain (alike near marks code) n s i → Chain (alike near₁ marks₁ code) m i j
-    → Chain (alike near marks code) n s j
-alike-on near₁ near m n code marks₁ marks h f g c here = c
-alike-on near₁ near m n code marks₁ marks h f g c (step {j = j} {k = k} d e l) =
-    let from-j = g j (alike-from near₁ m code marks₁ j k e) in
-    let to-k = g k (alike-to near₁ m code marks₁ j k e) in
-    let nearby = f j k (alike-near near₁ m code marks₁ j k e) in
-    let link = alike-of near n code marks from-j to-k nearby in
-    step (alike-on near₁ near m n code marks₁ marks h f g c d) link (omega arith)
 
 -- ## Whole regions get other marks
 
@@ -136,9 +104,9 @@ module _ (near : Near) (n code : ℕ) (marks marks' : List ℕ) (gone : ℕ → 
       let r = along near n code marks gone whole h c in
       let dj : gone j ≡ false = sym (r .1) ∙ d in
       let dk : gone k ≡ false = sym (whole j k (r .0) l e) ∙ dj in
-      let from-j = is j dj (alike-from near n code marks j k e) in
-      let to-k = is k dk (alike-to near n code marks j k e) in
-      step (after h d c) (alike-of near n code marks' from-j to-k (alike-near near n code marks j k e)) l
+      let from-j = is j dj (alike-from near code marks j k e) in
+      let to-k = is k dk (alike-to near code marks j k e) in
+      step (after h d c) (alike-of near code marks' from-j to-k (alike-near near code marks j k e)) l
 
   -- the region of a pixel that still has the code is what it was
   pub region-stays : (s x : ℕ) → s < n → at marks' s ≡ code

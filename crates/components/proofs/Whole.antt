@@ -1,6 +1,6 @@
--- A plane whose pixels all have one code is one component under the four neighbours: the chain from its first pixel to
--- any other has that code all along. So the pixels taken in reading order, one after the other, are that component.
--- Assumes nothing.
+-- A plane whose pixels all have one code is one component: the chain of neighbours from its first pixel to any other
+-- has that code all along. So the pixels taken in reading order, one after the other, are that component. Assumes
+-- nothing.
 use Prim.Native.Nat.{ℕ, _+_, _≤_, _<_}
 use mathlib.Core.Path.{_≡_, refl, sym, ap, _∙_}
 use mathlib.Core.Logic.{inl, inr}
@@ -10,30 +10,35 @@ use native.Mathlib.Omega.{arith}
 use lib.ListN.{length, set, length-set}
 use borrow.Author.Tests.{le-ltb}
 use Rattle.planes.specs.Lists.{at, Beyond}
-use Rattle.planes.specs.Neighbours.{Near, four, linked}
+use Rattle.planes.specs.Neighbours.{Near, linked}
 use Rattle.planes.specs.Enumerations.{Enumerates}
+use Rattle.planes.specs.Shapes.{pixels, neighbours}
+use Rattle.planes.specs.declared.Shape.{Shape}
 use Rattle.planes.proofs.Tests.{less-or-not}
 use Rattle.planes.proofs.Lists.{beyond-refl}
 use Rattle.planes.proofs.Stores.{at-set}
 use Rattle.planes.proofs.Links.{chain-map}
-use Rattle.planes.proofs.Neighbours.{plane-chain}
 use Rattle.planes.proofs.Enumerations.{entries-size}
-use Rattle.components.specs.Regions.{alike, region}
+use Rattle.planes.proofs.Shapes.{shape-chain}
+use Rattle.rows.specs.Codes.{alike}
+use Rattle.rows.proofs.Codes.{alike-of}
+use Rattle.components.specs.Regions.{region}
 use Rattle.components.specs.Floods.{Flooded}
 use Rattle.components.specs.Whole.{PlaneTaken}
-use Rattle.components.proofs.Regions.{alike-of, region-of}
+use Rattle.components.proofs.Regions.{region-of}
 
 -- ## All pixels are one component
 
--- the first n pixels of a plane of w columns have the code
-module _ (w n code : ℕ) (marks : List ℕ) (wide : 1 ≤ w) (all : (p : ℕ) → p < n → at marks p ≡ code) where
-  -- the chain that leads to p has the code all along
-  pub plane-region : (p : ℕ) → p < n → region (four w) n marks code 0 p ≡ true
-  plane-region p h =
-      let same = chain-map n (four w) (alike (four w) marks code)
-      (λ u v hu hv e. alike-of (four w) n code marks (all u hu) (all v hv) e)
-      (omega arith) (plane-chain w n wide p h) in
-      region-of (four w) n code marks 0 p (omega arith) h (same .1)
+-- all pixels of a plane have the code
+module _ (z : Shape) (code : ℕ) (marks : List ℕ) (wide : 1 ≤ z .w) (all : (p : ℕ) → p < pixels z → at marks p ≡ code)
+  where
+    -- the chain that leads to p has the code all along
+    pub plane-region : (p : ℕ) → p < pixels z → region (neighbours z) (pixels z) marks code 0 p ≡ true
+    plane-region p h =
+        let same = chain-map (pixels z) (neighbours z) (alike (neighbours z) marks code)
+        (λ u v hu hv e. alike-of (neighbours z) code marks (all u hu) (all v hv) e)
+        (omega arith) (shape-chain z (pixels z) wide p h) in
+        region-of (neighbours z) (pixels z) code marks 0 p (omega arith) h (same .1)
 
 -- no pixel past the first n is in a region
 region-past : (near : Near) (n code : ℕ) (marks : List ℕ) (s p : ℕ) → n ≤ p → region near n marks code s p ≡ false
@@ -89,17 +94,20 @@ module _ {n : ℕ} {marks queue marks' queue' : List ℕ} (T : PlaneTaken n mark
     | inr h ↦ rw (none p h) (T .marks-rest .rest p h)
   ]
 
-  -- where they all had one code, they are one component, flooded; m is their number
-  pub plane-flooded : (w code : ℕ) → 1 ≤ w → ((p : ℕ) → p < n → at marks p ≡ code) → {m : ℕ} → m ≡ n
-      → Flooded (four w) n code 0 marks queue marks' queue' m
-  plane-flooded w code wide all e =
-      let component = plane-region w n code marks wide all in
-      let pixels = lists-all (region (four w) n marks code 0) component in
-      rw e (record {
-        size = entries-size pixels;
-        enumerates = pixels;
-        marks-are = all-off (region (four w) n marks code 0) component (region-past (four w) n code marks 0);
-        rest = T .queue-rest .rest;
-        marks-length = T .marks-rest .size;
-        queue-length = T .queue-rest .size;
-      })
+-- where they all had one code, they are one component, flooded; m is their number
+pub plane-flooded : (z : Shape) (code : ℕ) {marks queue marks' queue' : List ℕ} → 1 ≤ z .w
+    → PlaneTaken (pixels z) marks queue marks' queue' → pixels z ≤ length queue
+    → ((p : ℕ) → p < pixels z → at marks p ≡ code) → {m : ℕ} → m ≡ pixels z
+    → Flooded (neighbours z) (pixels z) code 0 marks queue marks' queue' m
+plane-flooded z code {marks} wide T room all e =
+    let component = plane-region z code marks wide all in
+    let one = region (neighbours z) (pixels z) marks code 0 in
+    let pixels-are = lists-all T room one component in
+    rw e (record {
+      size = entries-size pixels-are;
+      enumerates = pixels-are;
+      marks-are = all-off T room one component (region-past (neighbours z) (pixels z) code marks 0);
+      rest = T .queue-rest .rest;
+      marks-length = T .marks-rest .size;
+      queue-length = T .queue-rest .size;
+    })

@@ -1,6 +1,5 @@
 -- The components of the pixels whose marks have one code, over any neighbour relation. Definitions only.
 --
---   alike    neighbours that both have the code
 --   region   the component of a pixel among those that have its code, as a test of pixels
 --   leads    a pixel has the code and is the first of its component in reading order
 use Prim.Native.Nat.{ℕ}
@@ -9,9 +8,7 @@ use mathlib.Core.List.{List}
 use lib.Dec.{ltb, eqb}
 use Rattle.planes.specs.Lists.{at}
 use Rattle.planes.specs.Neighbours.{Near, linked, first}
-
-unfoldable pub alike : Near → List ℕ → ℕ → Near
-alike near marks code i j = eqb (at marks i) code && eqb (at marks j) code && near i j
+use Rattle.rows.specs.Codes.{alike}
 
 -- of the pixels 0 .. n - 1, those linked to `start` by neighbours that have the code
 unfoldable pub region : Near → ℕ → List ℕ → ℕ → ℕ → ℕ → Bool

@@ -1,80 +1,83 @@
 -- What an accepted enhancement has, that the recursion ends as the list of passes level by level, each of which is
 -- accepted, and what intensity, the recursion and recolouring come to. Assumes nothing.
-use Prim.Native.Nat.{ℕ, zero, suc, _-_, _*_, _^_, _≤_}
+use Prim.Native.Nat.{ℕ, _-_, _*_, _^_, _≤_}
 use mathlib.Core.Path.{_≡_, refl, sym, ap, _∙_}
-use mathlib.Core.Bool.{_||_}
 use mathlib.Core.List.{List, [], _∷_, map}
 use native.Mathlib.Omega.{arith}
 use lib.ListN.{length}
 use lib.Pow.{pow-pos}
-use lib.Dec.{ltb}
-use borrow.Author.Tests.{le-ltb, eq-eqb, ltb-false}
+use borrow.Author.Tests.{le-ltb}
 use Rattle.planes.specs.Lists.{from}
-use Rattle.planes.specs.Refusals.{when, _▷_, greatestPixels, Sized}
+use Rattle.planes.specs.Refusals.{_▷_, lengthRefusal, roomRefusal}
 use Rattle.planes.specs.Replies.{Reply, after, overwritten}
-use Rattle.planes.proofs.Tests.{or-none}
-use Rattle.planes.proofs.Refusals.{when-none, ▷-none, sized-none}
+use Rattle.planes.specs.Shapes.{pixels, SizedShape, shapeRefusal, lentRefusal}
+use Rattle.planes.specs.declared.Shape.{Shape}
+use Rattle.planes.proofs.Refusals.{▷-none, ▷-both, length-fits, room-fits, output-fits}
+use Rattle.planes.proofs.Shapes.{shape-fits, lent-none}
 use Rattle.tones.specs.declared.Rule.{Rule}
 use Rattle.colours.specs.Frames.{intensity, recolour}
 use Rattle.colours.specs.Calls.{intensityRefusal, Accepted, IntensityOutcome, RecolourOutcome}
 use Rattle.colours.proofs.Frames.{length-intensity}
-use Rattle.colours.proofs.Calls.{intensity-accepted, recolour-accepts, recolour-given}
+use Rattle.colours.proofs.Calls.{intensity-accepts, recolour-accepts, recolour-given}
 use Rattle.model.specs.declared.Pass.{Pass}
-use Rattle.model.specs.Calls.{planeRefusal, roomRefusal, areaRefusal, ruleRefusal, numbersRefusal, lentRefusal}
-use Rattle.model.specs.Calls.{passRefusal, total, AllAccepted}
+use Rattle.tones.specs.Refusals.{ruleRefusal}
+use Rattle.model.specs.Calls.{areaRefusal, numbersRefusal, passRefusal, AllAccepted, chainEffect}
+use Rattle.model.specs.Effects.{Effect}
 use Rattle.model.specs.Runs.{All, none, more}
 use Rattle.model.specs.Enhancement.{section, level, levels, passes, callOf, enhanced}
 use Rattle.model.proofs.Recursion.{all-append}
-use Rattle.model.proofs.Enhancement.{enhanced-recursion, enhanced-accepted}
-use Rattle.enhance.specs.declared.Settings.{Settings}
-use Rattle.enhance.specs.Recursion.{Ready, Run}
-use Rattle.enhance.specs.Calls.{settingsRefusal, memoryRefusal, enhanceRefusal, chainOf, Enhances}
-use Rattle.enhance.specs.Calls.{refusalOf}
+use Rattle.model.proofs.Enhancement as model
+use Rattle.levels.specs.declared.Settings.{Settings}
+use Rattle.levels.proofs.Refusals.{few-levels, some-area, settings-fit}
+use Rattle.branches.specs.Branches.{Ready, came}
+use Rattle.recursion.specs.Recursion.{RecursionOutcome}
+use Rattle.enhance.specs.Calls.{memoryRefusal, settingsRefusal, enhanceRefusal, chainOf, Enhances}
+use Rattle.enhance.specs.Calls.{enhanceCallRefusal}
 
 -- ## What is accepted
 
-pub record Fine (w h frame plane marks queue output : ℕ) (t : Settings) : Type 0 where
-  pub shape : intensityRefusal w h frame plane ≡ 0
-  pub given : Accepted w h frame plane
-  pub room : 3 * (w * h) ≤ output
-  pub ready : Ready w h plane marks queue t
+pub record Fine (z : Shape) (frame plane marks queue output : ℕ) (t : Settings) : Type 0 where
+  pub ready : Ready z plane marks queue t
+  pub channels : frame ≡ 3 * pixels z
+  pub room : 3 * pixels z ≤ output
   pub area : areaRefusal (t .area) ≡ 0
   pub rule : ruleRefusal (t .rule) ≡ 0
 
-some-area : (area : ℕ) → areaRefusal area ≡ 0 → 1 ≤ area
-unfolding areaRefusal
-some-area zero e = absurd (omega arith)
-some-area (suc area) e = omega arith
-
-pub fine : (w h frame plane marks queue output : ℕ) (t : Settings)
-    → enhanceRefusal w h frame plane marks queue output t ≡ 0 → Fine w h frame plane marks queue output t
-unfolding enhanceRefusal memoryRefusal settingsRefusal
-fine w h frame plane marks queue output t e =
-    let first = ▷-none (intensityRefusal w h frame plane) _ e in
-    let second = ▷-none (memoryRefusal (w * h) marks queue output) _ (first .1) in
-    let short = ltb marks (w * h) || ltb queue (w * h) in
-    let memory = ▷-none (when short 4) (when (ltb output (3 * (w * h))) 14) (second .0) in
-    let work = or-none (ltb marks (w * h)) (ltb queue (w * h)) (when-none short 3 (memory .0)) in
-    let third = ▷-none (when (ltb 7 (t .last)) 9) _ (second .1) in
-    let numbers = ▷-none (areaRefusal (t .area)) (ruleRefusal (t .rule)) (third .1) in
-    let given = intensity-accepted w h frame plane (first .0) in
+pub fine : (z : Shape) (frame plane marks queue output : ℕ) (t : Settings)
+    → enhanceRefusal z frame plane marks queue output t ≡ 0 → Fine z frame plane marks queue output t
+unfolding enhanceRefusal memoryRefusal
+fine z frame plane marks queue output t e =
+    let both = ▷-none (memoryRefusal z frame plane marks queue output) (settingsRefusal t) e in
+    let shape = ▷-none (shapeRefusal z) _ (both .0) in
+    let pixel = ▷-none (lengthRefusal plane (pixels z)) _ (shape .1) in
+    let channel = ▷-none (lengthRefusal frame (3 * pixels z)) _ (pixel .1) in
+    let working = ▷-none (roomRefusal (pixels z) marks queue) _ (channel .1) in
+    let settings = settings-fit t (both .1) in
+    let room = room-fits (pixels z) marks queue (working .0) in
     record {
-      shape = first .0;
-      given = given;
-      room = ltb-false output (3 * (w * h)) (when-none (ltb output (3 * (w * h))) 13 (memory .1));
       ready = record {
         lent = record {
-          size = given .size;
-          whole = given .pixels;
-          covered = ltb-false marks (w * h) (work .0);
-          spare = ltb-false queue (w * h) (work .1);
+          size = shape-fits z (shape .0);
+          whole = length-fits plane (pixels z) (pixel .0);
+          covered = room .0;
+          spare = room .1;
         };
-        last = ltb-false 7 (t .last) (when-none (ltb 7 (t .last)) 8 (third .0));
-        area = some-area (t .area) (numbers .0);
+        last = few-levels (t .last) (settings .0);
+        area = some-area (t .area) (settings .1 .0);
       };
-      area = numbers .0;
-      rule = numbers .1;
+      channels = length-fits frame (3 * pixels z) (channel .0);
+      room = output-fits output (3 * pixels z) (working .1);
+      area = settings .1 .0;
+      rule = settings .1 .1;
     }
+
+-- ## The calls on the frame are accepted
+
+frame-accepted : {z : Shape} {frame plane marks queue output : ℕ} {t : Settings}
+    → Fine z frame plane marks queue output t → intensityRefusal (z .w) (z .h) frame plane ≡ 0
+frame-accepted {z} {frame} {plane} F =
+    intensity-accepts (z .w) (z .h) frame plane
+    record { size = F .ready .lent .size; pixels = F .ready .lent .whole; channels = F .channels }
 
 -- ## The passes of an enhancement are accepted
 
@@ -82,88 +85,89 @@ area-one : areaRefusal 1 ≡ 0
 unfolding areaRefusal
 area-one = refl
 
-module _ (w h : ℕ) (size : Sized w h greatestPixels) (rule : Rule) (ok : ruleRefusal rule ≡ 0) where
-  abbrev Accepts : Pass → Type 0
-  Accepts s = passRefusal w h (w * h) (callOf (w * h) s) ≡ 0
-
-  accepts : (s : Pass) → s .a ≤ s .b → areaRefusal (s .area) ≡ 0 → s .rule ≡ rule → Accepts s
-  unfolding passRefusal callOf lentRefusal planeRefusal roomRefusal numbersRefusal
-  accepts s ab fine e =
-      simp (
-        sized-none w h greatestPixels size,
-        eq-eqb (w * h) (w * h) refl,
-        le-ltb (w * h) (w * h) (omega arith),
-        le-ltb (s .b) (s .a) ab,
-        fine,
-      )
-      (ap ruleRefusal e ∙ ok)
+module _ (z : Shape) (size : SizedShape z) (rule : Rule) (ok : ruleRefusal rule ≡ 0) where
+  accepts : (s : Pass) → s .a ≤ s .b → areaRefusal (s .area) ≡ 0 → s .rule ≡ rule → model.Accepted z s
+  unfolding passRefusal callOf numbersRefusal
+  accepts s ab some e =
+      ▷-both (lentRefusal z (pixels z) (pixels z) (pixels z)) _
+      (lent-none z (pixels z) (pixels z) (pixels z)
+      record { size = size; whole = refl; covered = omega arith; spare = omega arith })
+      (simp (le-ltb (s .b) (s .a) ab, some) (ap ruleRefusal e ∙ ok))
 
   all-of : (l area : ℕ) → areaRefusal area ≡ 0 → (js : List ℕ)
-      → All Accepts (map (λ j. section area rule (j * 2 ^ (8 - l)) (2 ^ (8 - l))) js)
+      → All (model.Accepted z) (map (λ j. section area rule (j * 2 ^ (8 - l)) (2 ^ (8 - l))) js)
   unfolding section
-  all-of l area fine [] = none
-  all-of l area fine (j ∷ js) =
+  all-of l area some [] = none
+  all-of l area some (j ∷ js) =
       let s : Pass = section area rule (j * 2 ^ (8 - l)) (2 ^ (8 - l)) in
-      more {s = s} (accepts s (omega (arith, pow-pos (8 - l))) fine refl) (all-of l area fine js)
+      more {s = s} (accepts s (omega (arith, pow-pos (8 - l))) some refl) (all-of l area some js)
 
-  all-level : (l area : ℕ) → areaRefusal area ≡ 0 → All Accepts (level l area rule)
+  all-level : (l area : ℕ) → areaRefusal area ≡ 0 → All (model.Accepted z) (level l area rule)
   unfolding level
-  all-level l area fine = all-of l area fine (from 0 (2 ^ l))
+  all-level l area some = all-of l area some (from 0 (2 ^ l))
 
-  all-levels : (ls : List ℕ) (area : ℕ) → areaRefusal area ≡ 0 → All Accepts (levels ls area rule)
+  all-levels : (ls : List ℕ) (area : ℕ) → areaRefusal area ≡ 0 → All (model.Accepted z) (levels ls area rule)
   unfolding levels
-  all-levels [] area fine = none
-  all-levels (l ∷ ls) area fine = all-append (all-level l area fine) (all-levels ls area fine)
+  all-levels [] area some = none
+  all-levels (l ∷ ls) area some = all-append (all-level l area some) (all-levels ls area some)
 
-  pub all-passes : (last area : ℕ) → areaRefusal area ≡ 0 → All Accepts (passes last area rule)
+  all-passes : (last area : ℕ) → areaRefusal area ≡ 0 → All (model.Accepted z) (passes last area rule)
   unfolding passes
-  all-passes last area fine = all-append (all-level 0 1 area-one) (all-levels (from 1 last) area fine)
+  all-passes last area some = all-append (all-level 0 1 area-one) (all-levels (from 1 last) area some)
 
--- the recursion's plane and sum are those of the chain of passes
-pub as-listed : {w h r : ℕ} {t : Settings} {plane marks queue plane' marks' queue' : List ℕ} → Sized w h greatestPixels
-    → t .last ≤ 7 → length plane ≡ w * h → areaRefusal (t .area) ≡ 0 → ruleRefusal (t .rule) ≡ 0
-    → Run w h t plane marks queue plane' marks' queue' r
-    → (plane' ≡ enhanced w h plane (t .last) (t .area) (t .rule) .plane)
-    × (r ≡ total (enhanced w h plane (t .last) (t .area) (t .rule) .answers))
-as-listed {w} {h} {t = t} {plane} size last whole area rule R =
-    let m = enhanced-recursion w h (t .last) (t .area) (t .rule) plane last whole
-    (all-passes w h size (t .rule) rule (t .last) (t .area) area) in
-    (R .plane-is ∙ sym (m .0), R .count-is ∙ sym (m .1))
+-- the settings of an enhancement that is not refused
+pub fine-passes : {z : Shape} {frame plane marks queue output : ℕ} {t : Settings}
+    → Fine z frame plane marks queue output t → All (model.Accepted z) (passes (t .last) (t .area) (t .rule))
+fine-passes {z} {t = t} F = all-passes z (F .ready .lent .size) (t .rule) (F .rule) (t .last) (t .area) (F .area)
+
+-- the recursion comes to what the chain of passes comes to
+as-listed : {z : Shape} {r frame plane marks queue output : ℕ} {t : Settings}
+    {p marks₁ queue₁ p' marks' queue' : List ℕ} → Fine z frame plane marks queue output t → length p ≡ pixels z
+    → RecursionOutcome z t p marks₁ queue₁ p' marks' queue' r
+    → came p' r ≡ chainEffect (enhanced z p (t .last) (t .area) (t .rule))
+as-listed {z} {t = t} {p} F whole R =
+    R .model
+    ∙ sym (model.enhanced-recursion z (t .last) (t .area) (t .rule) p (F .ready .last) whole (fine-passes F))
+
+-- the intensity of an accepted frame has a byte for each pixel
+pub fine-length : {z : Shape} {plane marks queue output : ℕ} {t : Settings} (frame : List ℕ)
+    → Fine z (length frame) plane marks queue output t → length (intensity frame) ≡ pixels z
+fine-length frame F = omega (arith, length-intensity frame, F .channels)
 
 -- none of the calls in the chain of an enhancement that is not refused is refused
-pub chain-accepted : (w h : ℕ) (t : Settings) (frame plane marks queue output : List ℕ)
-    → refusalOf w h t frame plane marks queue output ≡ 0 → AllAccepted (chainOf w h t frame .answers)
-chain-accepted w h t frame plane marks queue output taken =
-    let F = fine w h (length frame) (length plane) (length marks) (length queue) (length output) t taken in
-    enhanced-accepted w h (t .last) (t .area) (t .rule) (intensity frame)
-    (omega (arith, length-intensity frame, F .given .channels))
-    (all-passes w h (F .given .size) (t .rule) (F .rule) (t .last) (t .area) (F .area))
+pub chain-accepted : (z : Shape) (t : Settings) (frame plane marks queue output : List ℕ)
+    → enhanceCallRefusal z t frame plane marks queue output ≡ 0 → AllAccepted (chainOf z t frame .answers)
+chain-accepted z t frame plane marks queue output taken =
+    let F = fine z (length frame) (length plane) (length marks) (length queue) (length output) t taken in
+    model.enhanced-accepted z (t .last) (t .area) (t .rule) (intensity frame) (fine-length frame F) (fine-passes F)
 
 -- ## Outcomes
 
 -- intensity, the recursion and recolouring, one after the other
-pub in-turn : {w h r : ℕ} {t : Settings} {frame plane marks queue output plane₁ plane' marks' queue' output' : List ℕ}
-    {first second : Reply} → Fine w h (length frame) (length plane) (length marks) (length queue) (length output) t
-    → length plane₁ ≡ length plane → length plane' ≡ length plane₁ → IntensityOutcome w h frame plane first plane₁
-    → Run w h t plane₁ marks queue plane' marks' queue' r → RecolourOutcome w h frame plane' output second output'
-    → Enhances w h t frame marks queue output r plane' marks' queue' output'
-in-turn {w} {h} {r} {t} {frame} {plane} {output = output} {plane₁} {plane'} F len₁ len I R C =
-    let whole : length plane₁ ≡ w * h = len₁ ∙ F .given .pixels in
+pub in-turn : {z : Shape} {r : ℕ} {t : Settings}
+    {frame plane marks queue output plane₁ plane' marks' queue' output' : List ℕ} {first second : Reply}
+    → Fine z (length frame) (length plane) (length marks) (length queue) (length output) t
+    → length plane₁ ≡ length plane → length plane' ≡ length plane₁
+    → IntensityOutcome (z .w) (z .h) frame plane first plane₁
+    → RecursionOutcome z t plane₁ marks queue plane' marks' queue' r
+    → RecolourOutcome (z .w) (z .h) frame plane' output second output'
+    → Enhances z t frame marks queue output r plane' marks' queue' output'
+in-turn {z} {r} {t} {frame} {plane} {output = output} {plane₁} {plane'} F len₁ len I R C =
     let intensities : plane₁ ≡ intensity frame =
-    I .plane-is ∙ ap (λ (k : ℕ). after k plane (intensity frame)) (F .shape) in
-    let chain = as-listed (F .given .size) (F .ready .last) whole (F .area) (F .rule) R in
-    let same : plane' ≡ chainOf w h t frame .plane =
-    chain .0 ∙ ap (λ (p : List ℕ). enhanced w h p (t .last) (t .area) (t .rule) .plane) intensities in
-    let accepts = recolour-accepts w h (length frame) (length plane') (length output)
-    (ap (intensityRefusal w h (length frame)) (len ∙ len₁) ∙ F .shape) (F .room) in
-    let written = recolour-given w h frame plane' output accepts C .1 in
+    I .plane-is ∙ ap (λ (k : ℕ). after k plane (intensity frame)) (frame-accepted F) in
+    let same : came plane' r ≡ chainEffect (chainOf z t frame) =
+    as-listed F (len₁ ∙ F .ready .lent .whole) R
+    ∙ ap (λ (p : List ℕ). chainEffect (enhanced z p (t .last) (t .area) (t .rule))) intensities in
+    let plane-same : plane' ≡ chainOf z t frame .plane = ap (λ (e : Effect). e .plane) same in
+    let accepts = recolour-accepts (z .w) (z .h) (length frame) (length plane') (length output)
+    (ap (intensityRefusal (z .w) (z .h) (length frame)) (len ∙ len₁) ∙ frame-accepted F) (F .room) in
+    let written = recolour-given (z .w) (z .h) frame plane' output accepts C .1 in
     record {
       over = record {
-        plane-is = same;
-        count-is = chain .1
-            ∙ ap (λ (p : List ℕ). total (enhanced w h p (t .last) (t .area) (t .rule) .answers)) intensities;
+        plane-is = plane-same;
+        count-is = ap (λ (e : Effect). e .retoned) same;
         marks-rest = R .rest .marks-rest;
         queue-rest = R .rest .queue-rest;
       };
-      output-is = written ∙ ap (λ (p : List ℕ). overwritten output (recolour frame p)) same;
+      output-is = written ∙ ap (λ (p : List ℕ). overwritten output (recolour frame p)) plane-same;
     }

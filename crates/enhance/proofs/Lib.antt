@@ -1,4 +1,2 @@
-pub mod Levels
-pub mod Marks
 pub mod Calls
 pub mod Published

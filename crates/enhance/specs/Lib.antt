@@ -1,3 +1,2 @@
-pub mod Recursion
 pub mod Calls
 pub mod Published

@@ -1,4 +1,2 @@
-pub mod Emitting
-pub mod Enhancing
 pub mod Program
 pub mod Examples

@@ -17,32 +17,34 @@ use Rattle.netpbm.specs.Frames.{IsFrame}
 use Rattle.netpbm.specs.declared.Header.{Header}
 use Rattle.netpbm.proofs.Frames.{accepted-iff}
 use Rattle.netpbm.proofs.Replies.{refused-answer}
-use Rattle.frames.specs.Program.{greatestInput, greatestPixels, refusalLine, enhancedFrame, outputFor}
-use Rattle.frames.specs.Program.{programOutput, Emitted}
+use Rattle.printing.specs.Printing.{greatestFrame, refusalLine, enhancedFrame}
+use Rattle.frames.specs.Program.{greatestInput, outputFor}
+use Rattle.printing.specs.Printing.{Emitted}
+use Rattle.frames.specs.Program.{programOutput}
 
 module _ (input : List ℕ) where
   pub long-output : greatestInput < length input → programOutput input ≡ refusalLine 13
   unfolding programOutput
   long-output long = rw (lt-ltb greatestInput (length input) long)
 
-  pub read-output : {answer : Header} → length input ≤ greatestInput → readAnswer input greatestPixels ≡ answer
+  pub read-output : {answer : Header} → length input ≤ greatestInput → readAnswer input greatestFrame ≡ answer
       → programOutput input ≡ outputFor input answer
   unfolding programOutput
   read-output short read = rw (le-ltb greatestInput (length input) short) (ap (outputFor input) read)
 
-  pub frame-output : {w h offset : ℕ} → length input ≤ greatestInput → IsFrame input greatestPixels w h offset
+  pub frame-output : {w h offset : ℕ} → length input ≤ greatestInput → IsFrame input greatestFrame w h offset
       → programOutput input ≡ enhancedFrame (drop offset input) w h
-  frame-output {w} {h} {offset} short f = read-output short (accepted-iff input greatestPixels w h offset .1 f)
+  frame-output {w} {h} {offset} short f = read-output short (accepted-iff input greatestFrame w h offset .1 f)
 
   pub refused-output : {k : ℕ} → length input ≤ greatestInput
-      → readReply input greatestPixels ≡ refuses k → programOutput input ≡ refusalLine k
-  refused-output short e = read-output short (refused-answer input greatestPixels e)
+      → readReply input greatestFrame ≡ refuses k → programOutput input ≡ refusalLine k
+  refused-output short e = read-output short (refused-answer input greatestFrame e)
 
   module _ {output output' : List ℕ} {r : ℕ} where
     pub long-emitted : greatestInput < length input → Emitted (refusalLine 13) output r output'
         → Emitted (programOutput input) output r output'
     long-emitted long = subst (λ (l : List ℕ). Emitted l output r output') (sym (long-output long))
 
-    pub read-emitted : {answer : Header} → length input ≤ greatestInput → readAnswer input greatestPixels ≡ answer
+    pub read-emitted : {answer : Header} → length input ≤ greatestInput → readAnswer input greatestFrame ≡ answer
         → Emitted (outputFor input answer) output r output' → Emitted (programOutput input) output r output'
     read-emitted short read = subst (λ (l : List ℕ). Emitted l output r output') (sym (read-output short read))

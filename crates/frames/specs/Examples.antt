@@ -4,7 +4,7 @@ use Prim.Native.String.{String}
 use mathlib.Core.Path.{_≡_}
 use mathlib.Core.List.{List}
 use lib.ListN.{length, replicate}
-use Rattle.netpbm.specs.Bytes.{ascii}
+use Rattle.texts.specs.Ascii.{ascii}
 use Rattle.frames.specs.Program.{programOutput}
 
 -- the program writes the second text for the first

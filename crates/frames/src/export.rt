@@ -1,6 +1,7 @@
 // The answer to an input, for callers in C and Rust: the input is a pointer and a length, the output a pointer to
 // 65,536 bytes.
-ghost use Rattle.frames.specs.Program.{programOutput, Emitted};
+ghost use Rattle.printing.specs.Printing.{Emitted};
+ghost use Rattle.frames.specs.Program.{programOutput};
 use crate::program_output;
 
 #[no_mangle]

@@ -1,4 +1,5 @@
 pub mod Outcomes
+pub mod Neighbourhoods
 pub mod Components
 pub mod Order
 pub mod Chains

@@ -5,17 +5,18 @@ use mathlib.Core.Path.{_≡_, sym, ap, subst, _∙_}
 use mathlib.Core.Logic.{inl, inr}
 use mathlib.Core.Bool.{Bool, true, false, _&&_, true≢false}
 use mathlib.Core.List.{List, map}
+use mathlib.Mathlib.Data.Bool.Basic.{and-elim-left, and-elim-right}
 use native.Mathlib.Omega.{arith}
 use lib.ListN.{length}
 use Rattle.planes.specs.Lists.{from, keep, at}
 use Rattle.planes.specs.Neighbours.{Near, Chain, here, step, linked, component}
-use Rattle.planes.proofs.Tests.{decide, and-left, and-right}
+use Rattle.planes.proofs.Tests.{decide}
 use Rattle.planes.proofs.Lists.{map-same}
 use Rattle.planes.proofs.Counts.{keep-same}
 use Rattle.planes.proofs.Links.{linked-iff, link-refl}
 use Rattle.planes.proofs.Neighbours.{filled}
 use Rattle.model.specs.declared.Pass.{Pass}
-use Rattle.model.specs.Passes.{within, inside, values, newTone}
+use Rattle.model.specs.Passes.{within, inside, componentValues, newTone}
 
 module _ (near : Near) (s : Pass) (p r : List ℕ) (size : length r ≡ length p) (i : ℕ) (hi : i < length p) where
   -- neighbours in the section, before and after
@@ -42,9 +43,9 @@ module _ (near : Near) (s : Pass) (p r : List ℕ) (size : length r ≡ length p
         closed u v hu hv c e = elim (decide (C v)) [
           | inl d ↦ d
           | inr d ↦
-              let both = and-left (within s (at r u) && within s (at r v)) (near u v) e in
-              let beside = and-right (within s (at r u) && within s (at r v)) (near u v) e in
-              let in-v = and-right (within s (at r u)) (within s (at r v)) both in
+              let both = and-elim-left (within s (at r u) && within s (at r v)) (near u v) e in
+              let beside = and-elim-right (within s (at r u) && within s (at r v)) (near u v) e in
+              let in-v = and-elim-right (within s (at r u)) (within s (at r v)) both in
               absurd (true≢false (sym in-v ∙ edge u v hu hv c beside d))
         ]
 
@@ -66,7 +67,7 @@ module _ (near : Near) (s : Pass) (p r : List ℕ) (size : length r ≡ length p
             step (reach c) e₂ h
 
     pub component-alike : newTone near s r i ≡ newTone near s p i
-    unfolding newTone values component
+    unfolding newTone componentValues component
     component-alike =
         rw (agree i hi (link-refl In (length p) i), size, ap (λ (l : List ℕ). map (at r) l) comps, tones)
       where

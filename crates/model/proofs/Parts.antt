@@ -4,22 +4,25 @@
 use Prim.Native.Nat.{ℕ, _+_, _≤_, _<_}
 use mathlib.Core.Path.{_≡_, refl, sym, ap, ap₂, _∙_}
 use mathlib.Core.Logic.{_⊎_, inl, inr}
-use mathlib.Core.Bool.{Bool, true, false, cond, not, _&&_, true≢false}
+use mathlib.Core.Bool.{Bool, true, false, cond, not, _&&_, true≢false, and-false}
 use mathlib.Core.List.{List, [], _∷_, map}
+use mathlib.Mathlib.Data.Bool.Basic.{and-elim-left, and-elim-right, and-intro}
 use native.Mathlib.Omega.{arith}
 use lib.ListN.{length}
 use lib.Seq.{ext-getD}
 use lib.Dec.{leb}
 use borrow.Author.Tests.{leb-true, le-leb, lt-leb}
 use Rattle.planes.specs.Lists.{from, count, at}
+use Rattle.planes.specs.Shapes.{Symmetric}
 use Rattle.planes.specs.Neighbours.{Near, linked, component, first}
-use Rattle.planes.proofs.Tests.{decide, and-left, and-right, and-both, and-false, and-middle, and-last, never, contra}
+use Rattle.planes.proofs.Tests.{decide, and-middle, and-last, never, contra}
 use Rattle.planes.proofs.Lists.{all-at, length-all, every-same, map-same}
 use Rattle.planes.proofs.Counts.{keep-same, count-same, count-none, count-mono-from, count-sum}
 use Rattle.planes.proofs.Links.{linked-iff, link-sym}
 use Rattle.tones.specs.Tones.{kept}
 use Rattle.model.specs.declared.Pass.{Pass}
-use Rattle.model.specs.Passes.{within, inside, values, changes, newTone, passed, counted, passCount}
+use Rattle.model.specs.Passes.{within, inside, componentValues, changes, newTone, passed, counted, passCount}
+use Rattle.model.specs.Effects.{Effect, always, runEffect}
 use Rattle.model.specs.Runs.{run, runCount, All, none, more}
 use Rattle.model.specs.Published.{between}
 use Rattle.model.proofs.Components.{values-length, out-tone, still-tone, inside-sym}
@@ -47,9 +50,9 @@ range-wider {lo} {hi} {area = area} la hb fits = all-map (λ s (F : InRange lo h
 -- what is in an interval is in a wider one
 pub between-wider : (lo hi a b v : ℕ) → a ≤ lo → hi ≤ b → between lo hi v ≡ true → between a b v ≡ true
 between-wider lo hi a b v la hb e =
-    let low = leb-true lo v (and-left (leb lo v) (leb v hi) e) in
-    let high = leb-true v hi (and-right (leb lo v) (leb v hi) e) in
-    and-both (le-leb a v (omega arith)) (le-leb v b (omega arith))
+    let low = leb-true lo v (and-elim-left (leb lo v) (leb v hi) e) in
+    let high = leb-true v hi (and-elim-right (leb lo v) (leb v hi) e) in
+    and-intro (le-leb a v (omega arith)) (le-leb v b (omega arith))
 
 range-out : {lo hi area : ℕ} {s : Pass} → InRange lo hi area s → (v : ℕ) → between lo hi v ≡ false → within s v ≡ false
 range-out {lo} {hi} {s = s} F v e = contra (between-wider (s .a) (s .b) lo hi v (F .low) (F .high)) e
@@ -130,7 +133,7 @@ isolated-one w T x y hx hy a b e = T .rest y hy b (never (λ d. true≢false (sy
 abbrev unit : Bool → ℕ
 unit t = cond t 1 0
 
-module _ (near : Near) (symm : (i j : ℕ) → near i j ≡ near j i) (n lo hi area : ℕ) where
+module _ (near : Near) (symm : Symmetric near) (n lo hi area : ℕ) where
   -- ## One part
 
   module _ (A : ℕ → Bool) (p m : List ℕ) (S : Shows n lo hi A p m) (lone : Isolated near n lo hi A p) (s : Pass)
@@ -156,8 +159,8 @@ module _ (near : Near) (symm : (i j : ℕ) → near i j ≡ near j i) (n lo hi a
         → linked (inside near s p) n x y ≡ linked (inside near s m) n x y
     link-part = linked-in n (inside near s p) (inside near s m) A inside-part closed
 
-    values-part : (x : ℕ) → x < n → A x ≡ true → values near s p x ≡ values near s m x
-    unfolding values component
+    values-part : (x : ℕ) → x < n → A x ≡ true → componentValues near s p x ≡ componentValues near s m x
+    unfolding componentValues component
     values-part x hx a =
         rw (S .whole, S .size) (ap (map (at p)) (keep-same _ _ 0 n (λ y _ h. link-part x y hx (omega arith) a))
         ∙ map-same (linked (inside near s m) n x) (at p) (at m) 0 n (λ y _ h d.
@@ -172,7 +175,7 @@ module _ (near : Near) (symm : (i j : ℕ) → near i j ≡ near j i) (n lo hi a
     counted-part : (x : ℕ) → x < n → A x ≡ true → counted near s m x ≡ counted near s p x
     unfolding first
     counted-part x hx a = rw (values-part x hx a, S .on x hx a, S .whole, S .size)
-        (ap (within s (at p x) && changes s (values near s m x) &&_) (every-same _ _ 0 x (λ y _ h.
+        (ap (within s (at p x) && changes s (componentValues near s m x) &&_) (every-same _ _ 0 x (λ y _ h.
         ap not (link-sym (inside near s m) (inside-sym near symm s m) n y x
         ∙ sym (link-part x y hx (omega arith) a)
         ∙ link-sym (inside near s p) (inside-sym near symm s p) n x y))))
@@ -186,14 +189,14 @@ module _ (near : Near) (symm : (i j : ℕ) → near i j ≡ near j i) (n lo hi a
 
     shows-passed : Shows n lo hi A (passed near s p) (passed near s m)
     shows-passed = record {
-      whole = length-passed near symm s p ∙ S .whole;
-      size = length-passed near symm s m ∙ S .size;
+      whole = length-passed near s p ∙ S .whole;
+      size = length-passed near s m ∙ S .size;
       on = λ x hx a. at-passed m (S .size) x hx ∙ tone-part x hx a ∙ sym (at-passed p (S .whole) x hx);
       off = λ x hx a. ap (between lo hi) (at-passed m (S .size) x hx ∙ still-rest x hx a) ∙ S .off x hx a;
     }
       where
         at-passed : (q : List ℕ) → length q ≡ n → (x : ℕ) → x < n → at (passed near s q) x ≡ newTone near s q x
-        at-passed q e x hx = passed-at near symm s q x (omega arith)
+        at-passed q e x hx = passed-at near s q x (omega arith)
 
   -- ## Two parts
 
@@ -212,7 +215,7 @@ module _ (near : Near) (symm : (i j : ℕ) → near i j ≡ near j i) (n lo hi a
       rest = λ x hx a b.
           let out = T .rest x hx a b in
           let hx′ : x < length p = omega (arith, T .one .whole) in
-          ap (between lo hi) (passed-at near symm s p x hx′ ∙ out-tone near s p x (range-out F (at p x) out)) ∙ out;
+          ap (between lo hi) (passed-at near s p x hx′ ∙ out-tone near s p x (range-out F (at p x) out)) ∙ out;
     }
 
     counts-join : passCount near s p ≡ passCount near s q + passCount near s r
@@ -241,9 +244,9 @@ module _ (near : Near) (symm : (i j : ℕ) → near i j ≡ near j i) (n lo hi a
   -- what a run makes of two parts, it makes of each alone, and the counts add up
   pub parts-run : (A B : ℕ → Bool) → Separate near n A B → (ss : List Pass) → All (InRange lo hi area) ss
       → (p q r : List ℕ) → TwoParts n lo hi A B p q r
-      → TwoParts n lo hi A B (run near ss p) (run near ss q) (run near ss r)
-      × (runCount near ss p ≡ runCount near ss q + runCount near ss r)
-  unfolding run runCount
+      → TwoParts n lo hi A B (run (always near) ss p) (run (always near) ss q) (run (always near) ss r)
+      × (runCount (always near) ss p ≡ runCount (always near) ss q + runCount (always near) ss r)
+  unfolding runEffect
   parts-run A B w [] none p q r T = (T, refl)
   parts-run A B w (s ∷ ss) (more F fits) p q r T =
       let rest = parts-run A B w ss fits _ _ _ (parts-passed A B w p q r T s F) in
@@ -261,26 +264,26 @@ module _ (near : Near) (symm : (i j : ℕ) → near i j ≡ near j i) (n lo hi a
     ]
 
     unchanged : (s : Pass) → InRange lo hi area s → (x : ℕ) → x < n → within s (at m x) ≡ true
-        → changes s (values near s m x) ≡ false
+        → changes s (componentValues near s m x) ≡ false
     unfolding changes
     unchanged s F x hx e =
         let C : ℕ → Bool = linked (inside near s m) n x in
-        let all : length (values near s m x) ≡ count C (from 0 n) =
+        let all : length (componentValues near s m x) ≡ count C (from 0 n) =
         values-length near s m x ∙ ap (λ (k : ℕ). count (linked (inside near s m) k x) (from 0 k)) size in
         let fewer : count C (from 0 n) ≤ count A (from 0 n) =
         count-mono-from C A 0 n (λ y _ h d.
         let hy : y < n = omega arith in
         in-part s F y hy (stays near s m n e (linked-iff (inside near s m) n x y hx hy .0 d))) in
-        let small : length (values near s m x) < s .area =
+        let small : length (componentValues near s m x) < s .area =
         omega (arith, F .least, few x hx (in-part s F x hx e)) in
-        ap (_&& not (kept (s .rule) (s .a) (s .b) (values near s m x))) (lt-leb (s .area) _ small)
+        ap (_&& not (kept (s .rule) (s .a) (s .b) (componentValues near s m x))) (lt-leb (s .area) _ small)
 
     small-pass : (s : Pass) → InRange lo hi area s → (passed near s m ≡ m) × (passCount near s m ≡ 0)
     unfolding passCount
     small-pass s F =
-        let same = length-passed near symm s m in (
+        let same = length-passed near s m in (
           ext-getD 0 _ _ same (λ x h.
-              passed-at near symm s m x (omega arith) ∙ still x (omega arith) (decide (within s (at m x)))),
+              passed-at near s m x (omega arith) ∙ still x (omega arith) (decide (within s (at m x)))),
           rw size (count-same (counted near s m) (λ x. false) n (λ x hx. uncounted x hx (decide (within s (at m x))))
               ∙ count-none (from 0 n)),
         )
@@ -293,31 +296,34 @@ module _ (near : Near) (symm : (i j : ℕ) → near i j ≡ near j i) (n lo hi a
         uncounted : (x : ℕ) → x < n → (within s (at m x) ≡ true) ⊎ (within s (at m x) ≡ false)
             → counted near s m x ≡ false
         uncounted x hx (inl e) =
-            and-middle (within s (at m x)) (changes s (values near s m x)) _ (unchanged s F x hx e)
+            and-middle (within s (at m x)) (changes s (componentValues near s m x)) _ (unchanged s F x hx e)
         uncounted x hx (inr e) = rw e
 
-    pub small-run : (ss : List Pass) → All (InRange lo hi area) ss → (run near ss m ≡ m) × (runCount near ss m ≡ 0)
-    unfolding run runCount
+    pub small-run : (ss : List Pass) → All (InRange lo hi area) ss
+        → (run (always near) ss m ≡ m) × (runCount (always near) ss m ≡ 0)
+    unfolding runEffect
     small-run [] none = (refl, refl)
     small-run (s ∷ ss) (more F fits) =
         let now = small-pass s F in
         let rest = small-run ss fits in
-        (ap (run near ss) (now .0) ∙ rest .0, ap₂ _+_ (now .1) (ap (runCount near ss) (now .0) ∙ rest .1))
+        let from : List ℕ → Effect = runEffect (always near) ss in (
+          ap (λ (q : List ℕ). from q .plane) (now .0) ∙ rest .0,
+          ap₂ _+_ (now .1) (ap (λ (q : List ℕ). from q .retoned) (now .0) ∙ rest .1),
+        )
 
   -- ## Pixels outside [lo, hi]
 
   pub run-outside : (ss : List Pass) → All (InRange lo hi area) ss → (m : List ℕ) (x : ℕ) → x < length m
-      → between lo hi (at m x) ≡ false → at (run near ss m) x ≡ at m x
-  unfolding run
+      → between lo hi (at m x) ≡ false → at (run (always near) ss m) x ≡ at m x
+  unfolding runEffect
   run-outside [] none m x h e = refl
   run-outside (s ∷ ss) (more F fits) m x h e =
-      let same = passed-at near symm s m x h ∙ out-tone near s m x (range-out F (at m x) e) in
-      run-outside ss fits (passed near s m) x (omega (arith, length-passed near symm s m))
+      let same = passed-at near s m x h ∙ out-tone near s m x (range-out F (at m x) e) in
+      run-outside ss fits (passed near s m) x (omega (arith, length-passed near s m))
       (ap (between lo hi) same ∙ e)
       ∙ same
 
-pub length-run : (near : Near) (symm : (i j : ℕ) → near i j ≡ near j i) (ss : List Pass) (m : List ℕ)
-    → length (run near ss m) ≡ length m
-unfolding run
-length-run near symm [] m = refl
-length-run near symm (s ∷ ss) m = length-run near symm ss (passed near s m) ∙ length-passed near symm s m
+pub length-run : (by : Pass → Near) (ss : List Pass) (m : List ℕ) → length (run by ss m) ≡ length m
+unfolding runEffect
+length-run by [] m = refl
+length-run by (s ∷ ss) m = length-run by ss (passed (by s) s m) ∙ length-passed (by s) s m

@@ -1,30 +1,32 @@
--- Effect on a set of pixels that does to it what a run of passes does: nothing, work after work, and the equalising of a
--- connected set, which is the pass on its section. For any symmetric neighbour relation. Assumes nothing.
+-- Effect on a set of pixels that does to it what a run of passes does: nothing, work after work, and the equalising of
+-- a connected set, which is the pass on its section. For any symmetric neighbour relation. Assumes nothing.
 use Prim.Native.Nat.{ℕ, _+_, _≤_, _<_}
 use mathlib.Core.Path.{_≡_, refl, sym, ap, ap₂, subst, _∙_}
 use mathlib.Core.Logic.{inl, inr}
 use mathlib.Core.Bool.{Bool, true, false, cond, not, _&&_}
 use mathlib.Core.List.{List, [], _∷_, _++_, map}
+use mathlib.Mathlib.Data.Bool.Basic.{and-elim-left, and-elim-right, and-intro}
 use native.Mathlib.Omega.{arith}
 use lib.ListN.{length, length-map}
 use borrow.Author.Tests.{le-leb}
 use Rattle.planes.specs.Lists.{from, count, at}
+use Rattle.planes.specs.Shapes.{Symmetric}
 use Rattle.planes.specs.Neighbours.{Near, linked, component, first}
-use Rattle.planes.proofs.Tests.{decide, and-left, and-right, and-both, and-middle, same-test}
+use Rattle.planes.proofs.Tests.{decide, and-middle, same-test}
 use Rattle.planes.proofs.Lists.{all-at, length-all, map-same}
 use Rattle.planes.proofs.Counts.{keep-same, count-same, count-none, count-one}
 use Rattle.planes.proofs.Links.{link-sym}
 use Rattle.planes.proofs.Fewer.{first-one, first-of}
 use Rattle.tones.specs.Tones.{tone, kept}
 use Rattle.model.specs.declared.Pass.{Pass}
-use Rattle.model.specs.Passes.{within, inside, values, changes, retone, passed, counted, passCount}
+use Rattle.model.specs.Passes.{within, inside, componentValues, changes, retone, passed, counted, passCount}
 use Rattle.model.specs.Runs.{run, runCount, All}
-use Rattle.model.specs.Effects.{Effect}
+use Rattle.model.specs.Effects.{Effect, always, runEffect}
 use Rattle.model.specs.Published.{between, amid, painted, histogramEqualization}
 use Rattle.model.proofs.Components.{in-tone, inside-sym}
 use Rattle.model.proofs.Order.{passed-at}
 use Rattle.model.proofs.Apart.{linked-same}
-use Rattle.model.proofs.Recursion.{run-append, count-append}
+use Rattle.model.proofs.Recursion.{run-append}
 use Rattle.model.proofs.Sets.{member-keep, pixelsOf, amid-is, linked-to}
 use Rattle.model.proofs.Parts.{InRange, Shows, small-run, run-outside, length-run}
 
@@ -33,9 +35,9 @@ use Rattle.model.proofs.Parts.{InRange, Shows, small-run, run-outside, 
 -- from t to t′ the pixels of A become what the passes make of them in m, all others stay, and the counts are added
 pub record Does (near : Near) (n : ℕ) (A : ℕ → Bool) (ss : List Pass) (m : List ℕ) (t t′ : Effect) : Type 0 where
   pub size : length (t′ .plane) ≡ n
-  pub on : (x : ℕ) → x < n → A x ≡ true → at (t′ .plane) x ≡ at (run near ss m) x
+  pub on : (x : ℕ) → x < n → A x ≡ true → at (t′ .plane) x ≡ at (run (always near) ss m) x
   pub off : (x : ℕ) → x < n → A x ≡ false → at (t′ .plane) x ≡ at (t .plane) x
-  pub sum : t′ .retoned ≡ t .retoned + runCount near ss m
+  pub sum : t′ .retoned ≡ t .retoned + runCount (always near) ss m
 
 pub does-same : {near : Near} {n : ℕ} {A B : ℕ → Bool} {ss : List Pass} {m : List ℕ} {t t′ : Effect}
     → ((x : ℕ) → x < n → A x ≡ B x) → Does near n A ss m t t′ → Does near n B ss m t t′
@@ -46,7 +48,7 @@ does-same same D = record {
   sum = D .sum;
 }
 
-module _ (near : Near) (symm : (i j : ℕ) → near i j ≡ near j i) (n : ℕ) (A : ℕ → Bool) where
+module _ (near : Near) (symm : Symmetric near) (n : ℕ) (A : ℕ → Bool) where
   -- nothing is done to a set that has less than the least area
   pub idle-does : {lo hi area : ℕ} {t : Effect} {m : List ℕ} → Shows n lo hi A (t .plane) m
       → ((x : ℕ) → x < n → A x ≡ true → count A (from 0 n) < area)
@@ -62,19 +64,19 @@ module _ (near : Near) (symm : (i j : ℕ) → near i j ≡ near j i) (n : ℕ) 
 
   -- work after work is the run after the run
   pub does-append : {xs ys : List Pass} {m : List ℕ} {t t₁ t₂ : Effect} → Does near n A xs m t t₁
-      → Does near n A ys (run near xs m) t₁ t₂ → Does near n A (xs ++ ys) m t t₂
+      → Does near n A ys (run (always near) xs m) t₁ t₂ → Does near n A (xs ++ ys) m t t₂
   does-append {xs} {ys} {m} D E = record {
     size = E .size;
-    on = λ x hx a. E .on x hx a ∙ sym (ap (λ (q : List ℕ). at q x) (run-append near symm xs ys m));
+    on = λ x hx a. E .on x hx a ∙ sym (ap (λ (e : Effect). at (e .plane) x) (run-append (always near) xs ys m));
     off = λ x hx a. E .off x hx a ∙ D .off x hx a;
-    sum = omega (arith, D .sum, E .sum, count-append near symm xs ys m);
+    sum = omega (arith, D .sum, E .sum, ap (λ (e : Effect). e .retoned) (run-append (always near) xs ys m));
   }
 
   pub does-shows : {lo hi area : ℕ} {ss : List Pass} {m : List ℕ} {t t′ : Effect} → Shows n lo hi A (t .plane) m
-      → All (InRange lo hi area) ss → Does near n A ss m t t′ → Shows n lo hi A (t′ .plane) (run near ss m)
+      → All (InRange lo hi area) ss → Does near n A ss m t t′ → Shows n lo hi A (t′ .plane) (run (always near) ss m)
   does-shows {lo} {hi} {area} {ss} {m} S fits D = record {
     whole = D .size;
-    size = length-run near symm ss m ∙ S .size;
+    size = length-run (always near) ss m ∙ S .size;
     on = λ x hx a. sym (D .on x hx a);
     off = λ x hx a.
         ap (between lo hi) (run-outside near symm n lo hi area ss fits m x (omega (arith, S .size)) (S .off x hx a))
@@ -106,7 +108,7 @@ piece-same {near} {n} {A = A} {B} same P =
       holds = sym (same (P .pixel) (P .below)) ∙ P .holds;
     }
 
-module _ (near : Near) (symm : (i j : ℕ) → near i j ≡ near j i) (n : ℕ) (A : ℕ → Bool) (s : Pass) (t : Effect)
+module _ (near : Near) (symm : Symmetric near) (n : ℕ) (A : ℕ → Bool) (s : Pass) (t : Effect)
     (m : List ℕ) (S : Shows n (s .a) (s .b) A (t .plane) m)
     (P : Piece near n (s .a) (s .b) A (t .plane)) (large : s .area ≤ count A (from 0 n)) where
   abbrev vs : List ℕ
@@ -136,8 +138,8 @@ module _ (near : Near) (symm : (i j : ℕ) → near i j ≡ near j i) (n : ℕ) 
       ap₂ (λ (x y : Bool). x && y && near u v) (in-section u hu) (in-section v hv) ∙ sym (amid-is near n A u v hu hv))
       n x y (omega arith) hx hy
 
-  values-are : (x : ℕ) → x < n → A x ≡ true → values near s m x ≡ vs
-  unfolding values component
+  values-are : (x : ℕ) → x < n → A x ≡ true → componentValues near s m x ≡ vs
+  unfolding componentValues component
   values-are x hx a =
       rw (S .size) (ap (map (at m)) (keep-same _ A 0 n (λ y _ h. all y (omega arith)))
       ∙ map-same A (at m) (at (t .plane)) 0 n (λ y _ h b. S .on y (omega arith) b))
@@ -156,7 +158,7 @@ module _ (near : Near) (symm : (i j : ℕ) → near i j ≡ near j i) (n : ℕ) 
   tone-is : (x : ℕ) → x < n → A x ≡ true → at (passed near s m) x ≡ value x (not back)
   unfolding retone
   tone-is x hx a =
-      passed-at near symm s m x (omega (arith, S .size))
+      passed-at near s m x (omega (arith, S .size))
       ∙ in-tone near s m x (in-section x hx ∙ a)
       ∙ rw (values-are x hx a, changes-are, S .on x hx a)
 
@@ -180,13 +182,13 @@ module _ (near : Near) (symm : (i j : ℕ) → near i j ≡ near j i) (n : ℕ) 
           let y = first-of In turn n (P .pixel) (P .below) in
           let d = sym (links (P .pixel) (y .0) (P .below) (y .1)) ∙ link-sym In turn n (P .pixel) (y .0) ∙ y .2 in
           let a = linked-to near n A (P .pixel) (y .0) (P .below) (y .1) (P .holds) d in
-          count-one _ n (y .0) (y .1) (and-both (and-both a refl) (y .3)) (λ x hx e.
-          let b = and-left (A x) true (and-left (A x && true) (first n In x) e) in
-          first-one In turn n x (y .0) (and-right (A x && true) (first n In x) e) (y .3)
+          count-one _ n (y .0) (y .1) (and-intro (and-intro a refl) (y .3)) (λ x hx e.
+          let b = and-elim-left (A x) true (and-elim-left (A x && true) (first n In x) e) in
+          first-one In turn n x (y .0) (and-elim-right (A x && true) (first n In x) e) (y .3)
           (links x (y .0) hx (y .1) ∙ P .joined x (y .0) hx (y .1) b a))
 
   pub equalization-does : Does near n A (s ∷ []) m t (histogramEqualization (s .rule) (s .a) (s .b) (pixelsOf n A) t)
-  unfolding histogramEqualization run runCount painted
+  unfolding histogramEqualization runEffect painted
   equalization-does = go back refl
     where
       after : Effect

@@ -3,10 +3,11 @@
 -- rule, any least area and any order of components. By induction over the levels: each set is looked at through a plane
 -- that shows it alone, so that nothing outside it comes in. Assumes nothing.
 use Prim.Native.Nat.{ℕ, zero, suc, _+_, _-_, _/_, _^_, _≤_, _<_, zero-le}
-use mathlib.Core.Path.{_≡_, refl, sym, ap, ap₂, subst, subst₂, _∙_}
+use mathlib.Core.Path.{_≡_, refl, sym, ap, subst, subst₂, _∙_}
 use mathlib.Core.Logic.{_⊎_, inl, inr}
 use mathlib.Core.Bool.{Bool, true, false, _&&_, true≢false}
 use mathlib.Core.List.{List, [], _∷_, _++_, map}
+use mathlib.Mathlib.Data.Bool.Basic.{and-elim-left, and-elim-right, and-intro}
 use native.Mathlib.Nat.{zero-add}
 use native.Mathlib.Omega.{arith}
 use lib.ListN.{length}
@@ -14,22 +15,23 @@ use lib.Seq.{ext-getD}
 use lib.Pow.{pow-pos}
 use borrow.Author.Tests.{le-leb}
 use Rattle.planes.specs.Lists.{from, keep, count, at}
+use Rattle.planes.specs.Shapes.{Symmetric}
 use Rattle.planes.specs.Neighbours.{Near, component, first}
-use Rattle.planes.proofs.Tests.{decide, and-left, and-right, and-both, contra}
+use Rattle.planes.proofs.Tests.{decide, contra}
 use Rattle.planes.proofs.Lists.{keep-keep, keep-all}
 use Rattle.planes.proofs.Counts.{count-all, length-from}
 use Rattle.planes.proofs.Links.{link-trans, link-sym}
 use Rattle.tones.specs.declared.Rule.{Rule}
 use Rattle.model.specs.declared.Pass.{Pass}
-use Rattle.model.specs.Runs.{run, runCount, All, none, more}
+use Rattle.model.specs.Runs.{run, All, none, more}
 use Rattle.model.specs.Enhancement.{section, passes, deep, recursive}
-use Rattle.model.specs.Effects.{Effect}
+use Rattle.model.specs.Effects.{Effect, always, runEffect}
 use Rattle.model.specs.Published.{Procedure, between, levelSet, amid, connectedComponents}
 use Rattle.model.specs.Published.{histogramEqualization, forEach, processLevelSet, recursiveHistogramEqualization}
 use Rattle.model.specs.Published.{Arrangement, readingOrder, Reordered, empty, behind, Reorders}
 use Rattle.model.specs.Published.{publishedIn, published, Connected}
 use Rattle.model.proofs.Apart.{linked-same}
-use Rattle.model.proofs.Recursion.{all-append, double, recursion-listed}
+use Rattle.model.proofs.Recursion.{effect-same, all-append, double, recursion-listed}
 use Rattle.model.proofs.Sets.{pixelsOf, amid-is, heads, anyOf, any-reordered}
 use Rattle.model.proofs.Parts.{InRange, range-wider, between-wider, Shows, shows-same, run-outside, length-run}
 use Rattle.model.proofs.Pieces.{Does, does-same, does-append, does-shows, Piece, equalization-does}
@@ -64,7 +66,7 @@ deep-fits area rule k (suc d) a =
     (all-append (range-wider (omega arith) (omega arith) (deep-fits area rule k d a))
     (range-wider (omega arith) (omega arith) (deep-fits area rule k d (a + 2 ^ (d + k)))))
 
-module _ (arrange : Arrangement) (reorders : Reorders arrange) (near : Near) (symm : (i j : ℕ) → near i j ≡ near j i)
+module _ (arrange : Arrangement) (reorders : Reorders arrange) (near : Near) (symm : Symmetric near)
     (area : ℕ) where
   -- ## The components of a set, one after the other
 
@@ -104,7 +106,7 @@ module _ (arrange : Arrangement) (reorders : Reorders arrange) (near : Near) (sy
   level-set-does f ss lo hi T a b la hb n A t m S =
       rw (S .whole, keep-keep (λ x. between lo hi (at (t .plane) x)) A (from 0 n))
       (widen (components-do f ss lo hi T n G t m part-shown
-      (λ x hx g. and-right (A x) (between lo hi (at (t .plane) x)) g)))
+      (λ x hx g. and-elim-right (A x) (between lo hi (at (t .plane) x)) g)))
     where
       G : ℕ → Bool
       G x = A x && between lo hi (at (t .plane) x)
@@ -112,7 +114,7 @@ module _ (arrange : Arrangement) (reorders : Reorders arrange) (near : Near) (sy
       -- a pixel that is not in the level set is shown outside [lo, hi]
       outside : (x : ℕ) → x < n → G x ≡ false → between lo hi (at m x) ≡ false
       outside x hx g = elim (decide (A x)) [
-        | inl d ↦ ap (between lo hi) (S .on x hx d) ∙ contra (λ e. and-both d e) g
+        | inl d ↦ ap (between lo hi) (S .on x hx d) ∙ contra (λ e. and-intro d e) g
         | inr d ↦ contra (between-wider lo hi a b (at m x) la hb) (S .off x hx d)
       ]
 
@@ -120,7 +122,7 @@ module _ (arrange : Arrangement) (reorders : Reorders arrange) (near : Near) (sy
       part-shown = record {
         whole = S .whole;
         size = S .size;
-        on = λ x hx g. S .on x hx (and-left (A x) (between lo hi (at (t .plane) x)) g);
+        on = λ x hx g. S .on x hx (and-elim-left (A x) (between lo hi (at (t .plane) x)) g);
         off = outside;
       }
 
@@ -133,7 +135,8 @@ module _ (arrange : Arrangement) (reorders : Reorders arrange) (near : Near) (sy
         sum = D .sum;
       }
         where
-          on : (x : ℕ) → x < n → A x ≡ true → (G x ≡ true) ⊎ (G x ≡ false) → at (t′ .plane) x ≡ at (run near ss m) x
+          on : (x : ℕ) → x < n → A x ≡ true → (G x ≡ true) ⊎ (G x ≡ false)
+              → at (t′ .plane) x ≡ at (run (always near) ss m) x
           on x hx d (inl g) = D .on x hx g
           on x hx d (inr g) =
               D .off x hx g
@@ -152,8 +155,8 @@ module _ (arrange : Arrangement) (reorders : Reorders arrange) (near : Near) (sy
   level-does s mid am mb f xs ys X Y n A t m S P large =
       let t₁ = histogramEqualization (s .rule) (s .a) (s .b) (pixelsOf n A) t in
       let t₂ = processLevelSet arrange near area f (s .a) mid (pixelsOf n A) t₁ in
-      let m₁ = run near (s ∷ []) m in
-      let m₂ = run near xs m₁ in
+      let m₁ = run (always near) (s ∷ []) m in
+      let m₂ = run (always near) xs m₁ in
       let own : InRange (s .a) (s .b) (s .area) s = record { low = omega arith; high = omega arith; least = refl } in
       let D₁ = equalization-does near symm n A s t m S P large in
       let S₁ = does-shows near symm n A S (more own none) D₁ in
@@ -194,7 +197,7 @@ module _ (arrange : Arrangement) (reorders : Reorders arrange) (near : Near) (sy
 
 -- ## The whole plane
 
-module _ (near : Near) (symm : (i j : ℕ) → near i j ≡ near j i) (area : ℕ) (rule : Rule) (p : List ℕ)
+module _ (near : Near) (symm : Symmetric near) (area : ℕ) (rule : Rule) (p : List ℕ)
     (c : Connected near p) where
   abbrev n : ℕ
   n = length p
@@ -210,7 +213,7 @@ module _ (near : Near) (symm : (i j : ℕ) → near i j ≡ near j i) (area : �
 
   piece-all : Piece near n 0 255 all p
   piece-all = record {
-    among = λ x hx _. and-both (le-leb 0 (at p x) zero-le) (le-leb (at p x) 255 (c .bytes x hx));
+    among = λ x hx _. and-intro (le-leb 0 (at p x) zero-le) (le-leb (at p x) 255 (c .bytes x hx));
     joined = λ x y hx hy _ _.
         linked-same n (amid near (pixelsOf n all)) near (amid-is near n all) n x y (omega arith) hx hy
         ∙ link-trans near n x 0 y (c .some) (link-sym near symm n x 0 ∙ c .joined x hx) (c .joined y hy);
@@ -248,34 +251,22 @@ module _ (near : Near) (symm : (i j : ℕ) → near i j ≡ near j i) (area : �
 
     -- the published recursion ends as the recursion by sections, whatever the order of the components
     pub published-run-in : (last : ℕ) → last ≤ 7
-        → (publishedIn arrange near last area rule p .plane ≡ run near (recursive last area rule) p)
-        × (publishedIn arrange near last area rule p .retoned ≡ runCount near (recursive last area rule) p)
+        → publishedIn arrange near last area rule p ≡ runEffect (always near) (recursive last area rule) p
     published-run-in last h =
         let D = published-does last h in
-        let size = D .size ∙ sym (length-run near symm (recursive last area rule) p) in
-        (ext-getD 0 _ _ size (λ x hx. D .on x (omega (arith, D .size)) refl), D .sum ∙ zero-add _)
+        let size = D .size ∙ sym (length-run (always near) (recursive last area rule) p) in
+        effect-same (ext-getD 0 _ _ size (λ x hx. D .on x (omega (arith, D .size)) refl)) (D .sum ∙ zero-add _)
 
   pub published-run : (last : ℕ) → last ≤ 7
-      → (published near last area rule p .plane ≡ run near (recursive last area rule) p)
-      × (published near last area rule p .retoned ≡ runCount near (recursive last area rule) p)
+      → published near last area rule p ≡ runEffect (always near) (recursive last area rule) p
   published-run = published-run-in readingOrder reading-reorders
 
   -- and so as the passes level by level
   pub published-listed : (last : ℕ) → last ≤ 7
-      → (published near last area rule p .plane ≡ run near (passes last area rule) p)
-      × (published near last area rule p .retoned ≡ runCount near (passes last area rule) p)
-  published-listed last h =
-      let r = published-run last h in
-      let q = recursion-listed near symm last area rule h in
-      (r .0 ∙ q .planes p, r .1 ∙ q .sums p)
+      → published near last area rule p ≡ runEffect (always near) (passes last area rule) p
+  published-listed last h = published-run last h ∙ recursion-listed (always near) last area rule h .effects p
 
   -- in whatever order components are treated
   pub published-any-order : (arrange : Arrangement) → Reorders arrange → (last : ℕ) → last ≤ 7
       → publishedIn arrange near last area rule p ≡ published near last area rule p
-  published-any-order arrange reorders last h =
-      let r = published-run-in arrange reorders last h in
-      let q = published-run last h in
-      ap₂ done (r .0 ∙ sym (q .0)) (r .1 ∙ sym (q .1))
-    where
-      done : List ℕ → ℕ → Effect
-      done plane retoned = record { plane = plane; retoned = retoned }
+  published-any-order arrange reorders last h = published-run-in arrange reorders last h ∙ sym (published-run last h)

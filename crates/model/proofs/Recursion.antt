@@ -1,23 +1,31 @@
 -- The recursion by sections, each before its lower and its upper half, ends as the passes level by level do, in the
--- same plane with the same sum of counts: passes on disjoint intervals change places. For any symmetric neighbour
--- relation. Assumes nothing.
+-- same plane with the same sum of counts: passes on disjoint intervals change places. For any neighbour relations, of
+-- each pass its own. Assumes nothing.
 use Prim.Native.Nat.{ℕ, zero, suc, _+_, _-_, _^_, _≤_, _<_}
 use mathlib.Core.Path.{_≡_, refl, sym, ap, ap₂, subst, _∙_}
 use mathlib.Core.Logic.{inl}
 use mathlib.Core.List.{List, [], _∷_, _++_, append-assoc}
 use native.Mathlib.Nat.{add-assoc, suc-add, zero-add}
 use native.Mathlib.Omega.{arith}
+use lib.ListN.{length}
 use lib.Pow.{pow-pos}
 use Rattle.planes.specs.Lists.{from}
 use Rattle.planes.specs.Neighbours.{Near}
+use Rattle.planes.proofs.Counts.{count-le, length-from}
 use Rattle.tones.specs.declared.Rule.{Rule}
 use Rattle.model.specs.declared.Pass.{Pass}
-use Rattle.model.specs.Passes.{passed, passCount}
-use Rattle.model.specs.Runs.{run, runCount, Same, All, none, more}
+use Rattle.model.specs.Passes.{passed, counted, passCount}
+use Rattle.model.specs.Effects.{Effect, then, passEffect, runEffect, Same}
+use Rattle.model.specs.Runs.{All, none, more}
 use Rattle.model.specs.Enhancement.{section, level, levels, passes, deep, recursive}
 use Rattle.model.proofs.Apart.{Disjoint, turn, commute, counts-stay}
 
 -- ## Runs of passes
+
+-- a pass retones no more components than there are pixels
+pub pass-few : (near : Near) (s : Pass) (p : List ℕ) → passCount near s p ≤ length p
+unfolding passCount
+pass-few near s p = omega (arith, count-le (counted near s p) (from 0 (length p)), length-from 0 (length p))
 
 pub all-append : {P : Pass → Type 0} {xs ys : List Pass} → All P xs → All P ys → All P (xs ++ ys)
 all-append none b = b
@@ -27,71 +35,78 @@ pub all-map : {P Q : Pass → Type 0} {xs : List Pass} → ((s : Pass) → P s �
 all-map f none = none
 all-map f (more {s = s} x a) = more (f s x) (all-map f a)
 
-module _ (near : Near) (symm : (i j : ℕ) → near i j ≡ near j i) where
-  same-refl : (xs : List Pass) → Same near xs xs
-  same-refl xs = record { planes = λ p. refl; sums = λ p. refl }
+-- a pass with a ≤ b, and one away from it
+abbrev Away : Pass → Pass → Type 0
+Away s t = (s .a ≤ s .b) × (t .a ≤ t .b) × Disjoint s t
 
-  same-trans : {xs ys zs : List Pass} → Same near xs ys → Same near ys zs → Same near xs zs
-  same-trans a b = record { planes = λ p. a .planes p ∙ b .planes p; sums = λ p. a .sums p ∙ b .sums p }
+-- effects with equal fields
+pub effect-same : {p q : List ℕ} {j k : ℕ} → p ≡ q → j ≡ k
+    → _≡_ {A = Effect} (record { plane = p; retoned = j }) (record { plane = q; retoned = k })
+effect-same e d = ap₂ (λ (p : List ℕ) (k : ℕ). record { plane = p; retoned = k }) e d
 
-  same-sym : {xs ys : List Pass} → Same near xs ys → Same near ys xs
-  same-sym a = record { planes = λ p. sym (a .planes p); sums = λ p. sym (a .sums p) }
+pub then-assoc : (e f g : Effect) → then (then e f) g ≡ then e (then f g)
+then-assoc e f g = effect-same refl (add-assoc (e .retoned) (f .retoned) (g .retoned))
 
-  same-cons : (s : Pass) {xs ys : List Pass} → Same near xs ys → Same near (s ∷ xs) (s ∷ ys)
-  unfolding run runCount
-  same-cons s a = record {
-    planes = λ p. a .planes (passed near s p);
-    sums = λ p. ap (passCount near s p +_) (a .sums (passed near s p));
-  }
+module _ (by : Pass → Near) where
+  same-refl : (xs : List Pass) → Same by xs xs
+  same-refl xs = record { effects = λ p. refl }
 
-  same-after : (zs : List Pass) {xs ys : List Pass} → Same near xs ys → Same near (zs ++ xs) (zs ++ ys)
+  same-trans : {xs ys zs : List Pass} → Same by xs ys → Same by ys zs → Same by xs zs
+  same-trans a b = record { effects = λ p. a .effects p ∙ b .effects p }
+
+  same-sym : {xs ys : List Pass} → Same by xs ys → Same by ys xs
+  same-sym a = record { effects = λ p. sym (a .effects p) }
+
+  same-cons : (s : Pass) {xs ys : List Pass} → Same by xs ys → Same by (s ∷ xs) (s ∷ ys)
+  unfolding runEffect
+  same-cons s a = record { effects = λ p. ap (then (passEffect by s p)) (a .effects (passEffect by s p .plane)) }
+
+  same-after : (zs : List Pass) {xs ys : List Pass} → Same by xs ys → Same by (zs ++ xs) (zs ++ ys)
   same-after [] a = a
   same-after (z ∷ zs) a = same-cons z (same-after zs a)
 
-  pub run-append : (xs ys : List Pass) (p : List ℕ) → run near (xs ++ ys) p ≡ run near ys (run near xs p)
-  unfolding run
-  run-append [] ys p = refl
-  run-append (x ∷ xs) ys p = run-append xs ys (passed near x p)
+  -- a run of passes after another
+  pub run-append : (xs ys : List Pass) (p : List ℕ)
+      → runEffect by (xs ++ ys) p ≡ then (runEffect by xs p) (runEffect by ys (runEffect by xs p .plane))
+  unfolding runEffect
+  run-append [] ys p = effect-same refl (sym (zero-add (runEffect by ys p .retoned)))
+  run-append (x ∷ xs) ys p =
+      let now = passEffect by x p in
+      let first = runEffect by xs (now .plane) in
+      ap (then now) (run-append xs ys (now .plane)) ∙ sym (then-assoc now first (runEffect by ys (first .plane)))
 
-  pub count-append : (xs ys : List Pass) (p : List ℕ)
-      → runCount near (xs ++ ys) p ≡ runCount near xs p + runCount near ys (run near xs p)
-  unfolding run runCount
-  count-append [] ys p = sym (zero-add _)
-  count-append (x ∷ xs) ys p =
-      ap (passCount near x p +_) (count-append xs ys (passed near x p))
-      ∙ sym (add-assoc (passCount near x p) _ _)
-
-  same-before : {xs ys : List Pass} (zs : List Pass) → Same near xs ys → Same near (xs ++ zs) (ys ++ zs)
+  same-before : {xs ys : List Pass} (zs : List Pass) → Same by xs ys → Same by (xs ++ zs) (ys ++ zs)
   same-before {xs} {ys} zs a = record {
-    planes = λ p. run-append xs zs p ∙ ap (run near zs) (a .planes p) ∙ sym (run-append ys zs p);
-    sums = λ p. count-append xs zs p
-        ∙ ap₂ (λ (k : ℕ) (q : List ℕ). k + runCount near zs q) (a .sums p) (a .planes p)
-        ∙ sym (count-append ys zs p);
+    effects = λ p. run-append xs zs p
+        ∙ ap (λ (e : Effect). then e (runEffect by zs (e .plane))) (a .effects p)
+        ∙ sym (run-append ys zs p);
   }
-
-  -- a pass with a ≤ b, and one away from it
-  abbrev Away : Pass → Pass → Type 0
-  Away s t = (s .a ≤ s .b) × (t .a ≤ t .b) × Disjoint s t
 
   -- two passes apart change places; so does a pass with a list, and a list with a list
-  swap : (s t : Pass) (zs : List Pass) → Away s t → Same near (s ∷ t ∷ zs) (t ∷ s ∷ zs)
-  unfolding run runCount
+  swap : (s t : Pass) (zs : List Pass) → Away s t → Same by (s ∷ t ∷ zs) (t ∷ s ∷ zs)
+  unfolding runEffect
   swap s t zs w = record {
-    planes = λ p. ap (run near zs) (one p);
-    sums = λ p.
-        ap₂ (λ (k : ℕ) (q : List ℕ). passCount near s p + (k + runCount near zs q))
-        (counts-stay near symm t s (turn s t (w .2)) (w .1) (w .0) p) (one p)
-        ∙ omega (arith, counts-stay near symm s t (w .2) (w .0) (w .1) p);
+    effects = λ p. effect-same (ap (λ (q : List ℕ). runEffect by zs q .plane) (one p)) (sums p);
   }
     where
-      one : (p : List ℕ) → passed near t (passed near s p) ≡ passed near s (passed near t p)
-      one p = sym (commute near symm s t (w .2) (w .0) (w .1) p)
+      one : (p : List ℕ) → passed (by t) t (passed (by s) s p) ≡ passed (by s) s (passed (by t) t p)
+      one p = sym (commute by s t (w .2) (w .0) (w .1) p)
 
-  past : (s : Pass) (ys zs : List Pass) → All (Away s) ys → Same near (s ∷ ys ++ zs) (ys ++ s ∷ zs)
+      sums : (p : List ℕ)
+          → passCount (by s) s p + (passCount (by t) t (passed (by s) s p)
+          + runEffect by zs (passed (by t) t (passed (by s) s p)) .retoned)
+          ≡ passCount (by t) t p + (passCount (by s) s (passed (by t) t p)
+          + runEffect by zs (passed (by s) s (passed (by t) t p)) .retoned)
+      sums p =
+          ap₂ (λ (k : ℕ) (q : List ℕ). passCount (by s) s p + (k + runEffect by zs q .retoned))
+          (counts-stay by t s (turn s t (w .2)) (w .1) (w .0) p) (one p)
+          ∙ omega (arith, counts-stay by s t (w .2) (w .0) (w .1) p)
+
+  past : (s : Pass) (ys zs : List Pass) → All (Away s) ys → Same by (s ∷ ys ++ zs) (ys ++ s ∷ zs)
   past s [] zs none = same-refl (s ∷ zs)
   past s (y ∷ ys) zs (more w a) = same-trans (swap s y (ys ++ zs) w) (same-cons y (past s ys zs a))
 
-  block : (xs ys zs : List Pass) → All (λ x. All (Away x) ys) xs → Same near (xs ++ (ys ++ zs)) (ys ++ (xs ++ zs))
+  block : (xs ys zs : List Pass) → All (λ x. All (Away x) ys) xs → Same by (xs ++ (ys ++ zs)) (ys ++ (xs ++ zs))
   block [] ys zs none = same-refl (ys ++ zs)
   block (x ∷ xs) ys zs (more w a) = same-trans (same-cons x (block xs ys zs a)) (past x ys (xs ++ zs) w)
 
@@ -139,28 +154,28 @@ unfolding joined
 joined-shift x i zero = refl
 joined-shift x i (suc m) = ap (x (suc i) ++_) (joined-shift x (suc i) m)
 
-module _ (near : Near) (symm : (i j : ℕ) → near i j ≡ near j i) where
-  same-of : {xs ys : List Pass} → xs ≡ ys → Same near xs ys
-  same-of {xs} e = subst (Same near xs) e (same-refl near symm xs)
+module _ (by : Pass → Near) where
+  same-of : {xs ys : List Pass} → xs ≡ ys → Same by xs ys
+  same-of {xs} e = subst (Same by xs) e (same-refl by xs)
 
   -- two families of lists that are apart, list by list in turn or one family after the other
-  interleave : (x y : ℕ → List Pass) → ((l r : ℕ) → All (λ s. All (Away near symm s) (y r)) (x l)) → (i m : ℕ)
-      → Same near (joined (λ l. x l ++ y l) i m) (joined x i m ++ joined y i m)
+  interleave : (x y : ℕ → List Pass) → ((l r : ℕ) → All (λ s. All (Away s) (y r)) (x l)) → (i m : ℕ)
+      → Same by (joined (λ l. x l ++ y l) i m) (joined x i m ++ joined y i m)
   unfolding joined
-  interleave x y h i zero = same-refl near symm []
+  interleave x y h i zero = same-refl by []
   interleave x y h i (suc m) =
       let jx = joined x (suc i) m in
       let jy = joined y (suc i) m in
-      let past = same-sym near symm (block near symm jx (y i) jy (all-joined x (λ l. h l i) (suc i) m)) in
-      same-trans near symm (same-after near symm (x i ++ y i) (interleave x y h (suc i) m))
-      (same-trans near symm (same-of (append-assoc (x i) (y i) (jx ++ jy)))
-      (same-trans near symm (same-after near symm (x i) past)
+      let past = same-sym by (block by jx (y i) jy (all-joined x (λ l. h l i) (suc i) m)) in
+      same-trans by (same-after by (x i ++ y i) (interleave x y h (suc i) m))
+      (same-trans by (same-of (append-assoc (x i) (y i) (jx ++ jy)))
+      (same-trans by (same-after by (x i) past)
       (same-of (sym (append-assoc (x i) jx (y i ++ jy))))))
 
   module _ (k area : ℕ) (rule : Rule) where
     -- the lists of the two halves are apart
     apart-halves : (d a l r : ℕ)
-        → All (λ s. All (Away near symm s) (wide k area rule d (a + 2 ^ (d + k)) r)) (wide k area rule d a l)
+        → All (λ s. All (Away s) (wide k area rule d (a + 2 ^ (d + k)) r)) (wide k area rule d a l)
     apart-halves d a l r =
         let half : ℕ = 2 ^ (d + k) in
         all-map (λ s (g : In k area rule a (a + half) s).
@@ -170,19 +185,19 @@ module _ (near : Near) (symm : (i j : ℕ) → near i j ≡ near j i) where
 
     -- the two halves, level by level or one after the other
     halves : (d a m : ℕ)
-        → Same near (joined (λ l. wide k area rule d a l ++ wide k area rule d (a + 2 ^ (d + k)) l) 0 m)
+        → Same by (joined (λ l. wide k area rule d a l ++ wide k area rule d (a + 2 ^ (d + k)) l) 0 m)
         (joined (wide k area rule d a) 0 m ++ joined (wide k area rule d (a + 2 ^ (d + k))) 0 m)
     halves d a m = interleave (wide k area rule d a) (wide k area rule d (a + 2 ^ (d + k))) (apart-halves d a) 0 m
 
-    pub deep-wide : (d a : ℕ) → Same near (deep k area rule d a) (joined (wide k area rule d a) 0 (suc d))
+    pub deep-wide : (d a : ℕ) → Same by (deep k area rule d a) (joined (wide k area rule d a) 0 (suc d))
     unfolding deep wide joined
-    deep-wide zero a = same-refl near symm _
+    deep-wide zero a = same-refl by _
     deep-wide (suc d) a =
         let a′ = a + 2 ^ (d + k) in
-        same-cons near symm (section area rule a (2 ^ (suc d + k)))
-        (same-trans near symm (same-before near symm (deep k area rule d a′) (deep-wide d a))
-        (same-trans near symm (same-after near symm (joined (wide k area rule d a) 0 (suc d)) (deep-wide d a′))
-        (same-trans near symm (same-sym near symm (halves d a (suc d)))
+        same-cons by (section area rule a (2 ^ (suc d + k)))
+        (same-trans by (same-before by (deep k area rule d a′) (deep-wide d a))
+        (same-trans by (same-after by (joined (wide k area rule d a) 0 (suc d)) (deep-wide d a′))
+        (same-trans by (same-sym by (halves d a (suc d)))
         (same-of (joined-shift (wide k area rule (suc d) a) 0 (suc d))))))
 
 -- ## An enhancement's recursion and its list of passes
@@ -201,17 +216,17 @@ listed (suc (suc (suc (suc (suc zero))))) area rule h = refl
 listed (suc (suc (suc (suc (suc (suc zero)))))) area rule h = refl
 listed (suc (suc (suc (suc (suc (suc (suc m))))))) area rule h = absurd (omega arith)
 
-module _ (near : Near) (symm : (i j : ℕ) → near i j ≡ near j i) where
+module _ (by : Pass → Near) where
   pub recursion-listed : (last area : ℕ) (rule : Rule) → last ≤ 7
-      → Same near (recursive last area rule) (passes last area rule)
+      → Same by (recursive last area rule) (passes last area rule)
   unfolding recursive passes level levels section
-  recursion-listed zero area rule h = same-refl near symm _
+  recursion-listed zero area rule h = same-refl by _
   recursion-listed (suc m) area rule h =
       let a = 0 + 2 ^ (m + (7 - m)) in
-      let lower = deep-wide near symm (7 - m) area rule m 0 in
-      let upper = deep-wide near symm (7 - m) area rule m a in
-      same-cons near symm (section 1 rule 0 256)
-      (same-trans near symm (same-before near symm (deep (7 - m) area rule m a) lower)
-      (same-trans near symm (same-after near symm (joined (wide (7 - m) area rule m 0) 0 (suc m)) upper)
-      (same-trans near symm (same-sym near symm (halves near symm (7 - m) area rule m 0 (suc m)))
-      (same-of near symm (listed m area rule h)))))
+      let lower = deep-wide by (7 - m) area rule m 0 in
+      let upper = deep-wide by (7 - m) area rule m a in
+      same-cons by (section 1 rule 0 256)
+      (same-trans by (same-before by (deep (7 - m) area rule m a) lower)
+      (same-trans by (same-after by (joined (wide (7 - m) area rule m 0) 0 (suc m)) upper)
+      (same-trans by (same-sym by (halves by (7 - m) area rule m 0 (suc m)))
+      (same-of by (listed m area rule h)))))

@@ -3,15 +3,16 @@
 use Prim.Native.Nat.{ℕ, zero, suc, _+_, _≤_, _<_, zero-le}
 use mathlib.Core.Path.{_≡_, refl, sym, ap, ap₂, _∙_}
 use mathlib.Core.Logic.{_⊎_, inl, inr}
-use mathlib.Core.Bool.{Bool, true, false, cond, _&&_, _||_, true≢false, false≢true}
+use mathlib.Core.Bool.{Bool, true, false, cond, _&&_, _||_, true≢false, false≢true, and-comm}
 use mathlib.Core.List.{List, [], _∷_, map}
+use mathlib.Mathlib.Data.Bool.Basic.{or-inl, or-inr, and-elim-left, and-elim-right, and-intro}
 use native.Mathlib.Nat.{le-refl, eq-or-lt-of-le}
 use native.Mathlib.Omega.{arith}
 use borrow.Author.Tests.{eq-eqb, ne-eqb}
 use Rattle.planes.specs.Lists.{from, keep}
+use Rattle.planes.specs.Shapes.{Symmetric}
 use Rattle.planes.specs.Neighbours.{Near, Chain, here, step, linked, first}
-use Rattle.planes.proofs.Tests.{or-cases, or-left, or-right, and-left, and-right, and-both, and-comm, same-test}
-use Rattle.planes.proofs.Tests.{never, contra}
+use Rattle.planes.proofs.Tests.{or-cases, same-test, never, contra}
 use Rattle.planes.proofs.Links.{linked-iff, link-near, link-refl, link-trans, link-sym}
 use Rattle.planes.proofs.Fewer.{first-out, first-of}
 use Rattle.model.specs.Published.{member, amid, Reordered, empty, behind, swap, twice}
@@ -93,13 +94,13 @@ module _ (near : Near) (n : ℕ) (A : ℕ → Bool) where
   amid-is u v hu hv = ap₂ (λ (s t : Bool). s && t && near u v) (member-keep A n u hu) (member-keep A n v hv)
 
   pub amid-of : (u v : ℕ) → u < n → v < n → A u ≡ true → A v ≡ true → near u v ≡ true → R u v ≡ true
-  amid-of u v hu hv a b e = amid-is u v hu hv ∙ and-both (and-both a b) e
+  amid-of u v hu hv a b e = amid-is u v hu hv ∙ and-intro (and-intro a b) e
 
   pub amid-to : (u v : ℕ) → u < n → v < n → R u v ≡ true → A v ≡ true
-  amid-to u v hu hv e = and-right (A u) (A v) (and-left (A u && A v) (near u v) (sym (amid-is u v hu hv) ∙ e))
+  amid-to u v hu hv e = and-elim-right (A u) (A v) (and-elim-left (A u && A v) (near u v) (sym (amid-is u v hu hv) ∙ e))
 
   pub amid-near : (u v : ℕ) → u < n → v < n → R u v ≡ true → near u v ≡ true
-  amid-near u v hu hv e = and-right (A u && A v) (near u v) (sym (amid-is u v hu hv) ∙ e)
+  amid-near u v hu hv e = and-elim-right (A u && A v) (near u v) (sym (amid-is u v hu hv) ∙ e)
 
   -- a component of a set lies in the set
   pub linked-to : (i x : ℕ) → i < n → x < n → A i ≡ true → linked R n i x ≡ true → A x ≡ true
@@ -123,7 +124,7 @@ separate-turn symm w = record {
   far = λ x y hx hy b a. symm x y ∙ w .far y x hy hx a b;
 }
 
-module _ (near : Near) (symm : (i j : ℕ) → near i j ≡ near j i) (n : ℕ) (A : ℕ → Bool) where
+module _ (near : Near) (symm : Symmetric near) (n : ℕ) (A : ℕ → Bool) where
   -- the pixels that are linked to k in A
   unfoldable pub part : ℕ → ℕ → Bool
   part k = linked (R near n A) n k
@@ -157,11 +158,11 @@ module _ (near : Near) (symm : (i j : ℕ) → near i j ≡ near j i) (n : ℕ) 
   unfolding part
   part-of x hx a =
       let y = first-of (R near n A) (amid-sym near n A symm) n x hx in
-      (y .0, y .1, and-both (part-in x (y .0) hx (y .1) a (part-turn (y .0) x (y .2))) (y .3), y .2)
+      (y .0, y .1, and-intro (part-in x (y .0) hx (y .1) a (part-turn (y .0) x (y .2))) (y .3), y .2)
 
   module _ (k : ℕ) (hk : k < n) (head : heads k ≡ true) where
     pub part-set : (x : ℕ) → x < n → part k x ≡ true → A x ≡ true
-    part-set x hx c = part-in k x hk hx (and-left (A k) (first n (R near n A) k) head) c
+    part-set x hx c = part-in k x hk hx (and-elim-left (A k) (first n (R near n A) k) head) c
 
     -- it is connected in itself
     pub part-joined : (x y : ℕ) → x < n → y < n → part k x ≡ true → part k y ≡ true
@@ -189,7 +190,7 @@ module _ (near : Near) (symm : (i j : ℕ) → near i j ≡ near j i) (n : ℕ) 
   }
     where
       before : part k l ≡ false
-      before = first-out n (R near n A) l (and-right (A l) (first n (R near n A) l) e) k kl
+      before = first-out n (R near n A) l (and-elim-right (A l) (first n (R near n A) l) e) k kl
 
       onward : (x y : ℕ) → x < n → y < n → part k x ≡ true → part l y ≡ true → near x y ≡ true → part k y ≡ true
       onward x y hx hy c f g =
@@ -251,7 +252,7 @@ module _ (g : ℕ → List ℕ) (f : ℕ → Bool) (x : ℕ) where
 
       go : (t : Bool) → f i ≡ t → (i ≡ l) ⊎ (i < l) → (i < l → anyOf (map g rest) x ≡ true)
           → anyOf (map g (cond t (i ∷ rest) rest)) x ≡ true
-      go true e (inl q) ih = or-left (member (g i) x) _ (ap (λ (j : ℕ). member (g j) x) q ∙ c)
-      go true e (inr q) ih = or-right (member (g i) x) _ (ih q)
+      go true e (inl q) ih = or-inl (member (g i) x) _ (ap (λ (j : ℕ). member (g j) x) q ∙ c)
+      go true e (inr q) ih = or-inr (member (g i) x) _ (ih q)
       go false e (inl q) ih = absurd (true≢false (sym d ∙ sym (ap f q) ∙ e))
       go false e (inr q) ih = ih q

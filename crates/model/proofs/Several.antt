@@ -6,17 +6,19 @@ use mathlib.Core.Path.{_≡_, refl, sym, ap, subst, _∙_}
 use mathlib.Core.Logic.{_⊎_, inl, inr}
 use mathlib.Core.Bool.{Bool, true, false, cond, _||_, true≢false, false≢true}
 use mathlib.Core.List.{List, [], _∷_, map}
+use mathlib.Mathlib.Data.Bool.Basic.{or-inl, or-inr}
 use native.Mathlib.Omega.{arith}
 use lib.ListN.{length}
 use lib.Dec.{leb}
 use borrow.Author.Tests.{leb-true, leb-false}
 use Rattle.planes.specs.Lists.{from, keep, count, at}
+use Rattle.planes.specs.Shapes.{Symmetric}
 use Rattle.planes.specs.Neighbours.{Near, component}
-use Rattle.planes.proofs.Tests.{decide, or-cases, or-left, or-right, or-none, same-test, never}
+use Rattle.planes.proofs.Tests.{decide, or-cases, or-none, same-test, never}
 use Rattle.planes.proofs.Counts.{keep-same}
 use Rattle.model.specs.declared.Pass.{Pass}
 use Rattle.model.specs.Runs.{run, runCount, All}
-use Rattle.model.specs.Effects.{Effect}
+use Rattle.model.specs.Effects.{Effect, always}
 use Rattle.model.specs.Published.{Procedure, member, between, amid, forEach}
 use Rattle.model.specs.Published.{Reordered, empty, behind, swap, twice}
 use Rattle.model.proofs.Sets.{member-keep, pixelsOf, Separate, separate-turn, part, heads, part-self, part-of}
@@ -52,13 +54,13 @@ patches-same same none = none
 patches-same {a = a} {b} same (more {S = S} {Ss = Ss} P w rest) = more (record {
   sorted = P .sorted;
   piece = record {
-    among = λ x hx e. ap (between a b) (same x hx (or-left (member S x) (anyOf Ss x) e)) ∙ P .piece .among x hx e;
+    among = λ x hx e. ap (between a b) (same x hx (or-inl (member S x) (anyOf Ss x) e)) ∙ P .piece .among x hx e;
     joined = P .piece .joined;
     pixel = P .piece .pixel;
     below = P .piece .below;
     holds = P .piece .holds;
   };
-}) w (patches-same (λ x hx e. same x hx (or-right (member S x) (anyOf Ss x) e)) rest)
+}) w (patches-same (λ x hx e. same x hx (or-inr (member S x) (anyOf Ss x) e)) rest)
 
 -- and in another order
 pub patches-reordered : {near : Near} → ((i j : ℕ) → near i j ≡ near j i) → {n a b : ℕ} {p : List ℕ}
@@ -73,20 +75,20 @@ patches-reordered symm (swap {S = S} {T = T} {Ss = Ss}) (more P w (more Q v rest
     let turned = separate-turn symm w in
     more Q (record {
       disjoint = λ x hx e.
-          ap (_|| anyOf Ss x) (turned .disjoint x hx (or-left (member T x) (anyOf Ss x) e)) ∙ v .disjoint x hx e;
+          ap (_|| anyOf Ss x) (turned .disjoint x hx (or-inl (member T x) (anyOf Ss x) e)) ∙ v .disjoint x hx e;
       far = λ x y hx hy e d. elim (or-cases (member S y) (anyOf Ss y) d) [
-        | inl c ↦ turned .far x y hx hy (or-left (member T x) (anyOf Ss x) e) c
+        | inl c ↦ turned .far x y hx hy (or-inl (member T x) (anyOf Ss x) e) c
         | inr c ↦ v .far x y hx hy e c
       ];
     }) (more P (record {
       disjoint = λ x hx e. or-none (member T x) (anyOf Ss x) (w .disjoint x hx e) .1;
-      far = λ x y hx hy e d. w .far x y hx hy e (or-right (member T y) (anyOf Ss y) d);
+      far = λ x y hx hy e d. w .far x y hx hy e (or-inr (member T y) (anyOf Ss y) d);
     }) rest)
 patches-reordered symm (twice r q) P = patches-reordered symm q (patches-reordered symm r P)
 
 -- ## Treated one after the other
 
-module _ (near : Near) (symm : (i j : ℕ) → near i j ≡ near j i) (area : ℕ) (f : Procedure) (ss : List Pass) (a b : ℕ)
+module _ (near : Near) (symm : Symmetric near) (area : ℕ) (f : Procedure) (ss : List Pass) (a b : ℕ)
     (T : Performs near area f ss a b) (n : ℕ) where
   -- a set is treated, or left where it is too small
   patch-does : (S : List ℕ) (t : Effect) → length (t .plane) ≡ n → Patch near n a b (t .plane) S
@@ -130,16 +132,16 @@ module _ (near : Near) (symm : (i j : ℕ) → near i j ≡ near j i) (area : �
       r : List ℕ
       r = shown n b B (t .plane)
 
-      parts : TwoParts n a b A B (run near ss q) (run near ss m) (run near ss r)
-          × (runCount near ss q ≡ runCount near ss m + runCount near ss r)
+      parts : TwoParts n a b A B (run (always near) ss q) (run (always near) ss m) (run (always near) ss r)
+          × (runCount (always near) ss q ≡ runCount (always near) ss m + runCount (always near) ss r)
       parts = parts-run near symm n a b area A B w ss (T .fits) q m r (record {
-        one = shown-part (λ x hx e. or-left (A x) (B x) e) S;
-        other = shown-part (λ x hx e. or-right (A x) (B x) e) S;
+        one = shown-part (λ x hx e. or-inl (A x) (B x) e) S;
+        other = shown-part (λ x hx e. or-inr (A x) (B x) e) S;
         rest = λ x hx d e. S .off x hx (ap (_|| B x) d ∙ e);
       })
 
       on : (x : ℕ) → x < n → (A x || B x) ≡ true → (A x ≡ true) ⊎ (A x ≡ false)
-          → at (t₂ .plane) x ≡ at (run near ss q) x
+          → at (t₂ .plane) x ≡ at (run (always near) ss q) x
       on x hx u (inl c) = E .off x hx (w .disjoint x hx c) ∙ D .on x hx c ∙ parts .0 .one .on x hx c
       on x hx u (inr c) = elim (or-cases (A x) (B x) u) [
         | inl d ↦ absurd (true≢false (sym d ∙ c))
@@ -167,7 +169,7 @@ module _ (near : Near) (symm : (i j : ℕ) → near i j ≡ near j i) (area : �
 
 -- ## The components of a set
 
-module _ (near : Near) (symm : (i j : ℕ) → near i j ≡ near j i) (n : ℕ) (G : ℕ → Bool) where
+module _ (near : Near) (symm : Symmetric near) (n : ℕ) (G : ℕ → Bool) where
   -- the component of k, as a test and as a list
   abbrev C : ℕ → ℕ → Bool
   C = part near symm n G

@@ -4,7 +4,9 @@ use Prim.Native.Nat.{ℕ, zero, suc, _+_, _/_}
 use mathlib.Core.Path.{_≡_, refl, ap}
 use Rattle.planes.specs.Neighbours.{Near, four, linked, component, first}
 use Rattle.tones.specs.declared.Rule.{Rule}
-use Rattle.tones.specs.Tones.{plainTone, clipped, limitedTone, tone, kept}
+use Rattle.plain.specs.Plain.{plainTone, plainKept}
+use Rattle.limited.specs.Limited.{clipped, limitedTone}
+use Rattle.tones.specs.Tones.{tone, kept}
 use Rattle.model.specs.Published.{Procedure, readingOrder}
 use Rattle.model.specs.Published.{member, levelSet, amid, connectedComponents, painted, histogramEqualization}
 use Rattle.model.specs.Published.{forEach, processLevelSet, recursiveHistogramEqualization, publishedIn}
@@ -27,7 +29,7 @@ shape-is near area rule (suc levels) = ap one-more (shape-is near area rule leve
         half next ((a + b) / 2 + 1) b S (half next a ((a + b) / 2) S (histogramEqualization rule a b S t))
 
 pub wrong-turns : WrongTurns
-unfolding four linked component first plainTone clipped limitedTone tone kept
+unfolding four linked component first plainTone plainKept clipped limitedTone tone kept
     member levelSet amid connectedComponents painted histogramEqualization
     forEach processLevelSet recursiveHistogramEqualization publishedIn
     recursionBy originalTones oneHistogram areaTest stopRecursion stopAtKept roundedEven halvesToEven

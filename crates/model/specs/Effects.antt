@@ -1,15 +1,20 @@
--- What a pass, or a run of passes, comes to. Definitions only.
+-- What a pass, or a run of passes, comes to. `by` gives each pass the relation that its components are taken by.
+-- Definitions only.
 --
 --   Effect      the plane that is left, and what is counted
 --   counts      the values that a call with such an effect gives
+--   nothing     the effect of no pass
+--   then        one effect after another: the plane of the later one, and the sums
 --   passEffect  the effect of a pass
 --   runEffect   the effect of passes, one after the other
-use Prim.Native.Nat.{ℕ}
+--   Same        two lists of passes with one effect, whatever plane they start from
+--   always      one relation for all passes
+use Prim.Native.Nat.{ℕ, _+_}
+use mathlib.Core.Path.{_≡_}
 use mathlib.Core.List.{List, [], _∷_}
 use Rattle.planes.specs.Neighbours.{Near}
 use Rattle.model.specs.declared.Pass.{Pass}
 use Rattle.model.specs.Passes.{passed, passCount}
-use Rattle.model.specs.Runs.{run, runCount}
 
 -- the plane, and the number of components that were retoned
 pub record Effect : Type 0 where
@@ -19,8 +24,21 @@ pub record Effect : Type 0 where
 abbrev pub counts : Effect → List ℕ
 counts e = e .retoned ∷ []
 
-abbrev pub passEffect : Near → Pass → List ℕ → Effect
-passEffect near s p = record { plane = passed near s p; retoned = passCount near s p }
+abbrev pub nothing : List ℕ → Effect
+nothing p = record { plane = p; retoned = 0 }
 
-abbrev pub runEffect : Near → List Pass → List ℕ → Effect
-runEffect near ss p = record { plane = run near ss p; retoned = runCount near ss p }
+abbrev pub then : Effect → Effect → Effect
+then e f = record { plane = f .plane; retoned = e .retoned + f .retoned }
+
+abbrev pub passEffect : (Pass → Near) → Pass → List ℕ → Effect
+passEffect by s p = record { plane = passed (by s) s p; retoned = passCount (by s) s p }
+
+unfoldable pub runEffect : (Pass → Near) → List Pass → List ℕ → Effect
+runEffect by [] p = nothing p
+runEffect by (s ∷ ss) p = then (passEffect by s p) (runEffect by ss (passEffect by s p .plane))
+
+pub record Same (by : Pass → Near) (xs ys : List Pass) : Type 0 where
+  pub effects : (p : List ℕ) → runEffect by xs p ≡ runEffect by ys p
+
+abbrev pub always : Near → Pass → Near
+always near s = near

@@ -7,6 +7,8 @@
 use Prim.Native.Nat.{ℕ, zero, suc, _+_, _-_, _*_, _^_}
 use mathlib.Core.List.{List, [], _∷_, _++_, map}
 use Rattle.planes.specs.Lists.{from}
+use Rattle.planes.specs.Shapes.{pixels}
+use Rattle.planes.specs.declared.Shape.{Shape}
 use Rattle.tones.specs.declared.Rule.{Rule}
 use Rattle.model.specs.declared.Pass.{Pass}
 use Rattle.model.specs.Calls.{Call, State, start, chain}
@@ -34,9 +36,9 @@ passes last area rule = level 0 1 rule ++ levels (from 1 last) area rule
 unfoldable pub callOf : ℕ → Pass → Call
 callOf n s = record { marks = n; queue = n; pass = s }
 
--- the state after the passes, from the plane p of w columns and h rows
-unfoldable pub enhanced : ℕ → ℕ → List ℕ → ℕ → ℕ → Rule → State
-enhanced w h p last area rule = chain w h (start p) (map (callOf (w * h)) (passes last area rule))
+-- the state after the passes, from a plane of the shape
+unfoldable pub enhanced : Shape → List ℕ → ℕ → ℕ → Rule → State
+enhanced z p last area rule = chain z (start p) (map (callOf (pixels z)) (passes last area rule))
 
 -- ## Depth first
 

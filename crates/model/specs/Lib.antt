@@ -1,6 +1,7 @@
 pub mod Passes
-pub mod Runs
+pub mod Neighbourhoods
 pub mod Effects
+pub mod Runs
 pub mod Outcomes
 pub mod Calls
 pub mod Enhancement

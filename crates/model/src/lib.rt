@@ -3,10 +3,10 @@
 // Pass           an interval, a least area and a tone rule
 // Answer         what a pass, a list or an enhancement answers
 // pass_refusal   refusals 5 to 8 for a pass's own numbers, or 0
-// rule_refusal   refusals 7 and 8 for a tone rule's numbers, or 0
 // area_refusal   refusal 6 for a least area, or 0
 ghost use mathlib.Core.Path.{_≡_};
-ghost use Rattle.model.specs.Calls.{areaRefusal, ruleRefusal, numbersRefusal};
+ghost use Rattle.model.specs.Calls.{areaRefusal, numbersRefusal};
+use planes::refused;
 use tones::Rule;
 
 // The section [a, b], the least area of the components that get the rule, and the rule with its own numbers.
@@ -23,48 +23,20 @@ pub enum Answer {
     Done(u32),
 }
 
+// The greatest least area: as many pixels as a plane may have.
+pub const GREATEST_AREA: u32 = 1048576;
+
 // 6 where the least area is 0 or too large, else 0.
 pub fn area_refusal(area: u32) -> u8
     ensures { λ r. ⌜ r ≡ areaRefusal area ⌝ }
 {
     if area == 0 {
-        return 6;
+        return refused::AREA;
     }
-    if 1048576 < area {
-        return 6;
-    }
-    0
-}
-
-fn plain_refusal(low: u16, high: u16) -> u8
-    ensures { λ r. ⌜ r ≡ ruleRefusal (Rule.Plain low high) ⌝ }
-{
-    if high < low {
-        return 7;
-    }
-    if 25500 < high {
-        return 7;
+    if GREATEST_AREA < area {
+        return refused::AREA;
     }
     0
-}
-
-fn limited_refusal(k: u16) -> u8
-    ensures { λ r. ⌜ r ≡ ruleRefusal (Rule.Limited k) ⌝ }
-{
-    if 1000 < k {
-        return 8;
-    }
-    0
-}
-
-// 7 where the plain rule's low and high are refused, 8 where the limited rule's clip is, else 0.
-pub fn rule_refusal(rule: Rule) -> u8
-    ensures { λ r. ⌜ r ≡ ruleRefusal rule ⌝ }
-{
-    match rule {
-        Rule::Plain { low, high } => plain_refusal(low, high),
-        Rule::Limited { k } => limited_refusal(k),
-    }
 }
 
 // 5 where a is above b, else the refusal of the area or of the rule, else 0.
@@ -72,7 +44,7 @@ pub fn pass_refusal(pass: Pass) -> u8
     ensures { λ r. ⌜ r ≡ numbersRefusal pass ⌝ }
 {
     if pass.b < pass.a {
-        return 5;
+        return refused::INTERVAL;
     }
     let area = pass.area;
     let small = area_refusal(area);
@@ -80,5 +52,5 @@ pub fn pass_refusal(pass: Pass) -> u8
         return small;
     }
     let rule = pass.rule;
-    rule_refusal(rule)
+    tones::rule_refusal(rule)
 }

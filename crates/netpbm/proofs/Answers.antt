@@ -5,8 +5,8 @@ use mathlib.Core.List.{List, [], _∷_}
 use native.Mathlib.Omega.{arith}
 use lib.ListN.{length, drop, length-drop}
 use Rattle.planes.specs.Replies.{replied}
-use Rattle.netpbm.specs.Parsers.{parsed}
-use Rattle.netpbm.specs.Grammar.{header}
+use Rattle.headers.specs.Parsers.{parsed}
+use Rattle.headers.specs.Grammar.{header}
 use Rattle.netpbm.specs.Reading.{frameRefusal, readReply}
 
 pub reply-headed : (bytes : List ℕ) (limit w h maxval offset : ℕ)

@@ -1,14 +1,18 @@
 -- The worked examples of reading and writing hold, by computation. Assumes nothing.
 use mathlib.Core.Path.{refl}
-use Rattle.planes.specs.Refusals.{sizeRefusal}
-use Rattle.netpbm.specs.Bytes.{isDigit, isWhite}
-use Rattle.netpbm.specs.Grammar.{mark, number, field, header}
-use Rattle.netpbm.specs.Reading.{frameRefusal, readAnswer}
-use Rattle.netpbm.specs.Writing.{decimal, heading, writeRefusal}
+use Rattle.planes.specs.Refusals.{sizeRefusal, sideRefusal, pixelRefusal, lengthRefusal, outputRefusal}
+use Rattle.texts.specs.Ascii.{isDigit, decimal}
+use Rattle.texts.specs.Heading.{heading}
+use Rattle.headers.specs.Bytes.{isWhite}
+use Rattle.headers.specs.Grammar.{mark, numeral, field, header}
+use Rattle.netpbm.specs.Reading.{maxvalRefusal, rasterRefusal, trailingRefusal, frameRefusal, readAnswer}
+use Rattle.netpbm.specs.Writing.{writeRefusal}
 use Rattle.netpbm.specs.Examples.{NetpbmExamples}
 
 pub netpbm-examples : NetpbmExamples
-unfolding readAnswer header mark field number isDigit isWhite frameRefusal sizeRefusal decimal heading writeRefusal
+unfolding readAnswer header mark field numeral isDigit isWhite
+    frameRefusal sizeRefusal sideRefusal pixelRefusal maxvalRefusal rasterRefusal trailingRefusal
+    writeRefusal lengthRefusal outputRefusal heading decimal
 netpbm-examples = record {
   accepted = refl;
   all-whitespace = refl;

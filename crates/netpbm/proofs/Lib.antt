@@ -1,16 +1,7 @@
-pub mod Bytes
-pub mod Parsers
-pub mod Grammar
-pub mod Numbers
 pub mod Refusals
-pub mod Cursors
 pub mod Answers
 pub mod Frames
 pub mod Replies
-pub mod Examples
-pub mod Decimal
-pub mod Placing
-pub mod Heading
-pub mod Digits
 pub mod Writing
 pub mod RoundTrip
+pub mod Examples

@@ -1,20 +1,30 @@
--- Frames that are not refused: the size, the number of pixels and the raster's length. Assumes nothing.
+-- Frames that are not refused: what each test tells, and all of them. Assumes nothing.
 use Prim.Native.Nat.{ℕ, _*_, _≤_}
 use mathlib.Core.Path.{_≡_}
 use mathlib.Core.Bool.{Bool, true, false, not, _||_}
-use native.Mathlib.Nat.{mul-le-mul}
 use native.Mathlib.Omega.{arith}
 use lib.Dec.{eqb, ltb}
 use borrow.Author.Tests.{le-ltb, ltb-false, eq-eqb, eqb-true, not-false}
-use Rattle.planes.specs.Refusals.{when, _▷_, badSide, sizeRefusal, Sized}
-use Rattle.planes.proofs.Refusals.{when-none, ▷-none, sized, sized-none}
-use Rattle.netpbm.specs.Reading.{frameRefusal}
+use Rattle.planes.specs.Refusals.{when, _▷_, badSide, sizeRefusal, sideRefusal, pixelRefusal, Sized}
+use Rattle.planes.proofs.Refusals.{when-none, ▷-none, pixels-fit, sized, sized-none}
+use Rattle.netpbm.specs.Reading.{maxvalRefusal, rasterRefusal, trailingRefusal, frameRefusal}
 
 -- sides of at most 4,096 have a product that is far from overflow
 pub few-pixels : (w h limit : ℕ) → sizeRefusal w h limit ≡ 0 → w * h ≤ 4096 * 4096
-few-pixels w h limit e =
-    let size = sized w h limit e in
-    mul-le-mul {n₂ = 4096} {m₂ = 4096} (size .narrow) (size .low)
+unfolding sizeRefusal
+few-pixels w h limit e = pixels-fit w h (▷-none (sideRefusal w h) (pixelRefusal (w * h) limit) e .0)
+
+maxval-fits : (maxval : ℕ) → maxvalRefusal maxval ≡ 0 → maxval ≡ 255
+unfolding maxvalRefusal
+maxval-fits maxval e = eqb-true maxval 255 (not-false (eqb maxval 255) (when-none (not (eqb maxval 255)) 10 e))
+
+raster-fits : (raster needed : ℕ) → rasterRefusal raster needed ≡ 0 → needed ≤ raster
+unfolding rasterRefusal
+raster-fits raster needed e = ltb-false raster needed (when-none (ltb raster needed) 11 e)
+
+trailing-fits : (raster needed : ℕ) → trailingRefusal raster needed ≡ 0 → raster ≤ needed
+unfolding trailingRefusal
+trailing-fits raster needed e = ltb-false needed raster (when-none (ltb needed raster) 12 e)
 
 -- what a frame that is not refused has
 pub record Accepted (w h maxval raster limit : ℕ) : Type 0 where
@@ -27,19 +37,18 @@ pub frame-accepted : (w h maxval raster limit : ℕ) → frameRefusal w h maxval
 unfolding frameRefusal
 frame-accepted w h maxval raster limit e =
     let needed = 3 * (w * h) in
-    let short = when (ltb raster needed) 12 in
-    let long = when (ltb needed raster) 13 in
-    let a = ▷-none (sizeRefusal w h limit) (when (not (eqb maxval 255)) 11 ▷ short ▷ long) e in
-    let b = ▷-none (when (not (eqb maxval 255)) 11) (short ▷ long) (a .1) in
+    let short = rasterRefusal raster needed in
+    let long = trailingRefusal raster needed in
+    let a = ▷-none (sizeRefusal w h limit) (maxvalRefusal maxval ▷ short ▷ long) e in
+    let b = ▷-none (maxvalRefusal maxval) (short ▷ long) (a .1) in
     let c = ▷-none short long (b .1) in
-    let same = not-false (eqb maxval 255) (when-none (not (eqb maxval 255)) 10 (b .0)) in
-    let least = ltb-false raster needed (when-none (ltb raster needed) 11 (c .0)) in
-    let most = ltb-false needed raster (when-none (ltb needed raster) 12 (c .1)) in
-    record { size = sized w h limit (a .0); maxval-is = eqb-true maxval 255 same; filled = omega arith }
+    let least = raster-fits raster needed (c .0) in
+    let most = trailing-fits raster needed (c .1) in
+    record { size = sized w h limit (a .0); maxval-is = maxval-fits maxval (b .0); filled = omega arith }
 
 pub accepted-frame : {w h maxval raster limit : ℕ} → Accepted w h maxval raster limit
     → frameRefusal w h maxval raster limit ≡ 0
-unfolding frameRefusal
+unfolding frameRefusal maxvalRefusal rasterRefusal trailingRefusal
 accepted-frame {w} {h} {maxval} {raster} {limit} a =
     let filled = a .filled in
     simp (
@@ -51,7 +60,7 @@ accepted-frame {w} {h} {maxval} {raster} {limit} a =
 
 -- 10 is no refusal of a frame with a header
 pub never-malformed : (w h maxval raster limit : ℕ) → frameRefusal w h maxval raster limit ≡ 10 → ⊥
-unfolding frameRefusal sizeRefusal
+unfolding frameRefusal sizeRefusal sideRefusal pixelRefusal maxvalRefusal rasterRefusal trailingRefusal
 never-malformed w h maxval raster limit =
     let needed = 3 * (w * h) in
     go (badSide w || badSide h) (ltb limit (w * h)) (not (eqb maxval 255)) (ltb raster needed) (ltb needed raster)

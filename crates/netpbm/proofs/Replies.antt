@@ -1,10 +1,11 @@
 -- What reading replies, by the parts of a frame. Assumes nothing.
 --
 --   read-reply, read-back   the reply of the answer, and the answer with that reply
---   malformed-reply   10 exactly where no header begins the bytes
---   headed-reply      after a header, the first refusal that applies to its numbers and to the raster, or else its values
---   framed-reply      the values of a frame exactly where the bytes are one
---   refused-some      no refusal has the number 0
+--   malformed-reply         10 exactly where no header begins the bytes
+--   headed-reply            after a header, the first refusal that applies to its numbers and to the raster, or its
+--                           values
+--   framed-reply            the values of a frame exactly where the bytes are one
+--   refused-some            no refusal has the number 0
 use Prim.Native.Nat.{ℕ, zero, suc, _-_}
 use mathlib.Core.Path.{_≡_, refl, sym, ap, _∙_}
 use mathlib.Core.Logic.{_↔_}
@@ -13,14 +14,16 @@ use lib.ListN.{length}
 use Rattle.planes.specs.Lists.{at}
 use Rattle.planes.specs.Replies.{refuses, gives, replied}
 use Rattle.planes.proofs.Replies.{refuses-not-gives, refuses-same, gives-same, replied-refuses}
+use Rattle.headers.specs.Parsers.{Parsed, failed, parsed}
+use Rattle.headers.specs.Grammar.{Numbers, header}
+use Rattle.headers.specs.Headers.{IsHeader}
+use Rattle.headers.proofs.Headers.{header-accepts}
 use Rattle.netpbm.specs.declared.Header.{Header}
 use Rattle.netpbm.specs.declared.Header.the-variants.{Refused, Frame}
 use Rattle.netpbm.specs.Reading.{frameRefusal, headerReply, framed, answered, replyFor, readReply}
 use Rattle.netpbm.specs.Reading.{readAnswer}
-use Rattle.netpbm.specs.Parsers.{Parsed, failed, parsed}
-use Rattle.netpbm.specs.Grammar.{Numbers, header}
-use Rattle.netpbm.specs.Frames.{IsHeader, IsFrame}
-use Rattle.netpbm.proofs.Frames.{header-accepts, accepted-iff, malformed-iff}
+use Rattle.netpbm.specs.Frames.{IsFrame}
+use Rattle.netpbm.proofs.Frames.{accepted-iff, malformed-iff}
 
 -- the case of a reply
 pub header-refuses : (r : Header) {k : ℕ} → headerReply r ≡ refuses k → r ≡ Refused k

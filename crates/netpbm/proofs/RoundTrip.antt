@@ -14,12 +14,15 @@ use lib.ListN.{length, take, drop, length-append}
 use lib.Seq.{drop-at}
 use Rattle.planes.specs.Refusals.{greatestPixels}
 use Rattle.planes.specs.Replies.{gives}
-use Rattle.netpbm.specs.Bytes.{isWhite}
+use Rattle.texts.specs.Ascii.{decimal}
+use Rattle.texts.specs.Heading.{heading}
+use Rattle.texts.proofs.Decimal.{decimal-numeral}
+use Rattle.headers.specs.Bytes.{isWhite}
+use Rattle.headers.specs.Headers.{Spaces, IsHeader}
 use Rattle.netpbm.specs.Reading.{readAnswer}
-use Rattle.netpbm.specs.Frames.{Spaces, IsHeader, IsFrame}
-use Rattle.netpbm.specs.Writing.{decimal, heading, encoding, WriteOutcome}
+use Rattle.netpbm.specs.Frames.{IsFrame}
+use Rattle.netpbm.specs.Writing.{encoding, WriteOutcome}
 use Rattle.netpbm.specs.declared.Header.the-variants.{Frame}
-use Rattle.netpbm.proofs.Decimal.{decimal-numeral}
 use Rattle.netpbm.proofs.Frames.{accepted-iff}
 use Rattle.netpbm.proofs.Writing.{wrote-size, wrote-writable, wrote-frame}
 

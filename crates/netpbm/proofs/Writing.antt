@@ -1,24 +1,25 @@
 -- What writing leaves.
 --
+--   writable, writable-none         nothing is refused exactly where size, raster and room are as they should
 --   wrote-refused, wrote-accepted   the contract, from a refusal and from bytes put into the output
 --   wrote-frame, wrote-beyond       the first bytes are the frame, and those beyond it are as they were
 --
 -- Assumes nothing.
 use Prim.Native.Nat.{ℕ, zero, suc, _+_, _*_, _≤_}
 use mathlib.Core.Path.{_≡_, refl, sym, ap, _∙_}
-use mathlib.Core.Bool.{not}
 use mathlib.Core.List.{List, [], _∷_, _++_}
 use native.Mathlib.Nat.{zero-add}
-use lib.Dec.{eqb, ltb}
 use lib.ListN.{length, take, drop}
 use lib.Seq.{take-at, drop-at}
-use borrow.Author.Tests.{ltb-false, eqb-true, not-false}
-use Rattle.planes.specs.Refusals.{when, _▷_, sizeRefusal, greatestPixels, Sized}
-use Rattle.planes.proofs.Refusals.{when-none, ▷-none, sized}
+use Rattle.planes.specs.Refusals.{_▷_, sizeRefusal, lengthRefusal, outputRefusal, greatestPixels, Sized}
+use Rattle.planes.proofs.Refusals.{▷-none, ▷-both, sized, sized-none, length-fits, length-none}
+use Rattle.planes.proofs.Refusals.{output-fits, output-none}
 use Rattle.planes.specs.Lists.{at}
 use Rattle.planes.specs.Replies.{gives}
 use Rattle.planes.proofs.Replies.{replied-gives}
-use Rattle.netpbm.specs.Writing.{heading, encoding, writeRefusal, writtenReply, WriteOutcome, Put}
+use Rattle.texts.specs.Placing.{Put}
+use Rattle.texts.specs.Heading.{heading}
+use Rattle.netpbm.specs.Writing.{encoding, writeRefusal, writtenReply, WriteOutcome}
 use Rattle.netpbm.specs.declared.Written.the-variants.{Refused, Length}
 
 -- what holds where writing is not refused
@@ -30,13 +31,23 @@ pub record Writable (w h raster output : ℕ) : Type 0 where
 pub writable : (w h raster output : ℕ) → writeRefusal w h raster output ≡ 0 → Writable w h raster output
 unfolding writeRefusal
 writable w h raster output e =
-    let wrong = when (not (eqb raster (3 * (w * h)))) 3 in
-    let short = when (ltb output (length (heading w h) + raster)) 14 in
+    let needed = length (heading w h) + raster in
+    let wrong = lengthRefusal raster (3 * (w * h)) in
+    let short = outputRefusal output needed in
     let a = ▷-none (sizeRefusal w h greatestPixels) (wrong ▷ short) e in
     let b = ▷-none wrong short (a .1) in
-    let same = not-false (eqb raster (3 * (w * h))) (when-none (not (eqb raster (3 * (w * h)))) 2 (b .0)) in
-    let long = ltb-false output (length (heading w h) + raster) (when-none _ 13 (b .1)) in
-    record { size = sized w h greatestPixels (a .0); filled = eqb-true raster (3 * (w * h)) same; room = long }
+    record {
+      size = sized w h greatestPixels (a .0);
+      filled = length-fits raster (3 * (w * h)) (b .0);
+      room = output-fits output needed (b .1);
+    }
+
+pub writable-none : {w h raster output : ℕ} → Writable w h raster output → writeRefusal w h raster output ≡ 0
+unfolding writeRefusal
+writable-none {w} {h} {raster} {output} fine =
+    let raster-none = length-none raster (3 * (w * h)) (fine .filled) in
+    let room-none = output-none output (length (heading w h) + raster) (fine .room) in
+    ▷-both _ _ (sized-none w h greatestPixels (fine .size)) (▷-both _ _ raster-none room-none)
 
 module _ (raster : List ℕ) (w h : ℕ) (output : List ℕ) where
   pub wrote-refused : (k : ℕ) → k ≡ writeRefusal w h (length raster) (length output) → (k ≡ 0 → ⊥)

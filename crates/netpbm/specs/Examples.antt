@@ -6,9 +6,9 @@ use mathlib.Core.List.{[], _∷_, map}
 use lib.ListN.{take, replicate}
 use Rattle.planes.specs.Lists.{from}
 use Rattle.planes.specs.Refusals.{greatestPixels}
-use Rattle.netpbm.specs.Bytes.{ascii}
+use Rattle.texts.specs.Ascii.{ascii, decimal}
 use Rattle.netpbm.specs.Reading.{readAnswer}
-use Rattle.netpbm.specs.Writing.{decimal, encoding, writeRefusal}
+use Rattle.netpbm.specs.Writing.{encoding, writeRefusal}
 use Rattle.netpbm.specs.declared.Header.{Header}
 use Rattle.netpbm.specs.declared.Header.the-variants.{Refused, Frame}
 

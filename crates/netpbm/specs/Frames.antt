@@ -1,46 +1,12 @@
--- A P6 frame, part by part, with no parser: the form that reading is held against. Definitions only.
+-- A P6 frame, by its parts, with no parser: the form that reading is held against. Definitions only.
 --
---   Spaces s          s is one or more whitespace bytes
---   Numeral x s       s is 1 to 6 digits, of value x
---   IsHeader          P6, spaces, width, spaces, height, spaces, maxval, one whitespace byte, and then the raster
---   IsFrame           a header with maxval 255, the limits met, and 3 × w × h bytes after it, the first at the offset
-use Prim.Native.Nat.{ℕ, _+_, _*_, _≤_}
+--   IsFrame   a header with maxval 255, the limits met, and 3 × w × h bytes after it, the first at the offset
+use Prim.Native.Nat.{ℕ, _+_, _*_}
 use mathlib.Core.Path.{_≡_}
-use mathlib.Core.Bool.{true}
-use mathlib.Core.List.{List, [], _∷_, _++_}
+use mathlib.Core.List.{List}
 use lib.ListN.{length}
-use Rattle.planes.specs.Lists.{every}
 use Rattle.planes.specs.Refusals.{Sized}
-use Rattle.netpbm.specs.Bytes.{isDigit, isWhite, value}
-
-pub record Spaces (s : List ℕ) : Type 0 where
-  pub white : every isWhite s ≡ true
-  pub present : 1 ≤ length s
-
-pub record Numeral (x : ℕ) (s : List ℕ) : Type 0 where
-  pub digits : every isDigit s ≡ true
-  pub present : 1 ≤ length s
-  pub few : length s ≤ 6
-  pub value-is : value s ≡ x
-
-pub record IsHeader (bytes : List ℕ) (w h maxval : ℕ) (raster : List ℕ) : Type 0 where
-  pub spaces₁ : List ℕ
-  pub w-digits : List ℕ
-  pub spaces₂ : List ℕ
-  pub h-digits : List ℕ
-  pub spaces₃ : List ℕ
-  pub maxval-digits : List ℕ
-  pub separator : ℕ
-  pub parts : bytes
-      ≡ (80 ∷ 54 ∷ []) ++ spaces₁ ++ w-digits ++ spaces₂ ++ h-digits ++ spaces₃ ++ maxval-digits
-      ++ (separator ∷ []) ++ raster
-  pub spaces₁-are : Spaces spaces₁
-  pub w-is : Numeral w w-digits
-  pub spaces₂-are : Spaces spaces₂
-  pub h-is : Numeral h h-digits
-  pub spaces₃-are : Spaces spaces₃
-  pub maxval-is : Numeral maxval maxval-digits
-  pub separator-is : isWhite separator ≡ true
+use Rattle.headers.specs.Headers.{IsHeader}
 
 pub record IsFrame (bytes : List ℕ) (limit w h offset : ℕ) : Type 0 where
   pub raster : List ℕ

@@ -8,11 +8,14 @@ ghost use Prim.Native.Nat.{_≤_, min};
 ghost use lib.ListN.{take};
 ghost use Rattle.model.specs.Outcomes.{answerReply};
 ghost use Rattle.passlists.specs.Outcomes.{PassesOutcome};
+ghost use Rattle.passarrays.specs.Arrays.{arrayLength};
+use listformat::COUNT;
 use model::Answer;
 use model::Pass;
+use planes::Shape;
 
 // One more than a list may have, so that a list that is too long fits too.
-pub const ROOM: usize = 1025;
+pub const ROOM: usize = COUNT + 1;
 
 // The first `count` passes of the array, lent as a slice.
 fn run_front(
@@ -21,38 +24,36 @@ fn run_front(
     plane: &mut [u8],
     marks: &mut [u8],
     queue: &mut [u32],
-    w: usize,
-    h: usize,
+    shape: Shape,
 ) -> Answer
-    requires { ⌜ count ≤ 1025 ⌝ }
-    ensures { λ r. ⌜ PassesOutcome w h (take count list) (now (plane .entry)) (now (marks .entry)) (now (queue .entry))
-        (answerReply r) (now (plane .exit)) (now (marks .exit)) (now (queue .exit)) ⌝ }
+    requires { ⌜ count ≤ arrayLength ⌝ }
+    ensures { λ r. ⌜ PassesOutcome shape (take count list) (now (plane .entry)) (now (marks .entry))
+        (now (queue .entry)) (answerReply r) (now (plane .exit)) (now (marks .exit)) (now (queue .exit)) ⌝ }
 {
-    passlists::run_passes(&list[..count], plane, marks, queue, w, h)
+    passlists::run_passes(&list[..count], plane, marks, queue, shape)
 }
 
 // x, but at most as many as there is room for.
 fn at_most(x: usize) -> usize
-    ensures { λ r. ⌜ r ≡ min x 1025 ⌝ }
+    ensures { λ r. ⌜ r ≡ min x arrayLength ⌝ }
 {
     if x < ROOM { x } else { ROOM }
 }
 
-// The first `count` passes of the array, or all where it has fewer, over the lent plane, one after the other, or the
-// refusal that they meet with. The plane has w columns and h rows; marks and queue are working memory of at least as
-// many entries, with any content.
+// The first `count` passes of the array, or all where it has fewer, over the lent plane of the shape, one after the
+// other, or the refusal that they meet with. Marks and queue are working memory of at least as many entries as the
+// plane has pixels, with any content.
 pub fn run_array(
     list: [Pass; ROOM],
     count: usize,
     plane: &mut [u8],
     marks: &mut [u8],
     queue: &mut [u32],
-    w: usize,
-    h: usize,
+    shape: Shape,
 ) -> Answer
-    ensures { λ r. ⌜ PassesOutcome w h (take count list) (now (plane .entry)) (now (marks .entry)) (now (queue .entry))
-        (answerReply r) (now (plane .exit)) (now (marks .exit)) (now (queue .exit)) ⌝ }
+    ensures { λ r. ⌜ PassesOutcome shape (take count list) (now (plane .entry)) (now (marks .entry))
+        (now (queue .entry)) (answerReply r) (now (plane .exit)) (now (marks .exit)) (now (queue .exit)) ⌝ }
 {
     let end = at_most(count);
-    run_front(list, end, plane, marks, queue, w, h)
+    run_front(list, end, plane, marks, queue, shape)
 }

@@ -4,30 +4,32 @@
 --   passes-chain   passes in memory
 --   list-chain     a list of bytes
 --   passes-taken, list-taken   none of the calls is refused
-use Prim.Native.Nat.{ℕ, _*_}
+use Prim.Native.Nat.{ℕ}
 use mathlib.Core.Path.{_≡_, refl, sym, ap, ap₂, subst, _∙_}
 use mathlib.Core.List.{List, [], _∷_, map}
 use native.Mathlib.Nat.{zero-add}
 use lib.ListN.{length}
 use Rattle.planes.specs.Refusals.{_▷_}
+use Rattle.planes.specs.Shapes.{pixels, lentRefusal}
+use Rattle.planes.specs.declared.Shape.{Shape}
 use Rattle.planes.specs.Replies.{Reply, gives, replied, after}
-use Rattle.planes.specs.Neighbours.{four}
 use Rattle.planes.proofs.Refusals.{▷-none}
+use Rattle.planes.proofs.Shapes.{lent-fits}
 use Rattle.model.specs.declared.Pass.{Pass}
-use Rattle.model.specs.Effects.{counts, runEffect}
+use Rattle.model.specs.Neighbourhoods.{passNeighbours}
+use Rattle.model.specs.Effects.{Effect, counts, runEffect}
 use Rattle.model.specs.Outcomes.{Outcome}
-use Rattle.model.specs.Calls.{Call, numbersRefusal, lentRefusal, passRefusal, total, AllAccepted, none, State, start}
-use Rattle.model.specs.Calls.{chain, chainEffect}
-use Rattle.model.specs.Runs.{run, runCount, All, none, more}
-use Rattle.model.proofs.Chains.{lent}
-use Rattle.model.proofs.Recursion.{all-map}
+use Rattle.model.specs.Calls.{Call, numbersRefusal, passRefusal, AllAccepted, none, State, start, chain, chainEffect}
+use Rattle.model.specs.Runs.{All, none, more}
+use Rattle.model.proofs.Recursion.{all-map, effect-same}
 use Rattle.model.proofs.Enhancement.{chain-calls, chain-taken}
 use Rattle.passes.specs.Calls.{callOn}
-use Rattle.passlists.specs.Format.{passesOf}
-use Rattle.passlists.specs.Refusals.{firstRefusal, listRefusal, passesRefusal}
-use Rattle.passlists.specs.Outcomes.{fileRefusal, memoryRefusal, ListOutcome, PassesOutcome}
+use Rattle.listformat.specs.Format.{passesOf}
+use Rattle.listformat.specs.Refusals.{firstRefusal, listRefusal, passesRefusal}
+use Rattle.listformat.proofs.Refusals.{accepted-list}
+use Rattle.passlists.specs.Outcomes.{slicesRefusal, runListRefusal, runPassesRefusal, ListOutcome}
+use Rattle.passlists.specs.Outcomes.{PassesOutcome}
 use Rattle.passlists.proofs.Refusals.{fine-passes}
-use Rattle.passlists.proofs.Lists.{accepted-list}
 
 -- no pass of a list whose first refusal is none is refused
 pub all-fine : (ss : List Pass) → firstRefusal (map numbersRefusal ss) ≡ 0 → All (λ s. numbersRefusal s ≡ 0) ss
@@ -36,67 +38,72 @@ all-fine (s ∷ ss) e =
     let two = ▷-none (numbersRefusal s) (firstRefusal (map numbersRefusal ss)) e in
     more (two .0) (all-fine ss (two .1))
 
-module _ (w h : ℕ) (plane marks queue : List ℕ) where
+module _ (z : Shape) (plane marks queue : List ℕ) where
+  abbrev unlent : ℕ
+  unlent = slicesRefusal z plane marks queue
+
   abbrev made : Pass → Call
   made = callOn (length marks) (length queue)
 
   -- the model after the calls of some passes, each with the lent marks and queue
   abbrev pub chained : List Pass → State
-  chained ss = chain w h (start plane) (map made ss)
+  chained ss = chain z (start plane) (map made ss)
+
+  whole : unlent ≡ 0 → length plane ≡ pixels z
+  whole e = lent-fits z (length plane) (length marks) (length queue) e .whole
 
   -- each of those calls is accepted
-  taken : lentRefusal w h (length plane) (length marks) (length queue) ≡ 0 → length plane ≡ w * h
-      → (ss : List Pass) → passesRefusal ss ≡ 0 → All (λ s. passRefusal w h (w * h) (made s) ≡ 0) ss
+  taken : unlent ≡ 0 → (ss : List Pass) → passesRefusal ss ≡ 0
+      → All (λ s. passRefusal z (pixels z) (made s) ≡ 0) ss
   unfolding passRefusal
-  taken e whole ss f =
-      let here = subst (λ (n : ℕ). lentRefusal w h n (length marks) (length queue) ≡ 0) whole e in
-      all-map (λ s z. ap₂ _▷_ here z) (all-fine ss (fine-passes ss f .1))
+  taken e ss f =
+      let here = subst (λ (n : ℕ). lentRefusal z n (length marks) (length queue) ≡ 0) (whole e) e in
+      all-map (λ s y. ap₂ _▷_ here y) (all-fine ss (fine-passes ss f .1))
 
   -- so the replies are those of calls that were all accepted
-  all-taken : lentRefusal w h (length plane) (length marks) (length queue) ≡ 0 → (ss : List Pass)
-      → passesRefusal ss ≡ 0 → AllAccepted (chained ss .answers)
-  all-taken l ss f =
-      let whole = lent w h (length plane) (length marks) (length queue) l .whole in
-      chain-taken w h made (λ s. refl) ss (taken l whole ss f) (start plane) whole none
+  all-taken : unlent ≡ 0 → (ss : List Pass) → passesRefusal ss ≡ 0 → AllAccepted (chained ss .answers)
+  all-taken e ss f = chain-taken z made (λ s. refl) ss (taken e ss f) (start plane) (whole e) none
 
-  pub passes-taken : (ss : List Pass) → memoryRefusal w h ss plane marks queue ≡ 0 → AllAccepted (chained ss .answers)
+  pub passes-taken : (ss : List Pass) → runPassesRefusal z ss plane marks queue ≡ 0
+      → AllAccepted (chained ss .answers)
   passes-taken ss e =
-      let tests = ▷-none (lentRefusal w h (length plane) (length marks) (length queue)) (passesRefusal ss) e in
+      let tests = ▷-none unlent (passesRefusal ss) e in
       all-taken (tests .0) ss (tests .1)
 
-  pub list-taken : (list : List ℕ) → fileRefusal w h list plane marks queue ≡ 0
+  pub list-taken : (list : List ℕ) → runListRefusal z list plane marks queue ≡ 0
       → AllAccepted (chained (passesOf list) .answers)
   list-taken list e =
-      let tests = ▷-none (lentRefusal w h (length plane) (length marks) (length queue)) (listRefusal list) e in
+      let tests = ▷-none unlent (listRefusal list) e in
       all-taken (tests .0) (passesOf list) (accepted-list list (tests .1) .1)
+
+  -- the effect of the calls is that of the run
+  chained-runs : unlent ≡ 0 → (ss : List Pass) → passesRefusal ss ≡ 0
+      → runEffect (passNeighbours z) ss plane ≡ chainEffect (chained ss)
+  chained-runs e ss f =
+      sym (chain-calls z made (λ s. refl) ss (taken e ss f) (start plane) (whole e) ∙ effect-same refl (zero-add _))
 
   module _ (reply : Reply) (plane' marks' queue' : List ℕ) where
     -- passes that are not refused, whatever the refusal's number is called
-    accepted-chain : (number : ℕ) (ss : List Pass) → number ≡ 0
-        → lentRefusal w h (length plane) (length marks) (length queue) ≡ 0 → passesRefusal ss ≡ 0
-        → Outcome (w * h) number (runEffect (four w) ss plane) plane marks queue reply plane' marks' queue'
+    accepted-chain : (number : ℕ) (ss : List Pass) → number ≡ 0 → unlent ≡ 0 → passesRefusal ss ≡ 0
+        → Outcome (pixels z) number (runEffect (passNeighbours z) ss plane) plane marks queue reply plane' marks' queue'
         → (plane' ≡ chained ss .plane) × (reply ≡ gives (counts (chainEffect (chained ss))))
     accepted-chain number ss e l f out =
-        let whole = lent w h (length plane) (length marks) (length queue) l .whole in
-        let runs = chain-calls w h made (λ s. refl) ss (taken l whole ss f) (start plane) whole in
-        let sum : runCount (four w) ss plane ≡ total (chained ss .answers) =
-        sym (zero-add (runCount (four w) ss plane)) ∙ sym (runs .1) in (
-          out .plane-is ∙ ap (λ (k : ℕ). after k plane (run (four w) ss plane)) e ∙ sym (runs .0),
-          out .answer ∙ ap (λ (k : ℕ). replied k (runCount (four w) ss plane ∷ [])) e
-              ∙ ap (λ (n : ℕ). gives (n ∷ [])) sum,
+        let same = chained-runs l ss f in (
+          out .plane-is ∙ ap₂ (λ (k : ℕ) (r : Effect). after k plane (r .plane)) e same,
+          out .answer ∙ ap₂ (λ (k : ℕ) (r : Effect). replied k (counts r)) e same,
         )
 
-    pub passes-chain : (ss : List Pass) → memoryRefusal w h ss plane marks queue ≡ 0
-        → PassesOutcome w h ss plane marks queue reply plane' marks' queue'
+    pub passes-chain : (ss : List Pass) → runPassesRefusal z ss plane marks queue ≡ 0
+        → PassesOutcome z ss plane marks queue reply plane' marks' queue'
         → (plane' ≡ chained ss .plane) × (reply ≡ gives (counts (chainEffect (chained ss))))
     passes-chain ss e out =
-        let tests = ▷-none (lentRefusal w h (length plane) (length marks) (length queue)) (passesRefusal ss) e in
-        accepted-chain (memoryRefusal w h ss plane marks queue) ss e (tests .0) (tests .1) out
+        let tests = ▷-none unlent (passesRefusal ss) e in
+        accepted-chain (runPassesRefusal z ss plane marks queue) ss e (tests .0) (tests .1) out
 
-    pub list-chain : (list : List ℕ) → fileRefusal w h list plane marks queue ≡ 0
-        → ListOutcome w h list plane marks queue reply plane' marks' queue'
+    pub list-chain : (list : List ℕ) → runListRefusal z list plane marks queue ≡ 0
+        → ListOutcome z list plane marks queue reply plane' marks' queue'
         → (plane' ≡ chained (passesOf list) .plane) × (reply ≡ gives (counts (chainEffect (chained (passesOf list)))))
     list-chain list e out =
-        let tests = ▷-none (lentRefusal w h (length plane) (length marks) (length queue)) (listRefusal list) e in
+        let tests = ▷-none unlent (listRefusal list) e in
         let fine = accepted-list list (tests .1) .1 in
-        accepted-chain (fileRefusal w h list plane marks queue) (passesOf list) e (tests .0) fine out
+        accepted-chain (runListRefusal z list plane marks queue) (passesOf list) e (tests .0) fine out

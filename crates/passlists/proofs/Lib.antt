@@ -1,10 +1,8 @@
 pub mod Refusals
-pub mod Numbers
-pub mod Format
 pub mod Runs
 pub mod Lists
 pub mod Chains
 pub mod Recursion
-pub mod Examples
 pub mod Turns
+pub mod Plans
 pub mod Walks

@@ -8,37 +8,39 @@
 use Prim.Native.Nat.{ℕ, zero, suc, _+_, _-_, _*_, _^_, _≤_, _<_}
 use mathlib.Core.Path.{_≡_, refl, sym, ap, ap₂, subst, _∙_}
 use mathlib.Core.Logic.{_⊎_, inl, inr}
-use mathlib.Core.Bool.{Bool, not, _||_}
+use mathlib.Core.Bool.{Bool, _||_}
 use mathlib.Core.List.{List, [], _∷_, map}
-use native.Mathlib.Nat.{mul-le-mul, zero-add, suc-mul, suc-add, le-refl}
+use native.Mathlib.Nat.{mul-le-mul, suc-mul, le-refl}
 use native.Mathlib.Omega.{arith}
 use lib.Pow.{pow-add, pow-pos}
 use lib.ListN.{length}
 use lib.Dec.{ltb, eqb}
-use borrow.Author.Tests.{le-ltb, ltb-false, eq-eqb}
+use borrow.Author.Tests.{le-ltb, ltb-false}
 use Rattle.planes.specs.Lists.{from}
-use Rattle.planes.specs.Refusals.{when, _▷_, sizeRefusal, greatestPixels}
+use Rattle.planes.specs.Refusals.{when, _▷_, greatestPixels}
+use Rattle.planes.specs.Shapes.{pixels, lentRefusal}
+use Rattle.planes.specs.declared.Shape.{Shape}
 use Rattle.planes.specs.Replies.{Reply, gives, replied, after}
-use Rattle.planes.specs.Neighbours.{four}
 use Rattle.planes.proofs.Tests.{or-none}
-use Rattle.planes.proofs.Neighbours.{four-sym}
-use Rattle.planes.proofs.Refusals.{when-none, ▷-none}
+use Rattle.planes.proofs.Refusals.{when-none}
+use Rattle.planes.proofs.Shapes.{lent-fits, lent-none}
 use Rattle.tones.specs.declared.Rule.{Rule}
-use Rattle.tones.specs.declared.Rule.the-variants.{Plain, Limited}
 use Rattle.model.specs.declared.Pass.{Pass}
-use Rattle.model.specs.Effects.{counts}
-use Rattle.model.specs.Calls.{planeRefusal, roomRefusal, areaRefusal, ruleRefusal, numbersRefusal, lentRefusal}
-use Rattle.model.specs.Calls.{passRefusal, total, start, chainEffect}
-use Rattle.model.specs.Runs.{run, runCount, Same, All, none, more}
+use Rattle.tones.specs.Refusals.{ruleRefusal}
+use Rattle.model.specs.Neighbourhoods.{passNeighbours}
+use Rattle.model.specs.Effects.{Effect, counts, runEffect, Same}
+use Rattle.model.specs.Calls.{areaRefusal, numbersRefusal, passRefusal, chainEffect}
+use Rattle.model.specs.Runs.{All, none, more}
 use Rattle.model.specs.Enhancement.{section, level, levels, passes, enhanced, callOf, deep, recursive}
-use Rattle.model.proofs.Chains.{lent}
-use Rattle.model.proofs.Recursion.{all-append, all-map, recursion-listed}
-use Rattle.model.proofs.Enhancement.{chain-runs}
-use Rattle.passlists.specs.Format.{greatestCount, encode, RuleFits, Storable}
-use Rattle.passlists.specs.Refusals.{firstRefusal, passesRefusal}
-use Rattle.passlists.specs.Outcomes.{fileRefusal, ListOutcome}
-use Rattle.passlists.proofs.Format.{passes-encode}
-use Rattle.passlists.proofs.Lists.{encoded-refusal}
+use Rattle.model.proofs.Recursion.{all-append, all-map, double, recursion-listed}
+use Rattle.model.proofs.Enhancement.{start-runs}
+use Rattle.tones.specs.Numbers.{RuleFits}
+use Rattle.tones.proofs.Numbers.{accepted-fits}
+use Rattle.listformat.specs.Format.{greatestCount, encode, Storable}
+use Rattle.listformat.specs.Refusals.{firstRefusal, passesRefusal}
+use Rattle.listformat.proofs.Format.{passes-encode}
+use Rattle.listformat.proofs.Refusals.{encoded-refusal}
+use Rattle.passlists.specs.Outcomes.{runListRefusal, ListOutcome}
 
 -- ## The sections
 
@@ -99,7 +101,7 @@ module _ (area : ℕ) (rule : Rule) where
   unfolding deep
   proper-deep k zero a h = more (proper-at area a (2 ^ (0 + k)) (inr refl) (pow-pos (0 + k)) h) none
   proper-deep k (suc d) a h =
-      let double : 2 ^ (suc d + k) ≡ 2 ^ (d + k) + 2 ^ (d + k) = ap (2 ^_) (suc-add d k) ∙ omega arith in
+      let halves = double d k in
       more (proper-at area a (2 ^ (suc d + k)) (inr refl) (pow-pos (suc d + k)) h)
       (all-append (proper-deep k d a (omega arith)) (proper-deep k d (a + 2 ^ (d + k)) (omega arith)))
 
@@ -122,17 +124,6 @@ small used e =
     let tests = or-none (eqb used 0) (ltb greatestPixels used) none in
     omega (arith, ltb-false greatestPixels used (tests .1))
 
-rule-small : (rule : Rule) → ruleRefusal rule ≡ 0 → RuleFits rule
-unfolding ruleRefusal
-rule-small (Plain low high) e =
-    let tests = or-none (ltb high low) (ltb 25500 high) (when-none (ltb high low || ltb 25500 high) 6 e) in
-    let order = ltb-false high low (tests .0) in
-    let top = ltb-false 25500 high (tests .1) in
-    (omega arith, omega arith)
-rule-small (Limited k) e =
-    let top = ltb-false 1000 k (when-none (ltb 1000 k) 7 e) in
-    omega arith
-
 module _ (area : ℕ) (rule : Rule) (area-fine : areaRefusal area ≡ 0) (rule-fine : ruleRefusal rule ≡ 0) where
   accepted-area : (used : ℕ) → (used ≡ 1) ⊎ (used ≡ area) → areaRefusal used ≡ 0
   unfolding areaRefusal
@@ -151,7 +142,7 @@ module _ (area : ℕ) (rule : Rule) (area-fine : areaRefusal area ≡ 0) (rule-f
     a-fits = omega (arith, p .order, p .top);
     b-fits = p .top;
     area-fits = small (s .area) (accepted-area (s .area) (p .area-is));
-    rule-fits = subst RuleFits (sym (p .rule-is)) (rule-small rule rule-fine);
+    rule-fits = subst RuleFits (sym (p .rule-is)) (accepted-fits rule rule-fine);
   }
 
 -- ## The list
@@ -174,19 +165,18 @@ few (suc (suc (suc (suc (suc (suc (suc zero))))))) area rule h = (omega arith, o
 few (suc (suc (suc (suc (suc (suc (suc (suc l)))))))) area rule h = absurd (omega arith)
 
 -- room for n pixels is enough
-enough : (w h plane marks queue : ℕ) → lentRefusal w h plane marks queue ≡ 0
-    → lentRefusal w h (w * h) (w * h) (w * h) ≡ 0
-unfolding lentRefusal planeRefusal roomRefusal
-enough w h plane marks queue e =
-    let n = w * h in
-    let size = ▷-none (sizeRefusal w h greatestPixels) (planeRefusal w h plane ▷ roomRefusal w h marks queue) e .0 in
-    let whole : when (not (eqb n n)) 3 ≡ 0 = ap (λ (t : Bool). when (not t) 3) (eq-eqb n n refl) in
-    let room : when (ltb n n || ltb n n) 4 ≡ 0 = ap (λ (t : Bool). when (t || t) 4) (le-ltb n n (le-refl n)) in
-    ap₂ _▷_ size (ap₂ _▷_ whole room)
+enough : (z : Shape) (plane marks queue : ℕ) → lentRefusal z plane marks queue ≡ 0
+    → lentRefusal z (pixels z) (pixels z) (pixels z) ≡ 0
+enough z plane marks queue e = lent-none z (pixels z) (pixels z) (pixels z) (record {
+  size = lent-fits z plane marks queue e .size;
+  whole = refl;
+  covered = le-refl (pixels z);
+  spare = le-refl (pixels z);
+})
 
-module _ (w h last area : ℕ) (rule : Rule) (levels-fine : last ≤ 7) (area-fine : areaRefusal area ≡ 0)
+module _ (z : Shape) (last area : ℕ) (rule : Rule) (levels-fine : last ≤ 7) (area-fine : areaRefusal area ≡ 0)
     (rule-fine : ruleRefusal rule ≡ 0) (plane marks queue : List ℕ)
-    (lent-fine : lentRefusal w h (length plane) (length marks) (length queue) ≡ 0) where
+    (lent-fine : lentRefusal z (length plane) (length marks) (length queue) ≡ 0) where
   each-fine : (ss : List Pass) → All (Proper area rule) ss → All (λ s. numbersRefusal s ≡ 0) ss
   each-fine ss = all-map (accepted-pass area rule area-fine rule-fine)
 
@@ -197,49 +187,48 @@ module _ (w h last area : ℕ) (rule : Rule) (levels-fine : last ≤ 7) (area-fi
       (first-fine ss (each-fine ss p))
 
   -- the model's enhancement is the run of the sections
-  enhancement-runs : (enhanced w h plane last area rule .plane ≡ run (four w) (passes last area rule) plane)
-      × (total (enhanced w h plane last area rule .answers) ≡ runCount (four w) (passes last area rule) plane)
+  enhancement-runs : chainEffect (enhanced z plane last area rule)
+      ≡ runEffect (passNeighbours z) (passes last area rule) plane
   unfolding enhanced callOf passRefusal
   enhancement-runs =
-      let whole = lent w h (length plane) (length marks) (length queue) lent-fine .whole in
-      let room = enough w h (length plane) (length marks) (length queue) lent-fine in
+      let whole = lent-fits z (length plane) (length marks) (length queue) lent-fine .whole in
+      let room = enough z (length plane) (length marks) (length queue) lent-fine in
       let fine = each-fine (passes last area rule) (proper area rule last levels-fine) in
-      let runs = chain-runs w h (passes last area rule) (all-map (λ s z. ap₂ _▷_ room z) fine) (start plane) whole in
-      (runs .0, runs .1 ∙ zero-add (runCount (four w) (passes last area rule) plane))
+      start-runs z (passes last area rule) (all-map (λ s y. ap₂ _▷_ room y) fine) plane whole
 
   -- the enhancement's plane and count
   abbrev Enhances : Reply → List ℕ → Type 0
   Enhances reply plane' =
-      (plane' ≡ enhanced w h plane last area rule .plane)
-      × (reply ≡ gives (counts (chainEffect (enhanced w h plane last area rule))))
+      (plane' ≡ enhanced z plane last area rule .plane)
+      × (reply ≡ gives (counts (chainEffect (enhanced z plane last area rule))))
 
-  -- the sections in any order that ends in the same planes with the same sums
+  -- the sections in any order that has the same effect
   ordered-enhances : (ss : List Pass) → length ss ≤ 255 → All (Proper area rule) ss
-      → Same (four w) ss (passes last area rule) → (reply : Reply) (plane' marks' queue' : List ℕ)
-      → ListOutcome w h (encode ss) plane marks queue reply plane' marks' queue' → Enhances reply plane'
+      → Same (passNeighbours z) ss (passes last area rule) → (reply : Reply) (plane' marks' queue' : List ℕ)
+      → ListOutcome z (encode ss) plane marks queue reply plane' marks' queue' → Enhances reply plane'
   ordered-enhances ss l p alike reply plane' marks' queue' out =
       let told : length ss < 65536 = omega arith in
       let fit = all-map (storable-pass area rule area-fine rule-fine) p in
-      let refusal : fileRefusal w h (encode ss) plane marks queue ≡ 0 =
+      let refusal : runListRefusal z (encode ss) plane marks queue ≡ 0 =
       ap₂ _▷_ lent-fine (encoded-refusal ss told fit ∙ sections-fine ss l p) in
-      let same = passes-encode ss told fit .0 in
-      let last-plane = alike .planes plane ∙ sym (enhancement-runs .0) in
-      let sum = alike .sums plane ∙ sym (enhancement-runs .1) in (
-        out .plane-is ∙ ap₂ (λ (k : ℕ) (ps : List Pass). after k plane (run (four w) ps plane)) refusal same
-            ∙ last-plane,
-        out .answer ∙ ap₂ (λ (k : ℕ) (ps : List Pass). replied k (runCount (four w) ps plane ∷ [])) refusal same
-            ∙ ap (λ (n : ℕ). gives (n ∷ [])) sum,
+      let same =
+      ap (λ (ps : List Pass). runEffect (passNeighbours z) ps plane) (passes-encode ss told fit .0)
+      ∙ alike .effects plane ∙ sym enhancement-runs in (
+        out .plane-is ∙ ap₂ (λ (k : ℕ) (e : Effect). after k plane (e .plane)) refusal same,
+        out .answer ∙ ap₂ (λ (k : ℕ) (e : Effect). replied k (counts e)) refusal same,
       )
 
   pub list-enhances : (reply : Reply) (plane' marks' queue' : List ℕ)
-      → ListOutcome w h (encode (passes last area rule)) plane marks queue reply plane' marks' queue' → Enhances reply plane'
+      → ListOutcome z (encode (passes last area rule)) plane marks queue reply plane' marks' queue'
+      → Enhances reply plane'
   list-enhances =
       ordered-enhances (passes last area rule) (few last area rule levels-fine .0) (proper area rule last levels-fine)
-      (record { planes = λ p. refl; sums = λ p. refl })
+      (record { effects = λ p. refl })
 
   pub recursion-enhances : (reply : Reply) (plane' marks' queue' : List ℕ)
-      → ListOutcome w h (encode (recursive last area rule)) plane marks queue reply plane' marks' queue'
+      → ListOutcome z (encode (recursive last area rule)) plane marks queue reply plane' marks' queue'
       → Enhances reply plane'
   recursion-enhances =
       ordered-enhances (recursive last area rule) (few last area rule levels-fine .1)
-      (proper-recursive area rule last levels-fine) (recursion-listed (four w) (four-sym w) last area rule levels-fine)
+      (proper-recursive area rule last levels-fine)
+      (recursion-listed (passNeighbours z) last area rule levels-fine)

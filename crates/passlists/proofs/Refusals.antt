@@ -1,5 +1,5 @@
--- The first of some refusals that applies, looked for along the list of them; the refusals of passes in memory, and of
--- a list's records. Assumes nothing.
+-- The first of some refusals that applies, looked for along the list of them, and the refusals of passes in memory.
+-- Assumes nothing.
 use Prim.Native.Nat.{ℕ, zero, suc, _+_, _≤_, _<_, zero-le}
 use mathlib.Core.Path.{_≡_, refl, sym, ap, subst, _∙_}
 use mathlib.Core.List.{List, [], _∷_, map}
@@ -11,13 +11,12 @@ use lib.Dec.{ltb}
 use borrow.Author.Tests.{ltb-false}
 use Rattle.planes.specs.Lists.{at}
 use Rattle.planes.specs.Refusals.{when, _▷_}
-use Rattle.planes.proofs.Lists.{all-at, length-all}
 use Rattle.planes.proofs.Refusals.{when-none, ▷-none, ▷-left, ▷-right}
 use Rattle.tones.specs.declared.Rule.the-variants.{Limited}
 use Rattle.model.specs.declared.Pass.{Pass}
 use Rattle.model.specs.Calls.{numbersRefusal}
-use Rattle.passlists.specs.Format.{recordStart, countOf, greatestCount}
-use Rattle.passlists.specs.Refusals.{firstRefusal, recordRefusal, recordRefusals, passesRefusal}
+use Rattle.listformat.specs.Format.{greatestCount}
+use Rattle.listformat.specs.Refusals.{firstRefusal, passesRefusal}
 
 -- ## Along a list of refusals
 
@@ -76,14 +75,3 @@ pub fine-pass : (ss : List Pass) → passesRefusal ss ≡ 0 → (i : ℕ) → i 
 fine-pass ss e i h =
     let inside : i < length (map numbersRefusal ss) = subst (i <_) (sym (length-map ss numbersRefusal)) h in
     sym (passes-at ss i h) ∙ clear-each (map numbersRefusal ss) (fine-passes ss e .1) i inside
-
--- ## The refusals of a list's records
-
-module _ (bs : List ℕ) where
-  pub records-length : length (recordRefusals bs) ≡ countOf bs
-  unfolding recordRefusals
-  records-length = length-all (λ j. recordRefusal bs (recordStart j)) (countOf bs)
-
-  pub records-at : (j : ℕ) → j < countOf bs → at (recordRefusals bs) j ≡ recordRefusal bs (recordStart j)
-  unfolding recordRefusals
-  records-at j h = all-at (λ j. recordRefusal bs (recordStart j)) (countOf bs) j h

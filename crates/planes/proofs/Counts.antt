@@ -2,15 +2,16 @@
 use Prim.Native.Nat.{ℕ, zero, suc, _+_, _≤_, _<_, zero-le}
 use mathlib.Core.Path.{_≡_, refl, sym, ap, ap₂, _∙_}
 use mathlib.Core.Logic.{_⊎_, inl, inr}
-use mathlib.Core.Bool.{Bool, true, false, cond, _&&_, _||_, false≢true}
+use mathlib.Core.Bool.{Bool, true, false, cond, _&&_, _||_, false≢true, or-false, and-false}
 use mathlib.Core.List.{List, [], _∷_, _++_, map}
+use mathlib.Mathlib.Data.Bool.Basic.{and-elim-left}
 use native.Mathlib.Nat.{le-refl, eq-or-lt-of-le}
 use native.Mathlib.Omega.{arith}
 use lib.ListN.{length}
 use lib.Dec.{eqb}
 use borrow.Author.Tests.{eqb-true, eq-eqb, ne-eqb}
 use Rattle.planes.specs.Lists.{from, keep, every, count}
-use Rattle.planes.proofs.Tests.{or-false, and-false, and-left, same-test}
+use Rattle.planes.proofs.Tests.{same-test}
 
 pub count-cons : (f : ℕ → Bool) (x : ℕ) (xs : List ℕ) → count f (x ∷ xs) ≡ cond (f x) 1 0 + count f xs
 count-cons f x xs = go (f x)
@@ -176,4 +177,4 @@ count-one f n y h e only =
     same : (x : ℕ) → x < n → f x ≡ ((false || eqb x y) && true)
     same x hx = same-test (f x) ((false || eqb x y) && true)
         (λ d. ap (_&& true) (eq-eqb x y (only x hx d)))
-        (λ d. ap f (eqb-true x y (and-left (eqb x y) true d)) ∙ e)
+        (λ d. ap f (eqb-true x y (and-elim-left (eqb x y) true d)) ∙ e)

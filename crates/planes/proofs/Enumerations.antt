@@ -2,8 +2,9 @@
 use Prim.Native.Nat.{ℕ, zero, suc, _+_, _≤_, _<_}
 use mathlib.Core.Path.{_≡_, refl, sym, ap, subst, _∙_}
 use mathlib.Core.Logic.{inl, inr}
-use mathlib.Core.Bool.{Bool, true, false, cond, _&&_, false≢true}
+use mathlib.Core.Bool.{Bool, true, false, cond, _&&_, false≢true, and-true}
 use mathlib.Core.List.{List, map}
+use mathlib.Mathlib.Data.Bool.Basic.{or-inl, or-inr}
 use native.Mathlib.Nat.{eq-or-lt-of-le}
 use native.Mathlib.Omega.{arith}
 use lib.ListN.{length, take}
@@ -12,7 +13,7 @@ use lib.Dec.{eqb}
 use borrow.Author.Tests.{eqb-true, eq-eqb}
 use Rattle.planes.specs.Lists.{from, keep, count, at}
 use Rattle.planes.specs.Enumerations.{among, Place, Enumerates}
-use Rattle.planes.proofs.Tests.{or-cases, or-left, or-right, same-test, and-true}
+use Rattle.planes.proofs.Tests.{or-cases, same-test}
 use Rattle.planes.proofs.Counts.{count-same, count-none, count-all, count-snoc, count-map, count-keep}
 use Rattle.planes.proofs.Counts.{count-add, count-upto}
 
@@ -23,8 +24,8 @@ module _ (queue : List ℕ) where
   unfolding among
   among-at zero k h = absurd (omega arith)
   among-at (suc m) k h = let l : k ≤ m = omega arith in elim (eq-or-lt-of-le l) [
-    | inl q ↦ or-right (among queue m (at queue k)) _ (eq-eqb _ _ (ap (at queue) q))
-    | inr q ↦ or-left (among queue m (at queue k)) _ (among-at m k q)
+    | inl q ↦ or-inr (among queue m (at queue k)) _ (eq-eqb _ _ (ap (at queue) q))
+    | inr q ↦ or-inl (among queue m (at queue k)) _ (among-at m k q)
   ]
 
   pub among-place : (m p : ℕ) → among queue m p ≡ true → Place queue m p

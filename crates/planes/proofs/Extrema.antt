@@ -7,6 +7,7 @@ use mathlib.Core.Path.{_≡_, refl, sym, ap, ap₂, subst, _∙_}
 use mathlib.Core.Logic.{_⊎_, inl, inr}
 use mathlib.Core.Bool.{Bool, true, false, not, _&&_, true≢false}
 use mathlib.Core.List.{List}
+use mathlib.Mathlib.Data.Bool.Basic.{and-elim-left, and-elim-right, and-intro}
 use native.Mathlib.Nat.{le-refl, le-trans, le-antisymm, not-suc-le-zero, eq-or-lt-of-le, le-of-suc-le-suc}
 use native.Mathlib.Omega.{arith}
 use lib.ListN.{length}
@@ -16,7 +17,7 @@ use borrow.Author.Tests.{eqb-true, eq-eqb, leb-true, leb-false, le-leb, ltb-true
 use Rattle.planes.specs.Lists.{at}
 use Rattle.planes.specs.Neighbours.{Near, Chain, here, step, linked}
 use Rattle.planes.specs.Extrema.{flat, extreme, gtb, Contains}
-use Rattle.planes.proofs.Tests.{decide, and-left, and-right, and-both, eqb-sym, implies-out, implies-in}
+use Rattle.planes.proofs.Tests.{decide, eqb-sym, implies-out, implies-in}
 use Rattle.planes.proofs.Lists.{every-out, every-in}
 use Rattle.planes.proofs.Links.{chain-map, linked-iff, link-refl, link-near, link-trans}
 
@@ -138,7 +139,7 @@ module _ (near : Near) (n : ℕ) where
   flat-value : (p : List ℕ) {i j : ℕ} → Chain (flat near p) n i j → at p i ≡ at p j
   unfolding flat
   flat-value p here = refl
-  flat-value p (step {j = l} {k = k} c e h) = flat-value p c ∙ eqb-true (at p l) (at p k) (and-left _ (near l k) e)
+  flat-value p (step {j = l} {k = k} c e h) = flat-value p c ∙ eqb-true (at p l) (at p k) (and-elim-left _ (near l k) e)
 
 -- the pixels of one zone have one value
 pub zone-value : (near : Near) (n : ℕ) (r : List ℕ) (u v : ℕ) → u < n → v < n
@@ -152,7 +153,7 @@ flat-sym near symm p i j = ap₂ _&&_ (eqb-sym (at p i) (at p j)) (symm i j)
 
 pub flat-in : (near : Near) (p : List ℕ) (i j : ℕ) → at p i ≡ at p j → near i j ≡ true → flat near p i j ≡ true
 unfolding flat
-flat-in near p i j e f = and-both (eq-eqb (at p i) (at p j) e) f
+flat-in near p i j e f = and-intro (eq-eqb (at p i) (at p j) e) f
 
 -- ## Extreme zones
 
@@ -171,17 +172,17 @@ module _ (le lower : ℕ → ℕ → Bool) (O : Order le lower) (near : Near) (p
     | inl z ↦ subst (λ (v : ℕ). le v (at p i) ≡ true) (zone-value near (length p) p i k hi hk z) (O .refl′ (at p i))
     | inr z ↦
         let all = every-out _ (length p) (every-out _ (length p) e j hj) k hk in
-        O .down (at p k) (at p i) (implies-out _ (lower (at p k) (at p i)) all (and-both (and-both d f) (ap not z)))
+        O .down (at p k) (at p i) (implies-out _ (lower (at p k) (at p i)) all (and-intro (and-intro d f) (ap not z)))
   ]
 
   -- a pixel next to the zone and outside it is lower
   outside-lower : Bounded → (j k : ℕ) → j < length p → k < length p → (Zone j && near j k && not (Zone k)) ≡ true
       → lower (at p k) (at p i) ≡ true
   outside-lower h j k hj hk e =
-      let a = and-left (Zone j && near j k) (not (Zone k)) e in
-      let d = and-left (Zone j) (near j k) a in
-      let f = and-right (Zone j) (near j k) a in
-      let outside : Zone k ≡ false = not-true (Zone k) (and-right (Zone j && near j k) (not (Zone k)) e) in
+      let a = and-elim-left (Zone j && near j k) (not (Zone k)) e in
+      let d = and-elim-left (Zone j) (near j k) a in
+      let f = and-elim-right (Zone j) (near j k) a in
+      let outside : Zone k ≡ false = not-true (Zone k) (and-elim-right (Zone j && near j k) (not (Zone k)) e) in
       let joined : at p k ≡ at p i → Zone k ≡ true = λ q.
       let same : at p j ≡ at p k = sym (zone-value near (length p) p i j hi hj d) ∙ sym q in
       link-trans (flat near p) (length p) i j k hj d (link-near (flat near p) (length p) (flat-in near p j k same f)) in
@@ -202,12 +203,12 @@ module _ (le lower : ℕ → ℕ → Bool) (O : Order le lower) (near : Near) (s
   flat-stay : (u v : ℕ) → u < length p → v < length p → flat near p u v ≡ true → flat near q u v ≡ true
   unfolding flat
   flat-stay u v hu hv e =
-      let r = and-right (eqb (at p u) (at p v)) (near u v) e in
-      let s = eqb-true (at p u) (at p v) (and-left (eqb (at p u) (at p v)) (near u v) e) in
+      let r = and-elim-right (eqb (at p u) (at p v)) (near u v) e in
+      let s = eqb-true (at p u) (at p v) (and-elim-left (eqb (at p u) (at p v)) (near u v) e) in
       let level : (x y : ℕ) → x ≡ y → le x y ≡ true = λ x y t. subst (λ (z : ℕ). le x z ≡ true) t (O .refl′ x) in
       let up : le (at q u) (at q v) ≡ true = keeps u v hu hv r (level _ _ s) in
       let down : le (at q v) (at q u) ≡ true = keeps v u hv hu (symm v u ∙ r) (level _ _ (sym s)) in
-      and-both (eq-eqb (at q u) (at q v) (O .anti _ _ up down)) r
+      and-intro (eq-eqb (at q u) (at q v) (O .anti _ _ up down)) r
 
   pub zone-stay : (u v : ℕ) → u < length p → v < length p → linked (flat near p) (length p) u v ≡ true
       → linked (flat near q) (length p) u v ≡ true

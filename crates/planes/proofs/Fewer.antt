@@ -3,8 +3,9 @@
 use Prim.Native.Nat.{ℕ, zero, suc, _+_, _≤_, _<_, zero-le}
 use mathlib.Core.Path.{_≡_, sym, ap, subst, _∙_}
 use mathlib.Core.Logic.{_⊎_, inl, inr}
-use mathlib.Core.Bool.{Bool, true, false, cond, not, _&&_, true≢false}
+use mathlib.Core.Bool.{Bool, true, false, cond, not, _&&_, true≢false, and-false}
 use mathlib.Core.List.{List}
+use mathlib.Mathlib.Data.Bool.Basic.{and-elim-left, and-elim-right, and-intro}
 use native.Mathlib.Nat.{le-refl, eq-or-lt-of-le}
 use native.Mathlib.Omega.{arith}
 use lib.ListN.{length}
@@ -14,7 +15,7 @@ use Rattle.planes.specs.Lists.{from, count, at}
 use Rattle.planes.specs.Neighbours.{Near, linked, first}
 use Rattle.planes.specs.Order.{Keeps}
 use Rattle.planes.specs.Extrema.{flat, extreme, extremes, gtb, maxima, minima}
-use Rattle.planes.proofs.Tests.{decide, and-false, and-left, and-right, and-both}
+use Rattle.planes.proofs.Tests.{decide}
 use Rattle.planes.proofs.Lists.{every-out, every-in}
 use Rattle.planes.proofs.Counts.{count-cons, unit-mono, count-mono}
 use Rattle.planes.proofs.Links.{link-trans, link-sym, link-refl}
@@ -35,7 +36,7 @@ count-without g y i (suc m) l h e = rw (count-cons (without g y) i (from (suc i)
     (go (eq-or-lt-of-le l) (λ q. count-without g y (suc i) m q (omega arith) e))
   where
     rest : count (without g y) (from (suc i) m) ≤ count g (from (suc i) m)
-    rest = count-mono (without g y) g (λ x d. and-left (g x) (not (eqb x y)) d) (from (suc i) m)
+    rest = count-mono (without g y) g (λ x d. and-elim-left (g x) (not (eqb x y)) d) (from (suc i) m)
 
     gone : i ≡ y → without g y i ≡ false
     gone q = ap (λ t. g i && not t) (eq-eqb i y q) ∙ and-false (g i)
@@ -44,7 +45,7 @@ count-without g y i (suc m) l h e = rw (count-cons (without g y) i (from (suc i)
         → suc (cond (without g y i) 1 0 + count (without g y) (from (suc i) m))
         ≤ cond (g i) 1 0 + count g (from (suc i) m)
     go (inl q) ih = rw (gone q, ap g q, e) (omega (arith, rest))
-    go (inr q) ih = omega (arith, ih q, unit-mono (without g y i) (g i) (λ d. and-left (g i) (not (eqb i y)) d))
+    go (inr q) ih = omega (arith, ih q, unit-mono (without g y i) (g i) (λ d. and-elim-left (g i) (not (eqb i y)) d))
 
 module _ (R : ℕ → ℕ → Type 0) (single : (x x′ y : ℕ) → R x y → R x′ y → x ≡ x′) (n : ℕ) where
   -- a pixel that passes g and to which x is related
@@ -70,7 +71,7 @@ module _ (R : ℕ → ℕ → Type 0) (single : (x x′ y : ℕ) → R x y → R
           let others : Partners f (suc i) m (without g (y .0)) = λ x l k d.
           let z = h x (omega arith) (omega arith) d in
           let new : z .0 ≡ y .0 → ⊥ = λ q. let c = single i x (y .0) (y .3) (subst (R x) q (z .3)) in omega arith in
-          (z .0, z .1, and-both (z .2) (ap not (ne-eqb (z .0) (y .0) new)), z .3) in
+          (z .0, z .1, and-intro (z .2) (ap not (ne-eqb (z .0) (y .0) new)), z .3) in
           let fewer = count-without g (y .0) 0 n zero-le (omega (arith, y .1)) (y .2) in
           rw e (omega (arith, ih (without g (y .0)) others, fewer))
 
@@ -142,14 +143,14 @@ module _ (le lower : ℕ → ℕ → Bool) (O : Order le lower) (near : Near) (s
           → (y : ℕ) × (y < length p) × ((extreme lower near p y && first (length p) (flat near p) y) ≡ true) × R x y
       partner x _ l e =
           let hx : x < length p = omega arith in
-          let ex : extreme lower near q x ≡ true = and-left _ (first (length p) (flat near q) x) e in
-          let fx : first (length p) (flat near q) x ≡ true = and-right (extreme lower near q x) _ e in
+          let ex : extreme lower near q x ≡ true = and-elim-left _ (first (length p) (flat near q) x) e in
+          let fx : first (length p) (flat near q) x ≡ true = and-elim-right (extreme lower near q x) _ e in
           let i = contained le lower O near symm p q same keeps x hx ex in
           let y = first-of (flat near p) (flat-sym near symm p) (length p) (i .pixel) (i .within) in
           let back = link-sym (flat near p) (flat-sym near symm p) (length p) (i .pixel) (y .0) ∙ y .2 in (
             y .0,
             y .1,
-            and-both (move (i .pixel) (y .0) (i .within) (y .1) (y .2) (i .extremal)) (y .3),
+            and-intro (move (i .pixel) (y .0) (i .within) (y .1) (y .2) (i .extremal)) (y .3),
             (hx, y .1, fx, i .held (y .0) (y .1) back),
           )
 

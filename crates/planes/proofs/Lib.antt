@@ -12,3 +12,4 @@ pub mod Enumerations
 pub mod Order
 pub mod Extrema
 pub mod Fewer
+pub mod Shapes

@@ -4,13 +4,14 @@
 use Prim.Native.Nat.{ℕ, zero, suc, _≤_, _<_}
 use mathlib.Core.Path.{_≡_, refl, ap₂, subst, _∙_}
 use mathlib.Core.Logic.{_⊎_, inl, inr, _↔_}
-use mathlib.Core.Bool.{true, _&&_, _||_}
+use mathlib.Core.Bool.{true, _&&_, _||_, and-comm}
+use mathlib.Mathlib.Data.Bool.Basic.{or-inl, or-inr, and-elim-left, and-elim-right, and-intro}
 use native.Mathlib.Nat.{le-refl, not-suc-le-zero, eq-or-lt-of-le, le-of-suc-le-suc}
 use native.Mathlib.Omega.{arith}
 use lib.Dec.{eqb}
 use borrow.Author.Tests.{eqb-true, eq-eqb}
 use Rattle.planes.specs.Neighbours.{Near, Chain, here, step, linked}
-use Rattle.planes.proofs.Tests.{or-cases, or-left, or-right, and-left, and-right, and-both, and-comm, eqb-sym}
+use Rattle.planes.proofs.Tests.{or-cases, eqb-sym}
 
 -- a chain of one relation is a chain of another that holds wherever the first does
 pub chain-map : (n : ℕ) (near₁ near₂ : Near)
@@ -24,13 +25,13 @@ chain-map n near₁ near₂ f h (step {j = l} {k = k} c e hk) =
 module _ (near : Near) where
   pub link-near : (k : ℕ) {i j : ℕ} → near i j ≡ true → linked near k i j ≡ true
   unfolding linked
-  link-near zero {i} {j} e = or-right (eqb i j) (near i j) e
-  link-near (suc k) {i} {j} e = or-left (linked near k i j) _ (link-near k e)
+  link-near zero {i} {j} e = or-inr (eqb i j) (near i j) e
+  link-near (suc k) {i} {j} e = or-inl (linked near k i j) _ (link-near k e)
 
   pub link-refl : (k i : ℕ) → linked near k i i ≡ true
   unfolding linked
-  link-refl zero i = or-left (eqb i i) (near i i) (eq-eqb i i refl)
-  link-refl (suc k) i = or-left (linked near k i i) _ (link-refl k i)
+  link-refl zero i = or-inl (eqb i i) (near i i) (eq-eqb i i refl)
+  link-refl (suc k) i = or-inl (linked near k i i) _ (link-refl k i)
 
   -- the two ways of `linked near (suc k) i j`, and back
   abbrev Ways : ℕ → ℕ → ℕ → Type 0
@@ -41,18 +42,18 @@ module _ (near : Near) where
   ways k i j e = elim (or-cases (linked near k i j) _ e) [
     | inl d ↦ inl d
     | inr d ↦
-        let into = and-left (linked near k i k) (linked near k k j) d in
-        let onward = and-right (linked near k i k) (linked near k k j) d in
+        let into = and-elim-left (linked near k i k) (linked near k k j) d in
+        let onward = and-elim-right (linked near k i k) (linked near k k j) d in
         inr (into, onward)
   ]
 
   direct : (k i j : ℕ) → linked near k i j ≡ true → linked near (suc k) i j ≡ true
   unfolding linked
-  direct k i j e = or-left (linked near k i j) _ e
+  direct k i j e = or-inl (linked near k i j) _ e
 
   through : (k i j : ℕ) → linked near k i k ≡ true → linked near k k j ≡ true → linked near (suc k) i j ≡ true
   unfolding linked
-  through k i j e f = or-right (linked near k i j) _ (and-both e f)
+  through k i j e f = or-inr (linked near k i j) _ (and-intro e f)
 
   -- links join at a pixel below k
   abbrev Joins : ℕ → Type 0

@@ -4,13 +4,13 @@ use mathlib.Core.Path.{_≡_, refl, sym, ap, ap₂, subst, _∙_}
 use mathlib.Core.Logic.{inl, inr}
 use mathlib.Core.Bool.{Bool, true, false, cond, _&&_}
 use mathlib.Core.List.{List, [], _∷_, map}
+use mathlib.Mathlib.Data.Bool.Basic.{and-elim-left, and-elim-right, and-intro}
 use native.Mathlib.Nat.{le-refl, not-suc-le-zero, eq-or-lt-of-le, le-of-suc-le-suc}
 use native.Mathlib.Nat.{add-zero, suc-add, add-suc, zero-add}
 use native.Mathlib.Omega.{arith}
 use lib.ListN.{length, getD, length-map}
 use Rattle.planes.specs.Lists.{from, keep, every, count, at, Beyond}
 use Rattle.planes.specs.Extrema.{implies}
-use Rattle.planes.proofs.Tests.{and-left, and-right, and-both}
 use Rattle.planes.proofs.Counts.{length-from, count-cons, count-le, every-true}
 
 -- what stands at index k of the values of a function on a stretch, and on all pixels
@@ -29,8 +29,8 @@ length-all f n = length-map (from 0 n) f ∙ length-from 0 n
 every-from : (f : ℕ → Bool) (i n : ℕ) → every f (from i n) ≡ true → (x : ℕ) → i ≤ x → x < i + n → f x ≡ true
 every-from f i zero e x l h = absurd (omega arith)
 every-from f i (suc n) e x l h = elim (eq-or-lt-of-le l) [
-  | inl q ↦ subst (λ (y : ℕ). f y ≡ true) q (and-left (f i) _ e)
-  | inr q ↦ every-from f (suc i) n (and-right (f i) _ e) x q (omega arith)
+  | inl q ↦ subst (λ (y : ℕ). f y ≡ true) q (and-elim-left (f i) _ e)
+  | inr q ↦ every-from f (suc i) n (and-elim-right (f i) _ e) x q (omega arith)
 ]
 
 pub every-out : (f : ℕ → Bool) (n : ℕ) → every f (from 0 n) ≡ true → (x : ℕ) → x < n → f x ≡ true
@@ -84,8 +84,8 @@ pub every-both : (f g h : ℕ → Bool) → ((x : ℕ) → f x ≡ true → g x 
     → (xs : List ℕ) → every f xs ≡ true → every g xs ≡ true → every h xs ≡ true
 every-both f g h k [] d e = refl
 every-both f g h k (x ∷ xs) d e =
-    and-both (k x (and-left (f x) (every f xs) d) (and-left (g x) (every g xs) e))
-    (every-both f g h k xs (and-right (f x) (every f xs) d) (and-right (g x) (every g xs) e))
+    and-intro (k x (and-elim-left (f x) (every f xs) d) (and-elim-left (g x) (every g xs) e))
+    (every-both f g h k xs (and-elim-right (f x) (every f xs) d) (and-elim-right (g x) (every g xs) e))
 
 pub every-count : (f : ℕ → Bool) (xs : List ℕ) → count f xs ≡ length xs → every f xs ≡ true
 every-count f [] e = refl
@@ -95,7 +95,7 @@ every-count f (x ∷ xs) e = go (f x) refl (every-count f xs)
     go true d rest =
         let c : cond (f x) 1 0 + count f xs ≡ suc (length xs) = sym (count-cons f x xs) ∙ e in
         let one : _≡_ {A = ℕ} (cond (f x) 1 0) 1 = ap (λ (t : Bool). cond t 1 0) d in
-        and-both d (rest (omega arith))
+        and-intro d (rest (omega arith))
     go false d rest =
         let c : cond (f x) 1 0 + count f xs ≡ suc (length xs) = sym (count-cons f x xs) ∙ e in
         let none : _≡_ {A = ℕ} (cond (f x) 1 0) 0 = ap (λ (t : Bool). cond t 1 0) d in
@@ -105,8 +105,8 @@ pub count-every : (f : ℕ → Bool) (xs : List ℕ) → every f xs ≡ true →
 count-every f [] e = refl
 count-every f (x ∷ xs) e =
     count-cons f x xs
-    ∙ ap₂ (λ (t : Bool) (k : ℕ). cond t 1 0 + k) (and-left (f x) (every f xs) e)
-    (count-every f xs (and-right (f x) (every f xs) e))
+    ∙ ap₂ (λ (t : Bool) (k : ℕ). cond t 1 0 + k) (and-elim-left (f x) (every f xs) e)
+    (count-every f xs (and-elim-right (f x) (every f xs) e))
     ∙ omega arith
 
 -- every value of the kept members

@@ -4,15 +4,15 @@
 use Prim.Native.Nat.{ℕ, zero, suc, _+_, _-_, _*_, _/_, _%_, _≤_, _<_}
 use mathlib.Core.Path.{_≡_, refl, sym, ap, ap₂, subst, _∙_}
 use mathlib.Core.Logic.{_⊎_, inl, inr}
-use mathlib.Core.Bool.{Bool, true, _&&_, _||_}
+use mathlib.Core.Bool.{Bool, true, _&&_, _||_, or-comm}
+use mathlib.Mathlib.Data.Bool.Basic.{or-inl, or-inr, and-elim-left, and-elim-right, and-intro}
 use native.Mathlib.Nat.{div-add-mod', mod-lt, add-zero, zero-mul}
 use native.Mathlib.Omega.{arith}
 use lib.Arith.{digits-div, digits-mod}
 use lib.Dec.{eqb}
 use borrow.Author.Tests.{eqb-true, eq-eqb}
 use Rattle.planes.specs.Neighbours.{Near, apart, beside, four, Chain, here, step, linked}
-use Rattle.planes.proofs.Tests.{or-cases, or-left, or-right, or-comm, and-left, and-right, and-both}
-use Rattle.planes.proofs.Tests.{eqb-sym, same-test}
+use Rattle.planes.proofs.Tests.{or-cases, eqb-sym, same-test}
 use Rattle.planes.proofs.Links.{linked-iff}
 
 -- ## A filled set
@@ -44,13 +44,15 @@ apart-cases x u e = elim (or-cases (eqb (x + 1) u) (eqb (u + 1) x) e) [
 ]
 
 apart-next : (x : ℕ) → apart x (x + 1) ≡ true
-apart-next x = or-left (eqb (x + 1) (x + 1)) _ (eq-eqb (x + 1) (x + 1) refl)
+apart-next x = or-inl (eqb (x + 1) (x + 1)) _ (eq-eqb (x + 1) (x + 1) refl)
 
 beside-cases : (y x v u : ℕ) → beside y x v u ≡ true
     → ((y ≡ v) × ((x + 1 ≡ u) ⊎ (u + 1 ≡ x))) ⊎ (((y + 1 ≡ v) ⊎ (v + 1 ≡ y)) × (x ≡ u))
 beside-cases y x v u e = elim (or-cases (eqb y v && apart x u) (apart y v && eqb x u) e) [
-  | inl d ↦ inl (eqb-true y v (and-left (eqb y v) (apart x u) d), apart-cases x u (and-right (eqb y v) (apart x u) d))
-  | inr d ↦ inr (apart-cases y v (and-left (apart y v) (eqb x u) d), eqb-true x u (and-right (apart y v) (eqb x u) d))
+  | inl d ↦ inl
+      (eqb-true y v (and-elim-left (eqb y v) (apart x u) d), apart-cases x u (and-elim-right (eqb y v) (apart x u) d))
+  | inr d ↦ inr
+      (apart-cases y v (and-elim-left (apart y v) (eqb x u) d), eqb-true x u (and-elim-right (apart y v) (eqb x u) d))
 ]
 
 -- j is right of, left of, below or above the pixel i, which is in column x
@@ -79,13 +81,13 @@ module _ (w y x : ℕ) (hx : x < w) where
   near-right h =
       let q : i + 1 ≡ y * w + (x + 1) = omega arith in
       rw (q, four-at w y x y (x + 1) hx h)
-      (or-left (eqb y y && apart x (x + 1)) _ (and-both (eq-eqb y y refl) (apart-next x)))
+      (or-inl (eqb y y && apart x (x + 1)) _ (and-intro (eq-eqb y y refl) (apart-next x)))
 
   pub near-down : four w i (i + w) ≡ true
   near-down =
       let q : i + w ≡ (y + 1) * w + x = omega arith in
       rw (q, four-at w y x (y + 1) x hx hx)
-      (or-right (eqb y (y + 1) && apart x x) _ (and-both (apart-next y) (eq-eqb x x refl)))
+      (or-inr (eqb y (y + 1) && apart x x) _ (and-intro (apart-next y) (eq-eqb x x refl)))
 
 -- the same neighbours, seen from the other side
 apart-sym : (x u : ℕ) → apart x u ≡ apart u x
@@ -109,14 +111,6 @@ module _ (w p : ℕ) (wide : 1 ≤ w) where
 
   pub right-of : p % w + 1 < w → four w p (p + 1) ≡ true
   right-of h = subst (λ (i : ℕ). four w i (i + 1) ≡ true) split (near-right w (p / w) (p % w) (mod-lt p wide) h)
-
-  pub left-of : (q : ℕ) → 0 < p % w → q + 1 ≡ p → four w p q ≡ true
-  left-of q h e =
-      let at-q : p / w * w + (p % w - 1) ≡ q = omega (arith, split) in
-      let near : four w q (q + 1) ≡ true =
-      subst (λ (i : ℕ). four w i (i + 1) ≡ true) at-q
-      (near-right w (p / w) (p % w - 1) (omega (arith, mod-lt p wide)) (omega (arith, mod-lt p wide))) in
-      four-sym w p q ∙ subst (λ (i : ℕ). four w q i ≡ true) e near
 
   -- every neighbour is one of the four
   pub sides : (q : ℕ) → four w p q ≡ true → Sides w (p % w) p q

@@ -2,7 +2,7 @@
 use Prim.Native.Nat.{ℕ, _≤_, _<_}
 use mathlib.Core.Path.{_≡_, refl, sym, ap, _∙_}
 use mathlib.Core.Logic.{_⊎_, inl, inr}
-use mathlib.Core.Bool.{Bool, true, false, _&&_, _||_, false≢true, true≢false}
+use mathlib.Core.Bool.{Bool, true, false, _&&_, _||_, false≢true, true≢false, and-false}
 use lib.Dec.{ltb, eqb}
 use borrow.Author.Tests.{eqb-true, eqb-false, eq-eqb, ltb-true, ltb-false}
 use Rattle.planes.specs.Extrema.{implies}
@@ -10,36 +10,6 @@ use Rattle.planes.specs.Extrema.{implies}
 pub or-cases : (s t : Bool) → (s || t) ≡ true → (s ≡ true) ⊎ (t ≡ true)
 or-cases true t e = inl refl
 or-cases false t e = inr e
-
-pub or-left : (s t : Bool) → s ≡ true → (s || t) ≡ true
-or-left s t e = rw e refl
-
-pub or-right : (s t : Bool) → t ≡ true → (s || t) ≡ true
-or-right true t e = refl
-or-right false t e = e
-
-pub and-left : (s t : Bool) → (s && t) ≡ true → s ≡ true
-and-left true t e = refl
-and-left false t e = e
-
-pub and-right : (s t : Bool) → (s && t) ≡ true → t ≡ true
-and-right true t e = e
-and-right false t e = absurd (false≢true e)
-
-pub and-both : {s t : Bool} → s ≡ true → t ≡ true → (s && t) ≡ true
-and-both e f = rw e f
-
-pub and-comm : (s t : Bool) → (s && t) ≡ (t && s)
-and-comm true true = refl
-and-comm true false = refl
-and-comm false true = refl
-and-comm false false = refl
-
-pub or-comm : (s t : Bool) → (s || t) ≡ (t || s)
-or-comm true true = refl
-or-comm true false = refl
-or-comm false true = refl
-or-comm false false = refl
 
 -- two tests that pass together are equal
 pub same-test : (s t : Bool) → (s ≡ true → t ≡ true) → (t ≡ true → s ≡ true) → s ≡ t
@@ -82,18 +52,6 @@ contra h e = never (λ d. true≢false (sym (h d) ∙ e))
 pub or-none : (s t : Bool) → (s || t) ≡ false → (s ≡ false) × (t ≡ false)
 or-none true t e = absurd (true≢false e)
 or-none false t e = (refl, e)
-
-pub or-false : (t : Bool) → (t || false) ≡ t
-or-false true = refl
-or-false false = refl
-
-pub and-false : (t : Bool) → (t && false) ≡ false
-and-false true = refl
-and-false false = refl
-
-pub and-true : (t : Bool) → (t && true) ≡ t
-and-true true = refl
-and-true false = refl
 
 -- the second, or the third, of three tests fails
 pub and-middle : (s t u : Bool) → t ≡ false → (s && t && u) ≡ false

@@ -6,3 +6,4 @@ pub mod Neighbours
 pub mod Enumerations
 pub mod Order
 pub mod Extrema
+pub mod Shapes

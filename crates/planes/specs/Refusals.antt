@@ -1,6 +1,15 @@
--- Refusals by number, in order, and those of a plane's size. 0 stands for "not refused". Definitions only.
+-- Refusals by number, in order, and those of sizes and lengths, each by one test. 0 stands for "not refused".
+-- Definitions only.
+--
+--   when, ▷         a refusal where a test passes, and the first refusal that applies
+--   sideRefusal     1, by the sides
+--   pixelRefusal    2, by the number of pixels
+--   lengthRefusal   3, by the length of a plane or a frame
+--   roomRefusal     4, by the lengths of marks and queue
+--   outputRefusal   14, by the length of the output
+--   sizeRefusal     1, 2
 use Prim.Native.Nat.{ℕ, zero, suc, _*_, _≤_}
-use mathlib.Core.Bool.{Bool, true, false, _||_}
+use mathlib.Core.Bool.{Bool, true, false, not, _||_}
 use lib.Dec.{ltb, eqb}
 
 -- the refusal k where the test passes
@@ -18,9 +27,29 @@ suc x ▷ y = suc x
 abbrev pub badSide : ℕ → Bool
 badSide x = eqb x 0 || ltb 4096 x
 
--- refusals 1 (a side is 0 or above 4,096) and 2 (more pixels than allowed), in that order
+-- 1: a side is 0 or above 4,096
+unfoldable pub sideRefusal : ℕ → ℕ → ℕ
+sideRefusal w h = when (badSide w || badSide h) 1
+
+-- 2: n pixels are more than allowed
+unfoldable pub pixelRefusal : ℕ → ℕ → ℕ
+pixelRefusal n limit = when (ltb limit n) 2
+
+-- 3: what is lent, by its length, does not have the length that is needed
+unfoldable pub lengthRefusal : ℕ → ℕ → ℕ
+lengthRefusal size needed = when (not (eqb size needed)) 3
+
+-- 4: marks or queue are shorter than n
+unfoldable pub roomRefusal : ℕ → ℕ → ℕ → ℕ
+roomRefusal n marks queue = when (ltb marks n || ltb queue n) 4
+
+-- 14: the output is shorter than needed
+unfoldable pub outputRefusal : ℕ → ℕ → ℕ
+outputRefusal output needed = when (ltb output needed) 14
+
+-- 1, then 2, for w columns and h rows
 unfoldable pub sizeRefusal : ℕ → ℕ → ℕ → ℕ
-sizeRefusal w h limit = when (badSide w || badSide h) 1 ▷ when (ltb limit (w * h)) 2
+sizeRefusal w h limit = sideRefusal w h ▷ pixelRefusal (w * h) limit
 
 -- the greatest number of pixels of a plane
 abbrev pub greatestPixels : ℕ

@@ -1,76 +1,28 @@
--- Where the rules end: the plain rule gives the greatest value b, both rules give the value b itself b, and with a clip
--- of 1,000 thousandths the limited rule is the plain one. (With a smaller clip the limited rule may give the greatest
--- value less than b: what is left over goes to the values above it, too.) Assumes nothing.
-use Prim.Native.Nat.{ℕ, _+_, _-_, _*_, _/_, _≤_}
-use mathlib.Core.Path.{_≡_, sym, ap, ap₂, _∙_}
+-- Where the rules end: each gives the value b itself b, and with a clip of 1,000 thousandths the limited rule is the
+-- plain one. (With a smaller clip the limited rule may give the greatest value less than b: what is left over goes to
+-- the values above it, too.) Assumes nothing.
+use Prim.Native.Nat.{ℕ, _+_, _-_, _*_, _≤_}
+use mathlib.Core.Path.{_≡_, ap, ap₂, _∙_}
 use mathlib.Core.List.{List}
-use native.Mathlib.Nat.{div-eq-of-lt-le, mul-div-mul-left, mul-le-mul, mul-le-mul-right, mul-add, min-eq-left}
 use native.Mathlib.Omega.{arith}
 use lib.ListN.{length}
 use lib.Dec.{leb, eqb}
 use Rattle.planes.specs.Lists.{count}
 use Rattle.planes.specs.Rounding.{rounded}
-use Rattle.planes.proofs.Counts.{count-le}
-use Rattle.tones.specs.Tones.{sumTo, scaled, greatest, plainTone, clipped, limitedTone, tone}
-use Rattle.tones.specs.Histograms.{Inside}
+use Rattle.histograms.specs.Values.{sumTo, scaled, greatest}
+use Rattle.plain.specs.Plain.{plainTone}
+use Rattle.limited.specs.Limited.{clipped, limitedTone}
+use Rattle.tones.specs.Tones.{tone}
+use Rattle.histograms.specs.Histograms.{Inside}
 use Rattle.tones.specs.declared.Rule.{Rule}
-use Rattle.tones.specs.declared.Rule.the-variants.{Plain}
-use Rattle.tones.specs.declared.Rule.the-variants.{Limited}
-use Rattle.tones.proofs.Sums.{sum-same, sum-thousand}
-use Rattle.tones.proofs.Sound.{clipped-le}
-use Rattle.tones.proofs.Values.{in-inside, inside-all, inside-sum, greatest-in, count-greatest}
+use Rattle.tones.specs.declared.Rule.the-variants.{Plain, Limited}
+use Rattle.histograms.proofs.Sums.{sum-same, sum-thousand}
+use Rattle.histograms.proofs.Values.{in-inside, inside-all, inside-sum, greatest-in}
+use Rattle.histograms.proofs.Scaled.{rounded-cancel}
+use Rattle.plain.proofs.Ends.{plain-greatest, plain-end}
+use Rattle.limited.proofs.Ends.{limited-end, unclipped}
 
--- ## Rounding
-
--- a whole number stays
-pub rounded-whole : (d m : ℕ) → 1 ≤ m → rounded (d * m) m ≡ d
-rounded-whole d m h = div-eq-of-lt-le (2 * m) (omega arith) (omega arith)
-
--- a common factor may go
-pub rounded-cancel : (c x m : ℕ) → 1 ≤ c → rounded (c * x) (c * m) ≡ rounded x m
-rounded-cancel c x m h =
-    let num : 2 * (c * x) + c * m ≡ c * (2 * x + m) = omega (arith, mul-add c (2 * x) m) in
-    let den : 2 * (c * m) ≡ c * (2 * m) = omega arith in
-    ap₂ _/_ num den ∙ mul-div-mul-left (2 * x + m) (2 * m) h
-
--- none of b - a leads to a, and all of it to b
-pub scaled-none : (a b m : ℕ) → 1 ≤ m → a ≡ scaled a b 0 m
-scaled-none a b m some =
-    let none : (b - a) * 0 ≡ 0 * m = omega arith in
-    omega (arith, ap (λ x. rounded x m) none, rounded-whole 0 m some)
-
-pub scaled-all : (a b m : ℕ) → a ≤ b → 1 ≤ m → scaled a b m m ≡ b
-scaled-all a b m ab some = omega (arith, rounded-whole (b - a) m some)
-
--- ## The plain rule
-
-pub plain-greatest : (a b : ℕ) (vs : List ℕ) → a ≤ b → 1 ≤ length vs → plainTone a b vs (greatest vs) ≡ b
-unfolding plainTone
-plain-greatest a b vs ab some =
-    ap (λ c. scaled a b c (length vs)) (count-greatest vs) ∙ scaled-all a b (length vs) ab some
-
-plain-end : (a b : ℕ) (vs : List ℕ) → a ≤ b → 1 ≤ length vs → Inside a b vs → plainTone a b vs b ≡ b
-unfolding plainTone
-plain-end a b vs ab some s =
-    ap (λ c. scaled a b c (length vs)) (inside-all s) ∙ scaled-all a b (length vs) ab some
-
--- ## The limited rule
-
-limited-end : (k a b : ℕ) (vs : List ℕ) → a ≤ b → 1 ≤ length vs → limitedTone k a b vs b ≡ b
-unfolding limitedTone
-limited-end k a b vs ab some =
-    let w = b - a + 1 in
-    let all = 1000 * length vs in
-    let s = sumTo (clipped k vs) a b in
-    let both : s + (all - s) ≡ all = omega (arith, clipped-le k vs a w) in
-    let x : w * s + w * (all - s) ≡ w * all = sym (mul-add w s (all - s)) ∙ ap (w *_) both in
-    let pos : 1 ≤ w * all = omega (arith, mul-le-mul-right {m = 1} {n = w} all (omega arith)) in
-    ap (λ y. scaled a b y (w * all)) x ∙ scaled-all a b (w * all) ab pos
-
--- with k ≥ 1000 nothing is clipped
-unclipped : (k : ℕ) (vs : List ℕ) → 1000 ≤ k → (v : ℕ) → clipped k vs v ≡ 1000 * count (eqb v) vs
-unfolding clipped
-unclipped k vs h v = min-eq-left (mul-le-mul h (count-le (eqb v) vs))
+-- ## A clip of 1,000 thousandths
 
 pub limited-unclipped : (k a b : ℕ) (vs : List ℕ) → Inside a b vs → 1000 ≤ k → (v : ℕ) → a ≤ v → v ≤ b
     → limitedTone k a b vs v ≡ plainTone a b vs v

@@ -1,15 +1,18 @@
--- The worked examples of the tone rules hold, by computation. Those for one pixel and for 1,048,576 hold by law. Assumes
--- nothing.
+-- The worked examples of the tone rules hold, by computation. Those for one pixel and for 1,048,576 hold by law.
+-- Assumes nothing.
 use mathlib.Core.Path.{refl, ap₂, _∙_}
 use mathlib.Core.List.{[], _∷_}
 use native.Mathlib.Nat.{max-zero}
 use native.Mathlib.Omega.{arith}
-use Rattle.tones.specs.Tones.{scaled, plainTone, clipped, limitedTone, tone, kept}
+use Rattle.histograms.specs.Values.{scaled}
+use Rattle.plain.specs.Plain.{plainTone, plainKept}
+use Rattle.limited.specs.Limited.{clipped, limitedTone}
+use Rattle.tones.specs.Tones.{tone, kept}
 use Rattle.tones.specs.Examples.{ToneExamples}
-use Rattle.tones.proofs.Ends.{plain-greatest}
+use Rattle.plain.proofs.Ends.{plain-greatest}
 
 pub tone-examples : ToneExamples
-unfolding plainTone clipped limitedTone tone kept
+unfolding plainTone plainKept clipped limitedTone tone kept
 tone-examples = record {
   a = refl;
   a-not-kept = refl;

@@ -1,8 +1,5 @@
-pub mod Sums
 pub mod Sound
-pub mod Values
 pub mod Ends
-pub mod Stores
-pub mod Histograms
-pub mod Components
+pub mod Lone
+pub mod Numbers
 pub mod Examples

@@ -1,117 +1,14 @@
--- Every tone rule is sound: on [a, b] it never falls, and it stays in [a, b]. What a rule adds to a is a part x of a
--- whole y of b - a, rounded, and x grows with the value. Assumes nothing.
-use Prim.Native.Nat.{ℕ, _+_, _-_, _*_, _≤_}
-use mathlib.Core.Path.{_≡_, ap}
-use mathlib.Core.Bool.{Bool, true, false, cond}
+-- Every tone rule is sound: on [a, b] it never falls, and it stays in [a, b]. Assumes nothing.
+use Prim.Native.Nat.{ℕ, _≤_}
 use mathlib.Core.List.{List}
-use native.Mathlib.Nat.{le-trans, min-le-left, mul-le-mul-left, mul-le-mul-right, mul-add}
-use native.Mathlib.Omega.{arith}
-use lib.ListN.{length}
-use lib.Dec.{leb, eqb}
-use borrow.Author.Tests.{leb-true, le-leb}
-use Rattle.planes.specs.Lists.{count}
-use Rattle.planes.proofs.Counts.{count-le, count-mono}
-use Rattle.planes.proofs.Rounding.{rounded-mono, rounded-le}
-use Rattle.tones.specs.Tones.{sum, sumTo, scaled, plainTone, clipped, limitedTone, tone}
-use Rattle.tones.specs.Sound.{Sound}
+use Rattle.histograms.specs.Sound.{Sound}
+use Rattle.tones.specs.Tones.{tone}
 use Rattle.tones.specs.declared.Rule.{Rule}
-use Rattle.tones.specs.declared.Rule.the-variants.{Plain}
-use Rattle.tones.specs.declared.Rule.the-variants.{Limited}
-use Rattle.tones.proofs.Sums.{sum-le, sum-thousand, sum-counts-le, sumTo-mono}
-
--- ## Parts of b - a
-
-pub scaled-mono : (a b y : ℕ) {x x′ : ℕ} → x ≤ x′ → scaled a b x y ≤ scaled a b x′ y
-scaled-mono a b y h = omega (arith, rounded-mono y (mul-le-mul-left (b - a) h))
-
-scaled-above : (a b x y : ℕ) → a ≤ scaled a b x y
-scaled-above a b x y = omega arith
-
-pub scaled-below : (a b x y : ℕ) → a ≤ b → x ≤ y → scaled a b x y ≤ b
-scaled-below a b x y ab xy = omega (arith, rounded-le (b - a) y x xy)
-
--- ## The plain rule
-
-pub plain-rises : (a b : ℕ) (vs : List ℕ) (v u : ℕ) → v ≤ u → plainTone a b vs v ≤ plainTone a b vs u
-unfolding plainTone
-plain-rises a b vs v u vu = scaled-mono a b (length vs)
-    (count-mono (λ x. leb x v) (λ x. leb x u) (λ x e. le-leb x u (le-trans (leb-true x v e) vu)) vs)
-
-pub plain-sound : (a b : ℕ) (vs : List ℕ) → a ≤ b → Sound a b (plainTone a b vs)
-unfolding plainTone
-plain-sound a b vs ab = record {
-  rises = λ v u _ vu _. plain-rises a b vs v u vu;
-  above = λ v _ _. scaled-above a b (count (λ x. leb x v) vs) (length vs);
-  below = λ v _ _. scaled-below a b (count (λ x. leb x v) vs) (length vs) ab (count-le (λ x. leb x v) vs);
-}
-
--- ## The limited rule
-
--- the clipped counts are no more than 1000 for each pixel
-pub clipped-le : (k : ℕ) (vs : List ℕ) (a n : ℕ) → sum (clipped k vs) a n ≤ 1000 * length vs
-unfolding clipped
-clipped-le k vs a n =
-    let q : ℕ → ℕ = λ v. count (eqb v) vs in
-    let each : sum (clipped k vs) a n ≤ sum (λ v. 1000 * q v) a n
-    = sum-le (clipped k vs) (λ v. 1000 * q v) a n (λ v _ _. min-le-left (1000 * q v) (k * length vs)) in
-    omega (arith, each, sum-thousand q a n, sum-counts-le vs a n)
-
--- w parts of the sum s, and n of what t leaves of the whole, are no more than w wholes
-pub shares-le : (s t n w whole : ℕ) → s ≤ t → t ≤ whole → n ≤ w → w * s + n * (whole - t) ≤ w * whole
-shares-le s t n w whole st tw nw =
-    let both : t + (whole - t) ≡ whole = omega arith in
-    omega (
-      arith,
-      mul-le-mul-left w st,
-      mul-le-mul-right (whole - t) nw,
-      mul-add w t (whole - t),
-      ap (w *_) both,
-    )
-
--- the part of the limited rule's tone
-limited-part : ℕ → ℕ → ℕ → List ℕ → ℕ → ℕ
-limited-part k a b vs v =
-    (b - a + 1) * sumTo (clipped k vs) a v + (v - a + 1) * (1000 * length vs - sumTo (clipped k vs) a b)
-
-limited-part-mono : (k a b : ℕ) (vs : List ℕ) {v u : ℕ} → v ≤ u → limited-part k a b vs v ≤ limited-part k a b vs u
-unfolding limited-part
-limited-part-mono k a b vs {v} {u} vu = omega (
-  arith,
-  mul-le-mul-left (b - a + 1) (sumTo-mono (clipped k vs) a vu),
-  mul-le-mul-right {m = v - a + 1} {n = u - a + 1} (1000 * length vs - sumTo (clipped k vs) a b) (omega arith),
-)
-
-limited-part-le : (k a b : ℕ) (vs : List ℕ) {v : ℕ} → v ≤ b
-    → limited-part k a b vs v ≤ (b - a + 1) * (1000 * length vs)
-unfolding limited-part
-limited-part-le k a b vs {v} vb = shares-le
-    (sumTo (clipped k vs) a v)
-    (sumTo (clipped k vs) a b)
-    (v - a + 1)
-    (b - a + 1)
-    (1000 * length vs)
-    (sumTo-mono (clipped k vs) a vb)
-    (clipped-le k vs a (b - a + 1))
-    (omega arith)
-
-pub limited-sound : (k a b : ℕ) (vs : List ℕ) → a ≤ b → Sound a b (limitedTone k a b vs)
-unfolding limitedTone limited-part
-limited-sound k a b vs ab =
-    let y = (b - a + 1) * (1000 * length vs) in
-    record {
-      rises = λ v u _ vu _. scaled-mono a b y (limited-part-mono k a b vs vu);
-      above = λ v _ _. scaled-above a b (limited-part k a b vs v) y;
-      below = λ v _ vb. scaled-below a b (limited-part k a b vs v) y ab (limited-part-le k a b vs vb);
-    }
-
--- ## Rules
+use Rattle.tones.specs.declared.Rule.the-variants.{Plain, Limited}
+use Rattle.plain.proofs.Sound.{plain-sound}
+use Rattle.limited.proofs.Sound.{limited-sound}
 
 pub tone-sound : (r : Rule) (a b : ℕ) (vs : List ℕ) → a ≤ b → Sound a b (tone r a b vs)
 unfolding tone
 tone-sound (Plain low high) a b vs ab = plain-sound a b vs ab
 tone-sound (Limited k) a b vs ab = limited-sound k a b vs ab
-
--- where the old values are kept, too
-pub kept-sound : {a b : ℕ} {f : ℕ → ℕ} (t : Bool) → Sound a b f → Sound a b (λ v. cond t v (f v))
-kept-sound true s = record { rises = λ v u _ h _. h; above = λ v h _. h; below = λ v _ h. h }
-kept-sound false s = s

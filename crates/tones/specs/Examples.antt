@@ -6,7 +6,9 @@ use mathlib.Core.List.{List, [], _∷_, map}
 use lib.ListN.{length}
 use lib.Dec.{leb}
 use Rattle.planes.specs.Lists.{count}
-use Rattle.tones.specs.Tones.{greatest, plainTone, tone, kept}
+use Rattle.histograms.specs.Values.{greatest}
+use Rattle.plain.specs.Plain.{plainTone}
+use Rattle.tones.specs.Tones.{tone, kept}
 use Rattle.tones.specs.declared.Rule.{Rule}
 use Rattle.tones.specs.declared.Rule.the-variants.{Plain, Limited}
 

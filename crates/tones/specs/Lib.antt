@@ -1,4 +1,6 @@
 pub mod Tones
-pub mod Sound
-pub mod Histograms
+pub mod Tables
+pub mod Lone
+pub mod Refusals
+pub mod Numbers
 pub mod Examples

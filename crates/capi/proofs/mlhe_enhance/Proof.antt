@@ -1,6 +1,6 @@
 -- `capi::mlhe_enhance` meets its contract: refused with nothing changed, or as the call. Assumes nothing.
 use mathlib.Core.Path.{sym, _∙_}
-use Rattle.capi.proofs.Numbers.{returned}
+use Rattle.cnumbers.proofs.Numbers.{returned}
 use Rattle.capi.proofs.Calls.{enhance-refused, enhance-made}
 use borrow.Author.Needs.{needs}
 use Rattle.capi.proofs.mlhe_enhance.Statement.{statement}
@@ -50,8 +50,9 @@ returns-2 c =
     let args = tested .before .before .before .before .before .before .args in
     enhance-made (args .w) (args .h) (args .last) (args .area) (args .rule) (args .first) (args .second)
     (args .frame .now) (args .plane .now) (args .marks .now) (args .queue .now) (args .output .now)
-    (called .enhance .result) (sym (tested .enhance-form-refusal .ensures) ∙ ruled .before .if1 .left) (ruled .rule-of .ensures)
-    (called .enhance .ensures) (returned (c .answer-number .ok) (c .answer-number .ensures))
+    (called .enhance .result) (sym (tested .enhance-form-refusal .ensures) ∙ ruled .before .if1 .left)
+    (ruled .rule-of .ensures) (called .enhance .ensures)
+    (returned (c .answer-number .ok) (c .answer-number .ensures))
 
 pub mlhe-enhance-spec : {M : Type 1} → statement M
 mlhe-enhance-spec =

@@ -1,6 +1,6 @@
 -- `capi::mlhe_pass` meets its contract: refused with nothing changed, or as the call. Assumes nothing.
 use mathlib.Core.Path.{sym, _∙_}
-use Rattle.capi.proofs.Numbers.{returned}
+use Rattle.cnumbers.proofs.Numbers.{returned}
 use Rattle.capi.proofs.Calls.{pass-refused, pass-made}
 use borrow.Author.Needs.{needs}
 use Rattle.capi.proofs.mlhe_pass.Statement.{statement}

@@ -1,7 +1,7 @@
 -- `capi::mlhe_read` meets its contract, case by case of what reading answers. Assumes nothing.
 use mathlib.Core.Path.{sym, _∙_}
 use Rattle.netpbm.proofs.Replies.{read-back}
-use Rattle.capi.proofs.Numbers.{returned}
+use Rattle.cnumbers.proofs.Numbers.{returned}
 use Rattle.capi.proofs.Calls.{read-refused, read-framed}
 use borrow.Author.Needs.{needs}
 use Rattle.capi.proofs.mlhe_read.Statement.{statement}
@@ -25,7 +25,8 @@ put-numbers-requires c κs = search needs
 returns : tie.Need-returns
 returns c =
     let answered = c .before .before .before .before in
-    read-refused (sym (read-back _ _ (answered .read .result) (answered .read .ensures)) ∙ c .before .before .header .given .1)
+    let answer = sym (read-back _ _ (answered .read .result) (answered .read .ensures)) in
+    read-refused (answer ∙ c .before .before .header .given .1)
     (returned (c .refused .ok) (c .refused .ensures))
 
 same-length : tie.Need-same-length
@@ -35,7 +36,9 @@ returns-2 : tie.Need-returns-2
 returns-2 c =
     let put = c .before .before in
     let told = put .before .before .before in
-    read-framed (sym (read-back _ _ (told .before .before .read .result) (told .before .before .read .ensures)) ∙ told .header2 .given .1)
+    let answered = told .before .before in
+    let answer = sym (read-back _ _ (answered .read .result) (answered .read .ensures)) in
+    read-framed (answer ∙ told .header2 .given .1)
     (returned (put .put-numbers .ok) (put .put-numbers .ensures .0)) (put .put-numbers .ensures .1)
 
 pub mlhe-read-spec : {M : Type 1} → statement M

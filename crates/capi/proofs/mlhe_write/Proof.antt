@@ -1,6 +1,6 @@
 -- `capi::mlhe_write` meets its contract: as the call. What is written is short enough for a signed number. Assumes
 -- nothing.
-use Rattle.capi.proofs.Numbers.{returned}
+use Rattle.cnumbers.proofs.Numbers.{returned}
 use Rattle.capi.proofs.Calls.{write-coded, write-short}
 use borrow.Author.Needs.{needs}
 use Rattle.capi.proofs.mlhe_write.Statement.{statement}

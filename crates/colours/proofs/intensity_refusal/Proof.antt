@@ -1,12 +1,11 @@
--- `colours::intensity_refusal` meets its contract: each answer follows from the tests that led to it. A size that is
--- not refused has few pixels, so that the products fit. Assumes nothing.
+-- `colours::intensity_refusal` meets its contract: what the tests answer, in order. A size that is not refused has few
+-- pixels, so that the products fit. Assumes nothing.
 use Prim.Native.Nat.{_*_, _≤_}
 use mathlib.Core.Path.{_≡_, sym, _∙_}
 use native.Mathlib.Omega.{arith}
 use borrow.Author.Needs.{needs}
-use borrow.Author.Tests.{ne-eqb, eq-eqb}
 use Rattle.planes.specs.Refusals.{sizeRefusal, greatestPixels}
-use Rattle.planes.proofs.Refusals.{▷-left, sized}
+use Rattle.planes.proofs.Refusals.{▷-left, ▷-right, sized}
 use Rattle.colours.specs.Calls.{intensityRefusal}
 use Rattle.colours.proofs.intensity_refusal.Statement.{statement}
 use Rattle.colours.proofs.intensity_refusal.Tie as tie
@@ -17,9 +16,8 @@ size-refusal-requires c κs = search needs
 returns : tie.Need-returns
 unfolding intensityRefusal
 returns c =
-    let size = c .before .size-refusal .ensures in
-    let first = ▷-left (c .before .size-refusal .result) _ (c .if1 .taken) in
-    rw (sym size) (sym first)
+    let e = c .before .size-refusal .ensures in
+    e ∙ sym (▷-left _ _ (λ z. c .if1 .taken (e ∙ z)))
 
 -- after the test of the size it is not refused
 none : (c : tie.Else1) → (let args = c .before .before .args in sizeRefusal (args .w) (args .h) greatestPixels ≡ 0)
@@ -31,21 +29,36 @@ few c = let args = c .before .before .args in sized (args .w) (args .h) greatest
 mul-n : tie.Need-mul-n
 mul-n c = omega (arith, few c)
 
+length-refusal-requires : tie.Need-length-refusal-requires
+length-refusal-requires c κs = search needs
+
 returns-2 : tie.Need-returns-2
 unfolding intensityRefusal
-returns-2 c = simp (none (c .before), ne-eqb _ _ (c .if2 .taken))
+returns-2 c =
+    let e = c .before .length-refusal .ensures in
+    e ∙ sym (▷-right _ _ (none (c .before .before)) ∙ ▷-left _ _ (λ z. c .if2 .taken (e ∙ z)))
 
-mul-if3 : tie.Need-mul-if3
-mul-if3 c = omega (arith, few (c .before))
+mul-length-refusal : tie.Need-mul-length-refusal
+mul-length-refusal c = omega (arith, few (c .before .before))
+
+length-refusal-requires-2 : tie.Need-length-refusal-requires-2
+length-refusal-requires-2 c κs = search needs
 
 returns-3 : tie.Need-returns-3
 unfolding intensityRefusal
-returns-3 c = simp (none (c .before .before), eq-eqb _ _ (c .before .if2 .left), ne-eqb _ _ (c .if3 .taken))
-
-returns-4 : tie.Need-returns-4
-unfolding intensityRefusal
-returns-4 c = simp (none (c .before .before), eq-eqb _ _ (c .before .if2 .left), eq-eqb _ _ (c .if3 .left))
+returns-3 c =
+    let plane = sym (c .before .before .length-refusal .ensures) ∙ c .before .if2 .left in
+    c .length-refusal2 .ensures ∙ sym (▷-right _ _ (none (c .before .before .before)) ∙ ▷-right _ _ plane)
 
 pub intensity-refusal-spec : {M : Type 1} → statement M
 intensity-refusal-spec =
-    tie.close (tie.spec size-refusal-requires returns mul-n returns-2 mul-if3 returns-3 returns-4)
+    tie.close
+    (tie.spec
+    size-refusal-requires
+    returns
+    mul-n
+    length-refusal-requires
+    returns-2
+    mul-length-refusal
+    length-refusal-requires-2
+    returns-3)

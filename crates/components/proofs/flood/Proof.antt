@@ -4,32 +4,28 @@
 use Prim.Native.Nat.{ℕ, _-_}
 use mathlib.Core.Path.{_≡_, refl}
 use mathlib.Core.List.{List}
-use native.Mathlib.Nat.{mul-mod-right}
 use native.Mathlib.Omega.{arith}
 use borrow.Author.Needs.{needs}
 use lib.ListN.{length}
-use Rattle.planes.specs.Neighbours.{four}
-use Rattle.components.proofs.Rows.{width-of}
-use Rattle.components.proofs.Flooding.{Flooding, head-off, turn, finish}
-use Rattle.components.proofs.Four.{four-may-begin, four-begin}
+use Rattle.planes.specs.Shapes.{pixels, neighbours}
+use Rattle.components.proofs.Flooding.{Flooding, may-begin, flood-begin, head-off, turn, finish}
+use Rattle.components.proofs.Four.{rows-near}
 use Rattle.components.proofs.flood.Statement.{statement}
 use Rattle.components.proofs.flood.Tie as tie
 
 abbrev Inv-loop : tie.InvT-loop
-Inv-loop marks₀ queue₀ w h inverse code start n tail₀ head₀ marks queue tail head =
+Inv-loop marks₀ queue₀ shape inverse code start tail₀ head₀ marks queue tail head =
     (length marks ≡ length marks₀)
     × ((length queue ≡ length queue₀)
-    × ((marks' queue' : List ℕ) → Flooding (four w) w n code start marks' queue' marks₀ queue₀ head₀ tail₀
-    → Flooding (four w) w n code start marks' queue' marks queue head tail))
+    × ((marks' queue' : List ℕ)
+    → Flooding (neighbours shape) (shape .w) (pixels shape) code start marks' queue' marks₀ queue₀ head₀ tail₀
+    → Flooding (neighbours shape) (shape .w) (pixels shape) code start marks' queue' marks queue head tail))
 
 abbrev μ-loop : tie.MeasureT-loop
-μ-loop marks₀ queue₀ w h inverse code start n tail₀ head₀ marks queue tail head = length queue - head
-
-mul-n : tie.Need-mul-n Inv-loop μ-loop
-mul-n c = omega (arith, c .before .before .pre .size .few)
+μ-loop marks₀ queue₀ shape inverse code start tail₀ head₀ marks queue tail head = length queue - head
 
 reach-requires : tie.Need-reach-requires Inv-loop μ-loop
-reach-requires c κs = four-may-begin (c .before .before .before .before .pre)
+reach-requires c κs = may-begin (c .before .before .before .before .pre)
 
 loop-holds : tie.Need-loop-holds Inv-loop μ-loop
 loop-holds c = (refl, (refl, λ _ _ f. f))
@@ -39,7 +35,7 @@ mul-p c =
     let l = c .before in
     let v = l .before .before .before .before .before in
     let s = v .before .before .before .before .before in
-    let f = l .loop .inv .1 .1 _ _ (four-begin (s .pre) (v .reach .ensures)) in
+    let f = l .loop .inv .1 .1 _ _ (flood-begin (s .pre) (rows-near _ (s .pre .size .wide)) (v .reach .ensures)) in
     omega (arith, f .room .spare, c .loop-test .taken)
 
 slice-read-p : tie.Need-slice-read-p Inv-loop μ-loop
@@ -47,7 +43,7 @@ slice-read-p c =
     let l = c .before .before in
     let v = l .before .before .before .before .before in
     let s = v .before .before .before .before .before in
-    let f = l .loop .inv .1 .1 _ _ (four-begin (s .pre) (v .reach .ensures)) in
+    let f = l .loop .inv .1 .1 _ _ (flood-begin (s .pre) (rows-near _ (s .pre .size .wide)) (v .reach .ensures)) in
     omega (arith, f .room .spare, c .before .loop-test .taken)
 
 cast-p : tie.Need-cast-p Inv-loop μ-loop
@@ -58,7 +54,7 @@ add-head c =
     let l = c .before .before in
     let v = l .before .before .before .before .before in
     let s = v .before .before .before .before .before in
-    let f = l .loop .inv .1 .1 _ _ (four-begin (s .pre) (v .reach .ensures)) in
+    let f = l .loop .inv .1 .1 _ _ (flood-begin (s .pre) (rows-near _ (s .pre .size .wide)) (v .reach .ensures)) in
     omega (arith, f .room .spare, c .before .loop-test .taken)
 
 spread-requires : tie.Need-spread-requires Inv-loop μ-loop
@@ -66,11 +62,11 @@ spread-requires c κs =
     let l = c .before .before .before .before in
     let v = l .before .before .before .before .before in
     let s = v .before .before .before .before .before in
-    let f = l .loop .inv .1 .1 _ _ (four-begin (s .pre) (v .reach .ensures)) in
+    let f = l .loop .inv .1 .1 _ _ (flood-begin (s .pre) (rows-near _ (s .pre .size .wide)) (v .reach .ensures)) in
     let t = c .before .before .before .loop-test .taken in
     record {
-      width = width-of (s .pre .size) (s .pre .inverse-is);
-      whole = mul-mod-right (s .args .w) (s .args .h);
+      size = s .pre .size;
+      inverse-is = s .pre .inverse-is;
       inside = f .searched .below _ t;
       off = head-off f t;
       shut = f .rows _ t;
@@ -82,7 +78,7 @@ loop-less c =
     let l = c .before .before .before .before .before .before .before .before .before in
     let v = l .before .before .before .before .before in
     let s = v .before .before .before .before .before in
-    let f = l .loop .inv .1 .1 _ _ (four-begin (s .pre) (v .reach .ensures)) in
+    let f = l .loop .inv .1 .1 _ _ (flood-begin (s .pre) (rows-near _ (s .pre .size .wide)) (v .reach .ensures)) in
     omega (arith, f .room .spare, c .before .before .before .before .before .before .before .before .loop-test .taken)
 
 loop-again : tie.Need-loop-again Inv-loop μ-loop
@@ -103,7 +99,7 @@ returns c =
     let l = c .before in
     let v = l .before .before .before .before .before in
     let s = v .before .before .before .before .before in
-    let f = l .loop .inv .1 .1 _ _ (four-begin (s .pre) (v .reach .ensures)) in
+    let f = l .loop .inv .1 .1 _ _ (flood-begin (s .pre) (rows-near _ (s .pre .size .wide)) (v .reach .ensures)) in
     finish f (s .pre .inside) (s .pre .has) (c .loop-test .left)
 
 pub flood-spec : {M : Type 1} → statement M
@@ -112,7 +108,6 @@ flood-spec =
     (tie.spec
     Inv-loop
     μ-loop
-    mul-n
     reach-requires
     loop-holds
     mul-p

@@ -5,12 +5,15 @@ use Rattle.components.proofs.Four.{may-above, may-below, spread-over}
 use Rattle.components.proofs.spread.Statement.{statement}
 use Rattle.components.proofs.spread.Tie as tie
 
+pixels-requires : tie.Need-pixels-requires
+pixels-requires c κs = search needs
+
 above-requires : tie.Need-above-requires
 above-requires c κs = search needs
 
 reach-requires : tie.Need-reach-requires
 reach-requires c κs =
-    let s = c .before .before .before .before .before in
+    let s = c .before .before .before .before .before .before in
     may-above (s .pre) (c .above .ensures)
 
 below-requires : tie.Need-below-requires
@@ -19,8 +22,9 @@ below-requires c κs = search needs
 reach-requires-2 : tie.Need-reach-requires-2
 reach-requires-2 c κs =
     let first = c .before .before .before .before .before .before .before in
-    let s = first .before .before .before .before .before .before in
-    may-below (s .pre) (first .before .above .ensures) (first .reach .ensures) (c .below .ensures)
+    let s = first .before .before .before .before .before .before .before in
+    let below = rw (first .before .before .before .before .pixels .ensures) at (c .below .ensures) in
+    may-below (s .pre) (first .before .above .ensures) (first .reach .ensures) below
 
 same-length : tie.Need-same-length
 same-length c = search needs
@@ -32,14 +36,15 @@ returns : tie.Need-returns
 returns c =
     let second = c .before .before .before .before in
     let first = second .before .before .before .before .before .before .before .before in
-    let s = first .before .before .before .before .before .before in
-    spread-over (s .pre) (first .before .above .ensures) (first .reach .ensures) (second .before .below .ensures)
-    (second .reach2 .ensures)
+    let s = first .before .before .before .before .before .before .before in
+    let below = rw (first .before .before .before .before .pixels .ensures) at (second .before .below .ensures) in
+    spread-over (s .pre) (first .before .above .ensures) (first .reach .ensures) below (second .reach2 .ensures)
 
 pub spread-spec : {M : Type 1} → statement M
 spread-spec =
     tie.close
     (tie.spec
+    pixels-requires
     above-requires
     reach-requires
     below-requires

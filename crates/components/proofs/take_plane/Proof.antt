@@ -1,22 +1,23 @@
--- `components::take_plane` meets its contract. The invariant: the first k pixels were taken. The measure is what is left
--- of n. Assumes nothing.
-use Prim.Native.Nat.{_*_, _-_, _≤_}
-use mathlib.Core.Path.{_≡_, refl}
+-- `components::take_plane` meets its contract. The invariant: the first k pixels were taken. The measure is what is
+-- left of n. Assumes nothing.
+use Prim.Native.Nat.{_-_, _≤_}
+use mathlib.Core.Path.{_≡_}
 use native.Mathlib.Omega.{arith}
 use borrow.Author.Needs.{needs}
+use Rattle.planes.specs.Shapes.{pixels}
 use Rattle.components.specs.Whole.{PlaneTaken}
 use Rattle.components.proofs.Whole.{taking-none, taking-more}
 use Rattle.components.proofs.take_plane.Statement.{statement}
 use Rattle.components.proofs.take_plane.Tie as tie
 
 abbrev Inv-loop : tie.InvT-loop
-Inv-loop marks₀ queue₀ w h n k₀ marks queue k = (k ≤ n) × PlaneTaken k marks₀ queue₀ marks queue
+Inv-loop marks₀ queue₀ n k₀ marks queue k = (k ≤ n) × PlaneTaken k marks₀ queue₀ marks queue
 
 abbrev μ-loop : tie.MeasureT-loop
-μ-loop marks₀ queue₀ w h n k₀ marks queue k = n - k
+μ-loop marks₀ queue₀ n k₀ marks queue k = n - k
 
-mul-n : tie.Need-mul-n Inv-loop μ-loop
-mul-n c = search needs
+pixels-requires : tie.Need-pixels-requires Inv-loop μ-loop
+pixels-requires c κs = search needs
 
 loop-holds : tie.Need-loop-holds Inv-loop μ-loop
 loop-holds c = (omega arith, taking-none _ _)
@@ -41,7 +42,7 @@ loop-less c = search needs
 
 loop-again : tie.Need-loop-again Inv-loop μ-loop
 loop-again c =
-    let s = c .before .before in
+    let s = c .before .before .before .before .before in
     let taking = c .before .loop .inv .1 in (
       omega arith,
       taking-more taking (omega (arith, s .pre .covered, taking .marks-rest .size))
@@ -56,9 +57,9 @@ same-length-2 c = search needs
 
 returns : tie.Need-returns Inv-loop μ-loop
 returns c =
-    let s = c .before .before in
-    let all : c .before .loop .k ≡ s .args .w * s .args .h = omega arith in
-    (refl, rw all at (c .before .loop .inv .1))
+    let s = c .before .before .before .before .before in
+    let all : c .before .loop .k ≡ pixels (s .args .shape) = omega arith in
+    (c .before .before .pixels .ensures, rw all at (c .before .loop .inv .1))
 
 pub take-plane-spec : {M : Type 1} → statement M
 take-plane-spec =
@@ -66,7 +67,7 @@ take-plane-spec =
     (tie.spec
     Inv-loop
     μ-loop
-    mul-n
+    pixels-requires
     loop-holds
     slice-write-marks
     cast-queue

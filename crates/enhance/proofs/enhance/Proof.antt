@@ -6,6 +6,13 @@ use borrow.Author.Needs.{needs}
 use Rattle.enhance.proofs.enhance.Statement.{statement}
 use Rattle.enhance.proofs.enhance.Tie as tie
 
+-- where the call is not refused, and where the frame is enhanced
+abbrev accepted : tie.After-enhance-frame → tie.Else1
+accepted e = e .before .before .before .before .before
+
+abbrev made : tie.After-slice-known8 → tie.After-enhance-frame
+made c = c .before .before .before .before .before .before .before .before
+
 refusal-of-requires : tie.Need-refusal-of-requires
 refusal-of-requires c κs = search needs
 
@@ -31,8 +38,8 @@ same-length-4 c = search needs
 
 returns-2 : tie.Need-returns-2
 returns-2 c =
-    let e = c .before .before .before .before .before .before .before .before in
-    let t = e .before .before .before .before .before in
+    let e = made c in
+    let t = accepted e in
     let enhances = e .enhance-frame .ensures in
     output-done-by (sym (t .before .refusal-of .ensures) ∙ t .if1 .left) (enhances .over) (enhances .output-is)
 

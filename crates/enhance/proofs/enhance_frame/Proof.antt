@@ -2,20 +2,32 @@
 -- Assumes nothing.
 use native.Mathlib.Omega.{arith}
 use borrow.Author.Needs.{needs}
-use Rattle.enhance.proofs.Levels.{still-ready}
+use Rattle.branches.proofs.Branches.{still-ready}
 use Rattle.enhance.proofs.Calls.{fine, in-turn}
 use Rattle.enhance.proofs.enhance_frame.Statement.{statement}
 use Rattle.enhance.proofs.enhance_frame.Tie as tie
+
+-- ## Places
+
+-- the entry, from where the intensity is there; and that, from where the recursion is called and where it is done
+abbrev start : tie.After-intensity → tie.Start
+start i = i .before .before .before .before .before .before .before
+
+abbrev filled : tie.After-run-levels → tie.After-intensity
+filled l = l .before .before .before .before .before .before
+
+-- the recursion, from where the frame is recoloured
+abbrev run : tie.After-recolour → tie.After-run-levels
+run c = c .before .before .before .before .before .before .before .before .before
 
 intensity-requires : tie.Need-intensity-requires
 intensity-requires c κs = search needs
 
 run-levels-requires : tie.Need-run-levels-requires
 run-levels-requires c κs =
-    let s = c .before .before .before .before .before .before .before .before .before .before .before .before in
-    let F = fine _ _ _ _ _ _ _ _ (s .pre) in
-    let first = c .before .before .before .before .before .intensity in
-    still-ready (F .ready) (omega (arith, first)) (omega arith) (omega arith)
+    let i = c .before .before .before .before .before in
+    let F = fine _ _ _ _ _ _ _ (start i .pre) in
+    still-ready (F .ready) (omega (arith, i .intensity)) (omega arith) (omega arith)
 
 recolour-requires : tie.Need-recolour-requires
 recolour-requires c κs = search needs
@@ -34,13 +46,11 @@ same-length-4 c = search needs
 
 returns : tie.Need-returns
 returns c =
-    let l = c .before .before .before .before .before .before .before .before .before .before .before in
-    let i = l .before .before .before .before .before .before in
-    let s = i .before .before .before .before .before .before .before in
-    let first = i .intensity in
-    let levels = l .run-levels in
-    in-turn (fine _ _ _ _ _ _ _ _ (s .pre)) (omega (arith, first)) (omega (arith, levels)) (first .ensures)
-    (levels .ensures) (c .before .before .recolour .ensures)
+    let coloured = c .before .before in
+    let l = run coloured in
+    let i = filled l in
+    in-turn (fine _ _ _ _ _ _ _ (start i .pre)) (omega (arith, i .intensity)) (omega (arith, l .run-levels))
+    (i .intensity .ensures) (l .run-levels .ensures) (coloured .recolour .ensures)
 
 pub enhance-frame-spec : {M : Type 1} → statement M
 enhance-frame-spec =

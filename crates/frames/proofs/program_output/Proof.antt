@@ -30,21 +30,22 @@ put-enhanced-requires : tie.Need-put-enhanced-requires
 put-enhanced-requires c κs =
     let case = c .before .before in
     let reading = case .before .before in
-    accepted-iff _ _ _ _ _ .0 (sym (read-back _ _ (reading .read-within .result) (reading .read-within .ensures)) ∙ case .header2 .given .1)
+    let answer = sym (read-back _ _ (reading .read-within .result) (reading .read-within .ensures)) in
+    accepted-iff _ _ _ _ _ .0 (answer ∙ case .header2 .given .1)
 
 returns-2 : tie.Need-returns-2
 returns-2 c =
     let case = c .before .before .before in
     let reading = case .before .before in
-    let answer = sym (read-back _ _ (reading .read-within .result) (reading .read-within .ensures)) ∙ case .header .given .1 in
-    read-emitted _ (reading .before .if1 .left) answer (c .put-refusal2 .ensures)
+    let answer = sym (read-back _ _ (reading .read-within .result) (reading .read-within .ensures)) in
+    read-emitted _ (reading .before .if1 .left) (answer ∙ case .header .given .1) (c .put-refusal2 .ensures)
 
 returns-3 : tie.Need-returns-3
 returns-3 c =
     let case = c .before .before .before in
     let reading = case .before .before in
-    let answer = sym (read-back _ _ (reading .read-within .result) (reading .read-within .ensures)) ∙ case .header2 .given .1 in
-    read-emitted _ (reading .before .if1 .left) answer (c .put-enhanced .ensures)
+    let answer = sym (read-back _ _ (reading .read-within .result) (reading .read-within .ensures)) in
+    read-emitted _ (reading .before .if1 .left) (answer ∙ case .header2 .given .1) (c .put-enhanced .ensures)
 
 pub program-output-spec : {M : Type 1} → statement M
 program-output-spec =

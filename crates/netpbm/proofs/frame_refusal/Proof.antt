@@ -5,8 +5,8 @@ use native.Mathlib.Omega.{arith}
 use borrow.Author.Needs.{needs}
 use borrow.Author.Tests.{lt-ltb, le-ltb, eq-eqb, ne-eqb}
 use Rattle.planes.specs.Refusals.{sizeRefusal}
-use Rattle.netpbm.specs.Reading.{frameRefusal}
 use Rattle.planes.proofs.Refusals.{▷-left}
+use Rattle.netpbm.specs.Reading.{maxvalRefusal, rasterRefusal, trailingRefusal, frameRefusal}
 use Rattle.netpbm.proofs.Refusals.{few-pixels}
 use Rattle.netpbm.proofs.frame_refusal.Statement.{statement}
 use Rattle.netpbm.proofs.frame_refusal.Tie as tie
@@ -16,7 +16,9 @@ size-refusal-requires c κs = search needs
 
 returns : tie.Need-returns
 unfolding frameRefusal
-returns c = rw (← c .before .size-refusal .ensures) (sym (▷-left (c .before .size-refusal .result) _ (c .if1 .taken)))
+returns c =
+    let e = c .before .size-refusal .ensures in
+    e ∙ sym (▷-left _ _ (λ z. c .if1 .taken (e ∙ z)))
 
 -- the size is not refused
 size-fits : (c : tie.Else1)
@@ -24,7 +26,7 @@ size-fits : (c : tie.Else1)
 size-fits c = sym (c .before .size-refusal .ensures) ∙ c .if1 .left
 
 returns-2 : tie.Need-returns-2
-unfolding frameRefusal
+unfolding frameRefusal maxvalRefusal
 returns-2 c = simp (size-fits (c .before), ne-eqb _ _ (c .if2 .taken))
 
 mul-needed : tie.Need-mul-needed
@@ -40,12 +42,12 @@ mul-needed-2 c =
     omega arith
 
 returns-3 : tie.Need-returns-3
-unfolding frameRefusal
+unfolding frameRefusal maxvalRefusal rasterRefusal
 returns-3 c =
     simp (size-fits (c .before .before), eq-eqb _ _ (c .before .if2 .left), lt-ltb _ _ (c .if3 .taken))
 
 returns-4 : tie.Need-returns-4
-unfolding frameRefusal
+unfolding frameRefusal maxvalRefusal rasterRefusal trailingRefusal
 returns-4 c =
     simp (
       size-fits (c .before .before .before),
@@ -55,7 +57,7 @@ returns-4 c =
     )
 
 returns-5 : tie.Need-returns-5
-unfolding frameRefusal
+unfolding frameRefusal maxvalRefusal rasterRefusal trailingRefusal
 returns-5 c =
     simp (
       size-fits (c .before .before .before),

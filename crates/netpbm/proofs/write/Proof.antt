@@ -5,8 +5,8 @@ use native.Mathlib.Omega.{arith}
 use borrow.Author.Needs.{needs}
 use lib.ListN.{length}
 use denote.Ref.{now}
-use Rattle.netpbm.specs.Writing.{heading, writeRefusal}
-use Rattle.netpbm.proofs.Placing.{put-more}
+use Rattle.texts.proofs.Placing.{put-more}
+use Rattle.netpbm.specs.Writing.{writeRefusal}
 use Rattle.netpbm.proofs.Writing.{Writable, writable, wrote-refused, wrote-accepted}
 use Rattle.netpbm.proofs.write.Statement.{statement}
 use Rattle.netpbm.proofs.write.Tie as tie
@@ -34,16 +34,16 @@ returns c =
     wrote-refused (now (args .raster)) (args .w) (args .h) (now (args .output)) (c .before .write-refusal .result)
     (c .before .write-refusal .ensures) (c .if1 .taken)
 
-put-header-requires : tie.Need-put-header-requires
-put-header-requires c κs =
+put-heading-requires : tie.Need-put-heading-requires
+put-heading-requires c κs =
     let size = fine (c .before) .size in
     ((omega arith, omega arith), omega (arith, fine (c .before) .room))
 
 put-bytes-requires : tie.Need-put-bytes-requires
 put-bytes-requires c κs =
     let heading = c .before .before .before in
-    let place = heading .put-header .ensures .next in
-    let kept = heading .put-header .kept .0 in
+    let place = heading .put-heading .ensures .next in
+    let kept = heading .put-heading .kept .0 in
     omega (arith, fine (heading .before .before) .room)
 
 same-length : tie.Need-same-length
@@ -56,7 +56,7 @@ returns-2 c =
     let free = heading .before .before in
     let args = start free .args in
     let room = fine free .room in
-    let whole = put-more (heading .put-header .ensures) (putting .put-bytes .ensures) (omega arith) in
+    let whole = put-more (heading .put-heading .ensures) (putting .put-bytes .ensures) (omega arith) in
     wrote-accepted (now (args .raster)) (args .w) (args .h) (now (args .output)) (putting .put-bytes .result)
     (putting .put-bytes .last .0) (accepted free) whole
 
@@ -66,7 +66,7 @@ write-spec =
     (tie.spec
     write-refusal-requires
     returns
-    put-header-requires
+    put-heading-requires
     put-bytes-requires
     same-length
     returns-2)

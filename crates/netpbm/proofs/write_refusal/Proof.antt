@@ -1,123 +1,80 @@
--- `netpbm::write_refusal` meets its contract: each answer follows from the tests that led to it. Where the size is not
--- refused the product of the sides fits, and each side has at most four digits. Assumes nothing.
-use Prim.Native.Nat.{ℕ, _+_, _≤_, _<_}
-use mathlib.Core.Path.{_≡_, sym, _∙_}
+-- `netpbm::write_refusal` meets its contract: what the tests answer, in order. Where the size is not refused the
+-- product of the sides fits, and each side has few digits. Assumes nothing.
+use Prim.Native.Nat.{ℕ, _+_, _*_}
+use mathlib.Core.Path.{_≡_, sym, ap, _∙_}
 use native.Mathlib.Omega.{arith}
 use borrow.Author.Needs.{needs}
-use borrow.Author.Tests.{lt-ltb, le-ltb, eq-eqb, ne-eqb}
-use lib.ListN.{length}
-use Rattle.planes.specs.Refusals.{sizeRefusal, greatestPixels}
-use Rattle.planes.proofs.Refusals.{▷-left, sized}
-use Rattle.netpbm.specs.Writing.{decimal, heading, writeRefusal}
+use Rattle.planes.specs.Refusals.{sizeRefusal, lengthRefusal, outputRefusal, greatestPixels}
+use Rattle.planes.proofs.Refusals.{▷-left, ▷-right, length-fits, sized}
+use Rattle.texts.proofs.Heading.{heading-short}
+use Rattle.netpbm.specs.Writing.{writeRefusal}
 use Rattle.netpbm.proofs.Refusals.{few-pixels}
-use Rattle.netpbm.proofs.Decimal.{decimal-numeral}
-use Rattle.netpbm.proofs.Heading.{heading-length}
 use Rattle.netpbm.proofs.write_refusal.Statement.{statement}
 use Rattle.netpbm.proofs.write_refusal.Tie as tie
 
--- the size is not refused
-size-fits : (c : tie.Else1)
-    → sizeRefusal (c .before .before .args .w) (c .before .before .args .h) greatestPixels ≡ 0
-size-fits c = sym (c .before .size-refusal .ensures) ∙ c .if1 .left
+-- the function's entry, seen from where the size is not refused, and from where the raster's length is not
+abbrev start₁ : tie.Else1 → tie.Start
+start₁ c = c .before .before
+
+abbrev start₂ : tie.Else2 → tie.Start
+start₂ c = start₁ (c .before .before)
+
+size-none : (c : tie.Else1) → sizeRefusal (start₁ c .args .w) (start₁ c .args .h) greatestPixels ≡ 0
+size-none c = sym (c .before .size-refusal .ensures) ∙ c .if1 .left
+
+length-none : (c : tie.Else2)
+    → lengthRefusal (start₂ c .args .raster) (3 * (start₂ c .args .w * start₂ c .args .h)) ≡ 0
+length-none c = sym (c .before .length-refusal .ensures) ∙ c .if2 .left
 
 size-refusal-requires : tie.Need-size-refusal-requires
 size-refusal-requires c κs = search needs
 
 returns : tie.Need-returns
 unfolding writeRefusal
-returns c = rw (← c .before .size-refusal .ensures) (sym (▷-left (c .before .size-refusal .result) _ (c .if1 .taken)))
+returns c =
+    let e = c .before .size-refusal .ensures in
+    e ∙ sym (▷-left _ _ (λ z. c .if1 .taken (e ∙ z)))
 
-mul-if2 : tie.Need-mul-if2
-mul-if2 c =
-    let args = c .before .before .args in
-    let few = few-pixels (args .w) (args .h) greatestPixels (size-fits c) in
-    omega arith
+mul-length-refusal : tie.Need-mul-length-refusal
+mul-length-refusal c = omega (arith, few-pixels _ _ greatestPixels (size-none c))
 
-mul-if2-2 : tie.Need-mul-if2-2
-mul-if2-2 c =
-    let args = c .before .before .args in
-    let few = few-pixels (args .w) (args .h) greatestPixels (size-fits c) in
-    omega arith
+mul-length-refusal-2 : tie.Need-mul-length-refusal-2
+mul-length-refusal-2 c = omega (arith, few-pixels _ _ greatestPixels (size-none c))
+
+length-refusal-requires : tie.Need-length-refusal-requires
+length-refusal-requires c κs = search needs
 
 returns-2 : tie.Need-returns-2
 unfolding writeRefusal
-returns-2 c = simp (size-fits (c .before), ne-eqb _ _ (c .if2 .taken))
+returns-2 c =
+    let e = c .before .length-refusal .ensures in
+    e ∙ sym (▷-right _ _ (size-none (c .before .before)) ∙ ▷-left _ _ (λ z. c .if2 .taken (e ∙ z)))
 
-digits-of-requires : tie.Need-digits-of-requires
-digits-of-requires c κs =
-    let args = c .before .before .before .args in
-    let size = sized (args .w) (args .h) greatestPixels (size-fits (c .before)) in
-    omega arith
+heading-length-requires : tie.Need-heading-length-requires
+heading-length-requires c κs =
+    let size = sized _ _ greatestPixels (size-none (c .before .before)) in
+    (omega arith, omega arith)
 
--- a side has few digits
-few-digits : (x r : ℕ) → x ≤ 4096 → r ≡ length (decimal x) → r ≤ 6
-few-digits x r h e = omega (arith, decimal-numeral x (omega arith) .few)
+add-output-refusal : tie.Need-add-output-refusal
+add-output-refusal c =
+    let sides = c .before .before .before in
+    let args = start₁ sides .args in
+    let size = sized (args .w) (args .h) greatestPixels (size-none sides) in
+    let short = heading-short (args .w) (args .h) (omega arith) (omega arith) in
+    let filled = length-fits (args .raster) (3 * (args .w * args .h)) (length-none (c .before)) in
+    omega (arith, c .heading-length .ensures)
 
-add-if3 : tie.Need-add-if3
-add-if3 c =
-    let args = c .before .before .before .before .args in
-    let size = sized (args .w) (args .h) greatestPixels (size-fits (c .before .before)) in
-    omega (arith, few-digits (args .w) (c .digits-of .result) (size .narrow) (c .digits-of .ensures))
-
-digits-of-requires-2 : tie.Need-digits-of-requires-2
-digits-of-requires-2 c κs =
-    let args = c .before .before .before .before .args in
-    let size = sized (args .w) (args .h) greatestPixels (size-fits (c .before .before)) in
-    omega arith
-
-add-if3-2 : tie.Need-add-if3-2
-add-if3-2 c =
-    let args = c .before .before .before .before .before .args in
-    let fits = size-fits (c .before .before .before) in
-    let size = sized (args .w) (args .h) greatestPixels fits in
-    let wide = few-digits (args .w) (c .before .digits-of .result) (size .narrow) (c .before .digits-of .ensures) in
-    let high = few-digits (args .h) (c .digits-of2 .result) (size .low) (c .digits-of2 .ensures) in
-    let few = few-pixels (args .w) (args .h) greatestPixels fits in
-    let filled = c .before .before .if2 .left in
-    omega arith
-
-add-if3-3 : tie.Need-add-if3-3
-add-if3-3 c =
-    let args = c .before .before .before .before .before .args in
-    let fits = size-fits (c .before .before .before) in
-    let size = sized (args .w) (args .h) greatestPixels fits in
-    let wide = few-digits (args .w) (c .before .digits-of .result) (size .narrow) (c .before .digits-of .ensures) in
-    let high = few-digits (args .h) (c .digits-of2 .result) (size .low) (c .digits-of2 .ensures) in
-    let few = few-pixels (args .w) (args .h) greatestPixels fits in
-    let filled = c .before .before .if2 .left in
-    omega arith
-
--- the function's entry, seen from after the digits are counted
-abbrev start : tie.After-digits-of2 → tie.Start
-start c = c .before .before .before .before .before
-
--- the length of the header
-needed : (c : tie.After-digits-of2)
-    → 9 + c .before .digits-of .result + c .digits-of2 .result ≡ length (heading (start c .args .w) (start c .args .h))
-needed c =
-    let args = start c .args in
-    let counted = heading-length (args .w) (args .h) in
-    let wide = c .before .digits-of .ensures in
-    let high = c .digits-of2 .ensures in
-    omega arith
+output-refusal-requires : tie.Need-output-refusal-requires
+output-refusal-requires c κs = search needs
 
 returns-3 : tie.Need-returns-3
 unfolding writeRefusal
 returns-3 c =
-    let args = start (c .before) .args in
-    let raster = c .before .before .before in
-    let short : args .output < length (heading (args .w) (args .h)) + args .raster =
-    omega (arith, needed (c .before), c .if3 .taken) in
-    simp (size-fits (raster .before), eq-eqb _ _ (raster .if2 .left), lt-ltb _ _ short)
-
-returns-4 : tie.Need-returns-4
-unfolding writeRefusal
-returns-4 c =
-    let args = start (c .before) .args in
-    let raster = c .before .before .before in
-    let long : length (heading (args .w) (args .h)) + args .raster ≤ args .output =
-    omega (arith, needed (c .before), c .if3 .left) in
-    simp (size-fits (raster .before), eq-eqb _ _ (raster .if2 .left), le-ltb _ _ long)
+    let length = c .before .before in
+    let args = start₂ length .args in
+    c .output-refusal .ensures
+    ∙ ap (λ (n : ℕ). outputRefusal (args .output) (n + args .raster)) (c .before .heading-length .ensures)
+    ∙ sym (▷-right _ _ (size-none (length .before .before)) ∙ ▷-right _ _ (length-none length))
 
 pub write-refusal-spec : {M : Type 1} → statement M
 write-refusal-spec =
@@ -125,13 +82,11 @@ write-refusal-spec =
     (tie.spec
     size-refusal-requires
     returns
-    mul-if2
-    mul-if2-2
+    mul-length-refusal
+    mul-length-refusal-2
+    length-refusal-requires
     returns-2
-    digits-of-requires
-    add-if3
-    digits-of-requires-2
-    add-if3-2
-    add-if3-3
-    returns-3
-    returns-4)
+    heading-length-requires
+    add-output-refusal
+    output-refusal-requires
+    returns-3)

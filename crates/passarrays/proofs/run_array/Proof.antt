@@ -1,5 +1,5 @@
--- `passarrays::run_array` meets its contract: the array has 1,025 passes, so its first `count` are its first
--- min count 1025. Assumes nothing.
+-- `passarrays::run_array` meets its contract: an array has no more passes than its length, so its first `count` are its
+-- first min count (its length). Assumes nothing.
 use Prim.Native.Nat.{ℕ, _≤_, _<_, min}
 use mathlib.Core.Path.{_≡_, sym, ap, _∙_}
 use mathlib.Core.Logic.{⊎-elim}
@@ -10,6 +10,7 @@ use borrow.Author.Needs.{needs}
 use lib.ListN.{length, take}
 use lib.Seq.{take-all}
 use Rattle.planes.proofs.Tests.{less-or-not}
+use Rattle.passarrays.specs.Arrays.{arrayLength}
 use Rattle.passarrays.proofs.run_array.Statement.{statement}
 use Rattle.passarrays.proofs.run_array.Tie as tie
 
@@ -41,10 +42,10 @@ returns c =
     let ran = c .before .before .before .before .before .before in
     let chosen = ran .before .before .before .before in
     let start = chosen .before .before .before .before in
-    let full : length (start .args .list) ≡ 1025 = search needs in
+    let full : length (start .args .list) ≡ arrayLength = search needs in
     let front : take (chosen .at-most .result) (start .args .list) ≡ take (start .args .count) (start .args .list) =
     ap (λ (k : ℕ). take k (start .args .list)) (chosen .at-most .ensures)
-    ∙ take-min (start .args .count) 1025 (start .args .list) full in
+    ∙ take-min (start .args .count) arrayLength (start .args .list) full in
     rw front at (ran .run-front .ensures)
 
 pub run-array-spec : {M : Type 1} → statement M

@@ -29,7 +29,7 @@ use types.Run.{enter}
 use sound.WpLaws.{fmOf, WpFn-mono}
 use denote.RattleType.{RattleType, owns}
 use denote.Laws.{Is, shows}
-use denote.Plain.{uint-makes, uint-vals, uint-tells}
+use denote.Plain.{uint-vals, uint-tells}
 use denote.Builtin.{u8, u32, usize, ArrayOf}
 use denote.Array.{Array, array-vals, array-tells, array-lawful}
 use denote.Ref.{RefT}
@@ -48,6 +48,9 @@ use denote.Triple.Walked.{says, needs, Stays, stay-dropped, gave-slice, walkOf, 
 use denote.Triple.Walked.{goes-gave-slice, walk-meets}
 use denote.Exit.{yes}
 use borrow.Table.Copies.{Halved, cStruct, halved}
+use Rattle.planes.specs.declared.Shape.{Shape}
+use Rattle.planes.proofs.Shape as shape-type
+use Rattle.planes.proofs.Shape.Laws as shape-laws
 use Rattle.model.specs.declared.Pass.{Pass}
 use Rattle.model.specs.declared.Answer.{Answer}
 use Rattle.model.proofs.Pass as pass-type
@@ -61,11 +64,12 @@ use Rattle.passlists.proofs.Walks.Lent.{Loan, loan, ref, val}
 use Rattle.passlists.proofs.Walks.Told.{told}
 use Rattle.passlists.proofs.Walks.Three.{Long, Mines}
 use Rattle.passlists.proofs.Walks.Element.{R}
-use Rattle.passlists.proofs.Walks.Entry.{Three}
+use Rattle.passlists.proofs.Walks.Entry.{RZ, mach-z, Three}
 use Rattle.passlists.proofs.run_passes as run-passes
 use Rattle.passlists.proofs.run_passes.Symbol as run-passes-def
 use Rattle.passlists.proofs.run_passes.Symbol.{name as #passlists·run-passes}
 use Rattle.passlists.proofs.run_passes.Met as run-passes-thm
+use Rattle.passarrays.specs.Arrays.{arrayLength}
 use Rattle.passarrays.proofs.Arrays.{Kept, lends-front, array-back}
 use Rattle.passarrays.proofs.run_front.Key.{name as #passarrays·run-front}
 use Rattle.passarrays.proofs.run_front as run-front
@@ -84,7 +88,7 @@ stayed = (
         gave-slice (1 ∷ []) tt (plain (λ _. u8)),
         (
           gave-slice (2 ∷ []) tt (plain (λ _. u32)),
-          (stay-dropped _ yes, (stay-dropped _ yes, tt)),
+          (stay-dropped _ yes, tt),
         ),
       ),
     ),
@@ -100,20 +104,21 @@ pass-vals = LL.vals pass-type.the-type pass-laws.the-laws
 
 -- the array's type
 abbrev arr : Ty
-arr = tyArray pass-laws.mir 1025
+arr = tyArray pass-laws.mir arrayLength
 
 module _ {M : Type 1} (𝓤 : URA M) (H : Heap 𝓤) (A : Atoms 𝓤) (W : Given 𝓤 H A) (mem : Memory → SProp 𝓤)
-    (run : Routine → Fun 𝓤) (P N Q : Loan) (ps : List Pass) (k : ℕ) (x₀ : Three) (w h : ℕ)
-    (ps-is : Is (Array R 1025) ps (array-vals pass-vals ps)) (full : length ps ≡ 1025) (within : k ≤ 1025)
+    (run : Routine → Fun 𝓤) (P N Q : Loan) (ps : List Pass) (k : ℕ) (x₀ : Three) (shape : Shape)
+    (ps-is : Is (Array R arrayLength) ps (array-vals pass-vals ps)) (full : length ps ≡ arrayLength)
+    (within : k ≤ arrayLength)
     (rp : Room u8 (P .n)) (rm : Room u8 (N .n)) (rq : Room u32 (Q .n))
-    (k-fits : k < 2 ^ 64) (w-fits : w < 2 ^ 64) (h-fits : h < 2 ^ 64)
+    (k-fits : k < 2 ^ 64) (shape-is : Is RZ shape (mach-z shape ∷ []))
     (long : Long u8 u8 u32 (named 0) (named 1) (named 2) P N Q x₀) where
   -- the arguments, and their machine values
   abbrev Lent : Type 0
-  Lent = RefT (List ℕ) × (RefT (List ℕ) × (RefT (List ℕ) × (ℕ × (ℕ × Unit {0}))))
+  Lent = RefT (List ℕ) × (RefT (List ℕ) × (RefT (List ℕ) × (Shape × Unit {0})))
 
   abbrev lent : Lent
-  lent = (ref P (P .γ) (x₀ .0), (ref N (N .γ) (x₀ .1 .0), (ref Q (Q .γ) (x₀ .1 .1), (w, (h, tt)))))
+  lent = (ref P (P .γ) (x₀ .0), (ref N (N .γ) (x₀ .1 .0), (ref Q (Q .γ) (x₀ .1 .1), (shape, tt))))
 
   abbrev a : List Pass × (ℕ × Lent)
   a = (ps, (k, lent))
@@ -124,13 +129,13 @@ module _ {M : Type 1} (𝓤 : URA M) (H : Heap 𝓤) (A : Atoms 𝓤) (W : Given
   abbrev num : ℕ → List Val
   num n = vint w64 n ∷ []
 
-  abbrev Five : Type 0
-  Five = List Val × (List Val × (List Val × (List Val × (List Val × Unit {0}))))
+  abbrev Four : Type 0
+  Four = List Val × (List Val × (List Val × (List Val × Unit {0})))
 
-  abbrev lent-vals : Five
-  lent-vals = (val P ∷ [], (val N ∷ [], (val Q ∷ [], (num w, (num h, tt)))))
+  abbrev lent-vals : Four
+  lent-vals = (val P ∷ [], (val N ∷ [], (val Q ∷ [], (mach-z shape ∷ [], tt))))
 
-  abbrev vals : List Val × (List Val × Five)
+  abbrev vals : List Val × (List Val × Four)
   vals = (av ∷ [], (num k, lent-vals))
 
   abbrev bound : walkOf 𝓤 H A run-front.ended stayed (run-front.clauses 𝓤 H A mem run) .Ghost
@@ -145,12 +150,12 @@ module _ {M : Type 1} (𝓤 : URA M) (H : Heap 𝓤) (A : Atoms 𝓤) (W : Given
   Ours = Mines u8 u8 u32 (named 0) (named 1) (named 2) P N Q x₀
 
   abbrev Own : Fml
-  Own = Array R 1025 .own ps (av ∷ [])
+  Own = Array R arrayLength .own ps (av ∷ [])
 
   abbrev Types : List RattleType
   Types =
-      Array R 1025 ∷ usize ∷ MutSlice (named 0) (P .κ) u8 ∷ MutSlice (named 1) (N .κ) u8
-      ∷ MutSlice (named 2) (Q .κ) u32 ∷ usize ∷ usize ∷ []
+      Array R arrayLength ∷ usize ∷ MutSlice (named 0) (P .κ) u8 ∷ MutSlice (named 1) (N .κ) u8
+      ∷ MutSlice (named 2) (Q .κ) u32 ∷ RZ ∷ []
 
   abbrev Entered : SProp 𝓤
   Entered = onEntry 𝓤 H A run-front.signature (P .κ, (N .κ, (Q .κ, tt))) (P .q, (N .q, (Q .q, tt))) a vals
@@ -175,10 +180,10 @@ module _ {M : Type 1} (𝓤 : URA M) (H : Heap 𝓤) (A : Atoms 𝓤) (W : Given
   abbrev Had : Three → Fml
   Had x =
       fsep ftrue (fsep ftrue (fsep (finally u8 (P .γ) (x .0)) (fsep (finally u8 (N .γ) (x .1 .0))
-      (fsep (finally u32 (Q .γ) (x .1 .1)) (fsep ftrue (fsep ftrue ftrue))))))
+      (fsep (finally u32 (Q .γ) (x .1 .1)) (fsep ftrue ftrue)))))
 
   abbrev Did : Answer → List ℕ → List ℕ → List ℕ → Type 0
-  Did r = PassesOutcome w h (take k ps) (x₀ .0) (x₀ .1 .0) (x₀ .1 .1) (answerReply r)
+  Did r = PassesOutcome shape (take k ps) (x₀ .0) (x₀ .1 .0) (x₀ .1 .1) (answerReply r)
 
   -- an answer and last lists, as `run_passes` leaves them
   record Came (v : Val) (y : Answer × Three) : Type 0 where
@@ -197,8 +202,8 @@ module _ {M : Type 1} (𝓤 : URA M) (H : Heap 𝓤) (A : Atoms 𝓤) (W : Given
   exits v y c =
       qed W (‵ Alive ∷ ‵ (Had (y .1)) ∷ ‵ (answer-type.the-row .own (y .0) (v ∷ [])) ∷ []) ∵
       suffices ! _ (ends-at 𝓤 H A run-front.ended stayed (run-front.clauses 𝓤 H A mem run) W bound v (y .0)
-      (tt, (tt, (y .1 .0, (y .1 .1 .0, (y .1 .1 .1, (tt, (tt, tt)))))))
-      (tt, (tt, (c .one, (c .two, (c .three, (tt, (tt, tt))))))))
+      (tt, (tt, (y .1 .0, (y .1 .1 .0, (y .1 .1 .1, (tt, tt))))))
+      (tt, (tt, (c .one, (c .two, (c .three, (tt, tt)))))))
       $ says ! (c .did) $ done !
 
   -- ## The call of `run_passes`, with the array at the block l
@@ -226,7 +231,7 @@ module _ {M : Type 1} (𝓤 : URA M) (H : Heap 𝓤) (A : Atoms 𝓤) (W : Given
     )
 
     abbrev Keeps : ℕ × GName → Fml
-    Keeps z = Kept R tt (z .0 ∷ []) fullShare l ps 1025
+    Keeps z = Kept R tt (z .0 ∷ []) fullShare l ps arrayLength
 
     abbrev Out : ℕ × GName → SProp 𝓤
     Out z = sep 𝓤 (Callee 𝓤 H A mem run .pre (to z)) (sem 𝓤 H A (Keeps z))
@@ -236,8 +241,8 @@ module _ {M : Type 1} (𝓤 : URA M) (H : Heap 𝓤) (A : Atoms 𝓤) (W : Given
         qed W (‵ (fat fullShare arr l 0 av) ∷ ‵ Own ∷ ‵ Ours ∷ []) ∵ updating ! $ lft-new ! tt (λ ν.
         move ! (1 ∷ 2 ∷ 0 ∷ []) $ use3 W (later (some (λ (δ : GName).
         ‵ (ShrSlice (named 0) (ν ∷ []) R .own (passed δ) (sliceVal (l, 0) k ∷ [])) ⊛ ‵ (flft (ν ∷ []) fullShare)
-        ⊛ ‵ (Kept R tt (ν ∷ []) fullShare l ps 1025))))
-        (lends-front R tt (ν ∷ []) fullShare l ps 𝓤 H A W (named 0) copies 1025 k full
+        ⊛ ‵ (Kept R tt (ν ∷ []) fullShare l ps arrayLength))))
+        (lends-front R tt (ν ∷ []) fullShare l ps 𝓤 H A W (named 0) copies arrayLength k full
         (subst (λ (m : ℕ). k ≤ m) (sym full) within) av (lit< tt, lit< tt))
         $ await ! tt $ pick ! (λ δ. split3 ! $ move ! (0 ∷ 2 ∷ 1 ∷ [])
         $ move ! (3 ∷ []) $ fsplit ! $ fsplit ! $ move ! (2 ∷ []) $ fsplit ! $ fsplit ! $ move ! (2 ∷ []) $ fsplit !
@@ -245,8 +250,8 @@ module _ {M : Type 1} (𝓤 : URA M) (H : Heap 𝓤) (A : Atoms 𝓤) (W : Given
         $ at-once ! $ show ! Out (ν, δ)
         $ nothing ! $ move ! (2 ∷ 0 ∷ []) $ join ! $ move ! (3 ∷ 0 ∷ []) $ join ! $ move ! (4 ∷ 0 ∷ []) $ join !
         $ move ! (6 ∷ 0 ∷ []) $ join !
-        $ nothing ! $ owned ! usize (Is usize) (uint-makes 𝓤 H A W w64) h _ (refl, h-fits) $ fjoin !
-        $ owned ! usize (Is usize) (uint-makes 𝓤 H A W w64) w _ (refl, w-fits) $ fjoin !
+        $ nothing !
+        $ owned ! RZ (Is RZ) (LL.makes shape-type.the-type shape-laws.the-plain 𝓤 H A) shape _ shape-is $ fjoin !
         $ move ! (2 ∷ 0 ∷ []) $ fjoin ! $ move ! (2 ∷ 0 ∷ []) $ fjoin ! $ move ! (2 ∷ 0 ∷ []) $ fjoin !
         $ move ! (2 ∷ 0 ∷ []) $ fjoin ! $ move ! (1 ∷ 0 ∷ []) $ join ! $ nothing ! $ move ! (1 ∷ 0 ∷ []) $ join !
         $ done !))
@@ -256,7 +261,7 @@ module _ {M : Type 1} (𝓤 : URA M) (H : Heap 𝓤) (A : Atoms 𝓤) (W : Given
 
     -- what `run_passes` leaves: the answer, and the last lists
     abbrev Told : Type 0
-    Told = Answer × (Unit {0} × (List ℕ × (List ℕ × (List ℕ × (Unit {0} × (Unit {0} × Unit {0}))))))
+    Told = Answer × (Unit {0} × (List ℕ × (List ℕ × (List ℕ × (Unit {0} × Unit {0})))))
 
     comes-in : (z : ℕ × GName) (v : Val)
         → ent 𝓤 (sep 𝓤 (Callee 𝓤 H A mem run .post (to z) v) (sem 𝓤 H A (Keeps z))) (H .⇛ (ex 𝓤 (Back v)))
@@ -268,7 +273,7 @@ module _ {M : Type 1} (𝓤 : URA M) (H : Heap 𝓤) (A : Atoms 𝓤) (W : Given
         (told 𝓤 H A W run-passes.ended (run-passes.clauses 𝓤 H A mem run) (to z) v
         (λ r ws. Did r (ws .1 .0) (ws .1 .1 .0) (ws .1 .1 .1 .0)) (λ r ws. id⊢ 𝓤 _)) $ await ! tt
         $ pick ! (λ r. learn ! (λ did. split3 ! $ split ! $ lft-end ! tt $ move ! (0 ∷ 4 ∷ [])
-        $ use2 W (later (‵ (froom arr l 0))) (array-back R tt (z .0 ∷ []) fullShare l ps 𝓤 H A W (named 0) 1025)
+        $ use2 W (later (‵ (froom arr l 0))) (array-back R tt (z .0 ∷ []) fullShare l ps 𝓤 H A W (named 0) arrayLength)
         $ await ! tt
         -- [the array's room; the tokens; the result; what says the last lists]
         $ move ! (3 ∷ []) $ fsplit ! $ move ! (1 ∷ []) $ fsplit ! $ fsplit ! $ move ! (1 ∷ [])
@@ -279,20 +284,20 @@ module _ {M : Type 1} (𝓤 : URA M) (H : Heap 𝓤) (A : Atoms 𝓤) (W : Given
         $ peeks ! answer-type.the-row (Is answer-type.the-row) (shows 𝓤 H A answer-type.the-row) (r .0) (v ∷ []) (λ is.
         at-once ! $ show ! (Back v) (r .0, (r .1 .1 .0, (r .1 .1 .1 .0, r .1 .1 .1 .1 .0)))
         $ check ! (record { is = is; did = did; one = e₁; two = e₂; three = e₃ })
-        $ keep ! (6 ∷ 7 ∷ 4 ∷ 3 ∷ 1 ∷ 0 ∷ []) $ frame ! $ frame ! $ nothing ! $ nothing ! $ fjoin ! $ nothing ! $ fjoin !
+        $ keep ! (6 ∷ 7 ∷ 4 ∷ 3 ∷ 1 ∷ 0 ∷ []) $ frame ! $ frame ! $ nothing ! $ nothing ! $ fjoin !
         $ move ! (3 ∷ 0 ∷ []) $ fjoin ! $ move ! (2 ∷ 0 ∷ []) $ fjoin ! $ move ! (1 ∷ 0 ∷ []) $ fjoin ! $ nothing !
         $ fjoin ! $ nothing ! $ fjoin ! $ done !))))))
 
   -- ## The walk
 
-  -- what the locals hold at the end: the seven parameters, and nothing else
+  -- what the locals hold at the end: the six parameters, and nothing else
   abbrev held : List (Option Val)
   held =
-      none ∷ just av ∷ just (vint w64 k) ∷ just (val P) ∷ just (val N) ∷ just (val Q) ∷ just (vint w64 w)
-      ∷ just (vint w64 h) ∷ []
+      none ∷ just av ∷ just (vint w64 k) ∷ just (val P) ∷ just (val N) ∷ just (val Q) ∷ just (mach-z shape)
+      ∷ []
 
   abbrev passing : List Val
-  passing = av ∷ vint w64 k ∷ val P ∷ val N ∷ val Q ∷ vint w64 w ∷ vint w64 h ∷ []
+  passing = av ∷ vint w64 k ∷ val P ∷ val N ∷ val Q ∷ mach-z shape ∷ []
 
   walk : (𝓣 : Tables 𝓤 H) → Triple 𝓤 (𝓣 .C #passlists·run-passes) (Callee 𝓤 H A mem run)
       → ent 𝓤 Entered (WpFn 𝓤 H (𝓣 .C) (𝓣 .Λ) code.function passing Post)
@@ -300,60 +305,53 @@ module _ {M : Type 1} (𝓤 : URA M) (H : Heap 𝓤) (A : Atoms 𝓤) (W : Given
       qed W (raw Entered ∷ []) ∵
       use1 W (‵ Own ⊛ ‵ Ours) starts $ split ! $ enter ! (𝓣 .C) (𝓣 .Λ) code.function passing _
       $ enters-all ! _ _ _ passing
-      (wt, ((tt, fk), ((tt, wp), ((tt, wn), ((tt, wq), ((tt, fw), ((tt, fh), tt)))))))
-      (λ l₀ l₁ l₂ l₃ l₄ l₅ l₆ l₇ l₈ l₉ l₁₀ l₁₁ l₁₂ l₁₃ l₁₄ l₁₅ l₁₆.
+      (wt, ((tt, fk), ((tt, wp), ((tt, wn), ((tt, wq), (wz, tt))))))
+      (λ l₀ l₁ l₂ l₃ l₄ l₅ l₆ l₇ l₈ l₉ l₁₀ l₁₁ l₁₂ l₁₃ l₁₄ l₁₅.
       -- the array is copied, and its first passes are lent
-      assigns ! (of-opd ! (load ! (from ! (stop !)) (look ! 2 refl))) (from ! (stop !)) (init ! 16 refl wt)
-      $ assigns ! (addr ! (from ! (stop !))) (from ! (stop !)) (init ! 18 refl (tt, tt))
-      $ assigns ! (agg ! (and-then ! (load ! (from ! (stop !)) (look ! 18 refl))
+      assigns ! (of-opd ! (load ! (from ! (stop !)) (look ! 2 refl))) (from ! (stop !)) (init ! 14 refl wt)
+      $ assigns ! (addr ! (from ! (stop !))) (from ! (stop !)) (init ! 16 refl (tt, tt))
+      $ assigns ! (agg ! (and-then ! (load ! (from ! (stop !)) (look ! 16 refl))
       (and-then ! (load ! (from ! (stop !)) (look ! 4 refl)) (no-more !))))
-      (from ! (stop !)) (init ! 20 refl (tt, (tt, (fk, tt))))
+      (from ! (stop !)) (init ! 18 refl (tt, (tt, (fk, tt))))
       -- so are the three slices
       $ assigns ! (addr ! (from ! (fld ! refl (hop ! (look-in ! 6 (sub ! 0 refl (whole !))) (stop !)))))
-      (from ! (stop !)) (init ! 22 refl (tt, tt))
-      $ assigns ! (agg ! (and-then ! (load ! (from ! (stop !)) (look ! 22 refl))
+      (from ! (stop !)) (init ! 20 refl (tt, tt))
+      $ assigns ! (agg ! (and-then ! (load ! (from ! (stop !)) (look ! 20 refl))
       (and-then ! (load ! (from ! (fld ! refl (stop !))) (look-in ! 6 (sub ! 1 refl (whole !)))) (no-more !))))
-      (from ! (stop !)) (init ! 24 refl (tt, wp))
+      (from ! (stop !)) (init ! 22 refl (tt, wp))
       $ assigns ! (addr ! (from ! (fld ! refl (hop ! (look-in ! 8 (sub ! 0 refl (whole !))) (stop !)))))
-      (from ! (stop !)) (init ! 26 refl (tt, tt))
-      $ assigns ! (agg ! (and-then ! (load ! (from ! (stop !)) (look ! 26 refl))
+      (from ! (stop !)) (init ! 24 refl (tt, tt))
+      $ assigns ! (agg ! (and-then ! (load ! (from ! (stop !)) (look ! 24 refl))
       (and-then ! (load ! (from ! (fld ! refl (stop !))) (look-in ! 8 (sub ! 1 refl (whole !)))) (no-more !))))
-      (from ! (stop !)) (init ! 28 refl (tt, wn))
+      (from ! (stop !)) (init ! 26 refl (tt, wn))
       $ assigns ! (addr ! (from ! (fld ! refl (hop ! (look-in ! 10 (sub ! 0 refl (whole !))) (stop !)))))
-      (from ! (stop !)) (init ! 30 refl (tt, tt))
-      $ assigns ! (agg ! (and-then ! (load ! (from ! (stop !)) (look ! 30 refl))
+      (from ! (stop !)) (init ! 28 refl (tt, tt))
+      $ assigns ! (agg ! (and-then ! (load ! (from ! (stop !)) (look ! 28 refl))
       (and-then ! (load ! (from ! (fld ! refl (stop !))) (look-in ! 10 (sub ! 1 refl (whole !)))) (no-more !))))
-      (from ! (stop !)) (init ! 32 refl (tt, wq))
+      (from ! (stop !)) (init ! 30 refl (tt, wq))
       -- `run_passes` is called
-      $ move ! (16 ∷ 34 ∷ 35 ∷ []) $ use3 W (later (some (λ (z : ℕ × GName).
-      raw (Callee 𝓤 H A mem run .pre (to l₈ z)) ⊛ ‵ (Keeps l₈ z)))) (goes-out l₈) $ await ! tt $ pick ! (λ z. split !
-      $ calls-at ! (fmOf 𝓤 H (W .laws) 𝓣) (Callee 𝓤 H A mem run) known (to l₈ z)
-      (and-then ! (load ! (from ! (stop !)) (look ! 21 refl)) (and-then ! (load ! (from ! (stop !)) (look ! 25 refl))
-      (and-then ! (load ! (from ! (stop !)) (look ! 29 refl)) (and-then ! (load ! (from ! (stop !)) (look ! 33 refl))
-      (and-then ! (load ! (from ! (stop !)) (look ! 14 refl)) (and-then ! (load ! (from ! (stop !)) (look ! 16 refl))
-      (no-more !))))))) (λ v.
+      $ move ! (14 ∷ 32 ∷ 33 ∷ []) $ use3 W (later (some (λ (z : ℕ × GName).
+      raw (Callee 𝓤 H A mem run .pre (to l₇ z)) ⊛ ‵ (Keeps l₇ z)))) (goes-out l₇) $ await ! tt $ pick ! (λ z. split !
+      $ calls-at ! (fmOf 𝓤 H (W .laws) 𝓣) (Callee 𝓤 H A mem run) known (to l₇ z)
+      (and-then ! (load ! (from ! (stop !)) (look ! 19 refl)) (and-then ! (load ! (from ! (stop !)) (look ! 23 refl))
+      (and-then ! (load ! (from ! (stop !)) (look ! 27 refl)) (and-then ! (load ! (from ! (stop !)) (look ! 31 refl))
+      (and-then ! (load ! (from ! (stop !)) (look ! 14 refl)) (no-more !)))))) (λ v.
       use2 W (later (some (λ (y : Answer × Three). given (Came v y)
-      (‵ (froom arr l₈ 0) ⊛ (‵ Alive ⊛ ‵ (Had (y .1)) ⊛ ‵ (answer-type.the-row .own (y .0) (v ∷ [])))))))
-      (comes-in l₈ z v) $ await ! tt $ pick ! (λ y. learn ! (λ c. split !
+      (‵ (froom arr l₇ 0) ⊛ (‵ Alive ⊛ ‵ (Had (y .1)) ⊛ ‵ (answer-type.the-row .own (y .0) (v ∷ [])))))))
+      (comes-in l₇ z v) $ await ! tt $ pick ! (λ y. learn ! (λ c. split !
       -- its answer is returned, and all that the locals hold is forgotten
       $ land ! (from ! (stop !)) (init ! 2 refl (typed v (y .0) (c .is))) $ returns ! (look ! 2 refl)
-      $ move ! (2 ∷ 3 ∷ 4 ∷ 5 ∷ 6 ∷ 7 ∷ 8 ∷ 9 ∷ 10 ∷ 11 ∷ 12 ∷ 13 ∷ 14 ∷ 15 ∷ 16 ∷ 17 ∷ 0 ∷ 18 ∷ 19 ∷ 20 ∷ 21 ∷ 22 ∷ 23
-      ∷ 24 ∷ 25 ∷ 26 ∷ 27 ∷ 28 ∷ 29 ∷ 30 ∷ 31 ∷ 32 ∷ 33 ∷ 34 ∷ [])
-      $ forget ! 0 refl $ forget ! 18 refl $ forget ! 20 refl $ forget ! 22 refl $ forget ! 24 refl $ forget ! 26 refl
-      $ forget ! 28 refl $ forget ! 30 refl $ forget ! 32 refl
+      $ move ! (2 ∷ 3 ∷ 4 ∷ 5 ∷ 6 ∷ 7 ∷ 8 ∷ 9 ∷ 10 ∷ 11 ∷ 12 ∷ 13 ∷ 14 ∷ 15 ∷ 0 ∷ 16 ∷ 17 ∷ 18 ∷ 19 ∷ 20 ∷ 21 ∷ 22 ∷ 23
+      ∷ 24 ∷ 25 ∷ 26 ∷ 27 ∷ 28 ∷ 29 ∷ 30 ∷ 31 ∷ 32 ∷ [])
+      $ forget ! 0 refl $ forget ! 16 refl $ forget ! 18 refl $ forget ! 20 refl $ forget ! 22 refl $ forget ! 24 refl
+      $ forget ! 26 refl $ forget ! 28 refl $ forget ! 30 refl
       $ frees-all ! (code.function .locals)
       (curried (code.function .locals) (λ _. Blocks (code.function .locals)) (λ bs. bs)
-      l₀ l₁ l₂ l₃ l₄ l₅ l₆ l₇ l₈ l₉ l₁₀ l₁₁ l₁₂ l₁₃ l₁₄ l₁₅ l₁₆)
+      l₀ l₁ l₂ l₃ l₄ l₅ l₆ l₇ l₈ l₉ l₁₀ l₁₁ l₁₂ l₁₃ l₁₄ l₁₅)
       held $ split3 ! $ by ! (exits v y c))))))
     where
       fk : Fits w64 k
       fk = record { fits = k-fits }
-
-      fw : Fits w64 w
-      fw = record { fits = w-fits }
-
-      fh : Fits w64 h
-      fh = record { fits = h-fits }
 
       wp : WT (val P)
       wp = (tt, (record { fits = rp .0 }, tt))
@@ -364,10 +362,14 @@ module _ {M : Type 1} (𝓤 : URA M) (H : Heap 𝓤) (A : Atoms 𝓤) (W : Given
       wq : WT (val Q)
       wq = (tt, (record { fits = rq .0 }, tt))
 
+      wz : T (hasTy shape-laws.mir (mach-z shape)) × WT (mach-z shape)
+      wz =
+          LL.lawful shape-type.the-type shape-laws.the-laws 𝓤 H A W .typed shape (mach-z shape ∷ []) shape-is .0
+
       wt : T (hasTy arr av) × WT av
       wt =
-          array-lawful 𝓤 H A W R (LL.lawful pass-type.the-type pass-laws.the-laws 𝓤 H A W) 1025 .typed ps (av ∷ [])
-          ps-is .0
+          array-lawful 𝓤 H A W R (LL.lawful pass-type.the-type pass-laws.the-laws 𝓤 H A W) arrayLength .typed ps
+          (av ∷ []) ps-is .0
 
       typed : (v : Val) (r : Answer) → Is answer-type.the-row r (v ∷ []) → T (hasTy answer-laws.mir v) × WT v
       typed v r is =
@@ -392,44 +394,41 @@ module _ {M : Type 1} (𝓤 : URA M) (H : Heap 𝓤) (A : Atoms 𝓤) (W : Given
               slice-vals,
               (
                 slice-vals,
-                (
-                  uint-vals w64,
-                  (
-                    uint-vals w64,
-                    tt,
-                  ),
-                ),
+                (LL.vals shape-type.the-type shape-laws.the-laws, tt),
               ),
             ),
           ),
         ),
       ))
       (λ κs. (
-        array-tells R pass-vals (LL.tells pass-type.the-type pass-laws.the-laws) 1025,
+        array-tells R pass-vals (LL.tells pass-type.the-type pass-laws.the-laws) arrayLength,
         (
           uint-tells w64,
           (
             mut-slice-tells (named 0) (κs .0) u8,
             (
               mut-slice-tells (named 1) (κs .1 .0) u8,
-              (mut-slice-tells (named 2) (κs .1 .1 .0) u32, (uint-tells w64, (uint-tells w64, tt))),
+              (
+                mut-slice-tells (named 2) (κs .1 .1 .0) u32,
+                (LL.tells shape-type.the-type shape-laws.the-laws, tt),
+              ),
             ),
           ),
         ),
       ))
-      (λ κs qs bounds a g are. needs 𝓤 (a .1 .0 ≤ 1025) _ (λ within.
+      (λ κs qs bounds a g are. needs 𝓤 (a .1 .0 ≤ arrayLength) _ (λ within.
       walk 𝓤 H A W mem run (loan (κs .0) (qs .0) (a .1 .1 .0)) (loan (κs .1 .0) (qs .1 .0) (a .1 .1 .1 .0))
       (loan (κs .1 .1 .0) (qs .1 .1 .0) (a .1 .1 .1 .1 .0)) (a .0) (a .1 .0)
-      (a .1 .1 .0 .now, (a .1 .1 .1 .0 .now, a .1 .1 .1 .1 .0 .now)) (a .1 .1 .1 .1 .1 .0) (a .1 .1 .1 .1 .1 .1 .0)
+      (a .1 .1 .0 .now, (a .1 .1 .1 .0 .now, a .1 .1 .1 .1 .0 .now)) (a .1 .1 .1 .1 .1 .0)
       (are .0) (are .0 .1 .0 .1) within (are .1 .1 .0 .0 .1) (are .1 .1 .1 .0 .0 .1) (are .1 .1 .1 .1 .0 .0 .1)
-      (are .1 .0 .1) (are .1 .1 .1 .1 .1 .0 .1) (are .1 .1 .1 .1 .1 .1 .0 .1)
+      (are .1 .0 .1) (are .1 .1 .1 .1 .1 .0)
       (record { one = refl; two = refl; three = refl }) 𝓣 known))
 
 run-front-meets : {M : Type 1} (𝓤 : URA M) (H : Heap 𝓤) (A : Atoms 𝓤) → Given 𝓤 H A → (mem : Memory → SProp 𝓤)
     (run : Routine → Fun 𝓤) (𝓣 : Tables 𝓤 H) → Triple 𝓤 (𝓣 .C #passlists·run-passes) (Callee 𝓤 H A mem run)
     → Meets 𝓤 H A run-front.signature (WpFn 𝓤 H (𝓣 .C) (𝓣 .Λ) code.function) (run-front.spec 𝓤 H A mem run)
 run-front-meets 𝓤 H A W mem run 𝓣 known = walk-meets 𝓤 H A run-front.ended stayed W (
-  goes-dropped 𝓤 H A W 3 (ArrayOf (plain (λ _. R)) (λ _. tt) 1025) yes (λ κs x f. refl),
+  goes-dropped 𝓤 H A W 3 (ArrayOf (plain (λ _. R)) (λ _. tt) arrayLength) yes (λ κs x f. refl),
   (
     goes-dropped 𝓤 H A W 3 (plain (λ _. usize)) yes (λ κs x f. refl),
     (
@@ -438,10 +437,7 @@ run-front-meets 𝓤 H A W mem run 𝓣 known = walk-meets 𝓤 H A run-front.en
         goes-gave-slice 𝓤 H A W 3 1 tt (plain (λ _. u8)),
         (
           goes-gave-slice 𝓤 H A W 3 2 tt (plain (λ _. u32)),
-          (
-            goes-dropped 𝓤 H A W 3 (plain (λ _. usize)) yes (λ κs x f. refl),
-            (goes-dropped 𝓤 H A W 3 (plain (λ _. usize)) yes (λ κs x f. refl), tt),
-          ),
+          (goes-dropped 𝓤 H A W 3 (plain (λ _. RZ)) yes (λ κs x f. refl), tt),
         ),
       ),
     ),

@@ -16,7 +16,7 @@ returns c = refused-by _ (c .before .refusal-of .ensures) (c .if1 .taken)
 treat-requires : tie.Need-treat-requires
 treat-requires c κs =
     let tested = c .before .before .before in
-    let fine = accepted _ _ _ _ (sym (tested .before .refusal-of .ensures) ∙ tested .if1 .left) in
+    let fine = accepted _ _ _ (sym (tested .before .refusal-of .ensures) ∙ tested .if1 .left) in
     (fine .0, ordered _ (fine .1))
 
 same-length : tie.Need-same-length

@@ -41,10 +41,14 @@ Shown S ys =
     fsep (ShrSlice (named 0) (S .κ) R .own (ref S (S .γ) ys) (sliceVal (S .b, S .o) (length ys) ∷ []))
     (flft (S .κ) (S .q))
 
--- the offset of an element fits: a pass takes 16 bytes
-pub scaled : (ys : List Pass) → Room R (length ys) → (i : ℕ) → i < length ys → Fits w64 (i * 16)
+-- how many bytes a pass takes in memory
+abbrev pub passSize : ℕ
+passSize = 16
+
+-- the offset of an element fits
+pub scaled : (ys : List Pass) → Room R (length ys) → (i : ℕ) → i < length ys → Fits w64 (i * passSize)
 scaled ys room i l =
-    let m : length ys * 16 < 2 ^ 63 = room .1 in
+    let m : length ys * passSize < 2 ^ 63 = room .1 in
     record { fits = omega arith }
 
 module _ {M : Type 1} {𝓤 : URA M} {H : Heap 𝓤} {A : Atoms 𝓤} {K : Type 0} {W : Given 𝓤 H A} {Γ : List (Item 𝓤)}
@@ -58,7 +62,7 @@ module _ {M : Type 1} {𝓤 : URA M} {H : Heap 𝓤} {A : Atoms 𝓤} {K : Type 
     {E : Env 𝓤 H} {C : Calls 𝓤 H} {Λ : Loops 𝓤 H} {q : Post 𝓤 H} where
   pub reads-pass : K → {rest : Body} {d k : ℕ} (S : Loan) (ys : List Pass) (i : ℕ) → i < length ys
       → (np nd : ℕ) {lp ld : ℕ} → spotOf 𝓤 H E k ≡ (tyPtr, lp, 0) → spotOf 𝓤 H E d ≡ (pass-laws.mir, ld, 0)
-      → nth 𝓤 H A np Γ ≡ ‵ (fat fullShare tyPtr lp 0 (vptr (S .b) (i * 16 + S .o)))
+      → nth 𝓤 H A np Γ ≡ ‵ (fat fullShare tyPtr lp 0 (vptr (S .b) (i * passSize + S .o)))
       → nth 𝓤 H A nd Γ ≡ ‵ (froom pass-laws.mir ld 0)
       → (Is R (getD ys i noPass) (mach (getD ys i noPass) ∷ [])
       → Seq K W (‵ (Shown S ys) ∷ put 𝓤 H A nd (‵ (fat fullShare pass-laws.mir ld 0 (mach (getD ys i noPass)))) Γ)
@@ -85,7 +89,7 @@ module _ {M : Type 1} {𝓤 : URA M} {H : Heap 𝓤} {A : Atoms 𝓤} {K : Type 
       pass : Pass
       pass = getD ys i noPass
 
-      at : nth 𝓤 H A np Γ ≡ ‵ (fat fullShare tyPtr lp 0 (vptr (S .b) (placed 16 (S .o) i)))
+      at : nth 𝓤 H A np Γ ≡ ‵ (fat fullShare tyPtr lp 0 (vptr (S .b) (placed passSize (S .o) i)))
       at =
           subst (λ (p : ℕ). nth 𝓤 H A np Γ ≡ ‵ (fat fullShare tyPtr lp 0 (vptr (S .b) p)))
-          (sym (place-is 16 (S .o) i)) ep
+          (sym (place-is passSize (S .o) i)) ep

@@ -1,6 +1,8 @@
 -- `tones::tone_table` meets its contract, by that of each rule. Assumes nothing.
-use Rattle.tones.proofs.Stores.{outside-both}
-use Rattle.tones.proofs.Histograms.{counted-of, tables-of}
+use Rattle.histograms.proofs.Stores.{outside-both}
+use Rattle.histograms.proofs.Histograms.{counted-of}
+use Rattle.histograms.proofs.Tables.{tables-of}
+use Rattle.tones.specs.Tones.{tone, kept}
 use borrow.Author.Needs.{needs}
 use Rattle.tones.proofs.tone_table.Statement.{statement}
 use Rattle.tones.proofs.tone_table.Tie as tie
@@ -27,6 +29,7 @@ limited-tones-requires : tie.Need-limited-tones-requires
 limited-tones-requires c κs = search needs
 
 returns : tie.Need-returns
+unfolding tone kept
 returns c =
     let rule = c .before .before .before .before .rule .given .1 in
     let counted = c .before .before .before .before .before .before in
@@ -41,6 +44,7 @@ returns c =
     }
 
 returns-2 : tie.Need-returns-2
+unfolding tone kept
 returns-2 c =
     let rule = c .before .before .before .before .rule2 .given .1 in
     let counted = c .before .before .before .before .before .before in

@@ -1,5 +1,5 @@
--- `cases::memory::fill_marks` is safe and ends. The loop's invariant: marks keep their length. The measure is what is left
--- of it. Assumes nothing.
+-- `cases::memory::fill_marks` is safe and ends. The loop's invariant: marks keep their length. The measure is what is
+-- left of it. Assumes nothing.
 use Prim.Native.Nat.{_-_}
 use mathlib.Core.Path.{_≡_}
 use native.Mathlib.Omega.{arith}

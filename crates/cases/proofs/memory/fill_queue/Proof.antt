@@ -1,5 +1,5 @@
--- `cases::memory::fill_queue` is safe and ends. The loop's invariant: the queue keeps its length. The measure is what is left
--- of it. Assumes nothing.
+-- `cases::memory::fill_queue` is safe and ends. The loop's invariant: the queue keeps its length. The measure is what
+-- is left of it. Assumes nothing.
 use Prim.Native.Nat.{_-_}
 use mathlib.Core.Path.{_≡_}
 use native.Mathlib.Omega.{arith}

@@ -1,0 +1,101 @@
+-- Branches, sections with the levels below them, by numbers in the marks. A pixel's mark is the number of the section
+-- that is due for it, and 0 where none is: those of an inert component are not entered again. Definitions only.
+--
+--   passOn     the pass on a section
+--   Ready      a plane with room for it, and settings that are not refused
+--   Due        a section is due
+--   Halves     a section is treated, and its halves are due
+--   Apart      what a branch leaves of plane and marks
+--   came       the effect that a plane and an answer stand for
+--   Equalised  what `equalise` does, in terms of the model's recursion
+--   Halved     what `split` does
+use Prim.Native.Nat.{ℕ, suc, _+_, _-_, _*_, _/_, _^_, _≤_, _<_}
+use mathlib.Core.Path.{_≡_}
+use mathlib.Core.Logic.{_⊎_}
+use mathlib.Core.Bool.{Bool, false}
+use mathlib.Core.List.{List, _++_}
+use Rattle.planes.specs.Lists.{at, Beyond}
+use Rattle.planes.specs.Shapes.{pixels, Lent}
+use Rattle.planes.specs.declared.Shape.{Shape}
+use Rattle.rows.specs.Stretches.{None}
+use Rattle.model.specs.declared.Pass.{Pass}
+use Rattle.model.specs.Neighbourhoods.{passNeighbours}
+use Rattle.model.specs.Effects.{Effect, runEffect}
+use Rattle.model.specs.Enhancement.{deep}
+use Rattle.sections.specs.Sections.{Coded}
+use Rattle.levels.specs.Levels.{Wide, Numbered, Away}
+use Rattle.levels.specs.declared.Settings.{Settings}
+
+-- ## Sections
+
+-- the pass on [a, b]
+abbrev pub passOn : Settings → ℕ → ℕ → Pass
+passOn t a b = record { a = a; b = b; area = t .area; rule = t .rule }
+
+-- a plane of the shape with room for it, and settings whose last level and area are not refused
+pub record Ready (z : Shape) (plane marks queue : ℕ) (t : Settings) : Type 0 where
+  pub lent : Lent z plane marks queue
+  pub last : t .last ≤ 7
+  pub area : 1 ≤ t .area
+
+-- the pixels of a section of the settings have the code, but for inert components
+abbrev pub CodedOn : (z : Shape) (t : Settings) (a b code : ℕ) (plane marks : List ℕ) → Type 0
+CodedOn z t a b code = Coded (passNeighbours z (passOn t a b)) (pixels z) code (passOn t a b)
+
+-- the section's pixels have its number, but for inert components, and no pixel has another one of its branch; where the
+-- section is not due, no pixel has its number either
+pub record Due (z : Shape) (a b code span : ℕ) (due : Bool) (t : Settings) (plane marks : List ℕ) : Type 0 where
+  pub d : ℕ
+  pub numbered : Numbered (t .last) a b d code span
+  pub coded : CodedOn z t a b code plane marks
+  pub marks-are : (p : ℕ) → p < pixels z → (at marks p ≡ code) ⊎ Away code span (at marks p)
+  pub found : due ≡ false → None marks code 0 (pixels z)
+
+-- the same of both halves of a section
+pub record Halves (z : Shape) (a b code span : ℕ) (lows highs : Bool) (t : Settings) (plane marks : List ℕ)
+    : Type 0 where
+  pub d : ℕ
+  pub numbered : Numbered (t .last) a b (suc d) code span
+  pub low : CodedOn z t a ((a + b) / 2) (code + 1) plane marks
+  pub high : CodedOn z t ((a + b) / 2 + 1) b (code + 1 + (span - 1) / 2) plane marks
+  pub marks-are : (p : ℕ) → p < pixels z
+      → ((at marks p ≡ code + 1) ⊎ (at marks p ≡ code + 1 + (span - 1) / 2)) ⊎ Away code span (at marks p)
+  pub low-found : lows ≡ false → None marks (code + 1) 0 (pixels z)
+  pub high-found : highs ≡ false → None marks (code + 1 + (span - 1) / 2) 0 (pixels z)
+
+-- ## What a branch leaves
+
+-- values stay in the section, and outside it as they are; the branch's numbers become 0, and other marks stay
+pub record Apart (n a b code span : ℕ) (plane marks plane' marks' : List ℕ) : Type 0 where
+  pub inside : (p : ℕ) → p < n → a ≤ at plane p → at plane p ≤ b → (a ≤ at plane' p) × (at plane' p ≤ b)
+  pub outside : (p : ℕ) → p < n → (at plane p < a) ⊎ (b < at plane p) → at plane' p ≡ at plane p
+  pub cleared : (p : ℕ) → p < n → code ≤ at marks p → at marks p < code + span → at marks' p ≡ 0
+  pub stays : (p : ℕ) → p < n → Away code span (at marks p) → at marks' p ≡ at marks p
+
+-- marks and queue keep their lengths and all entries from n on
+pub record Rest (n : ℕ) (marks queue marks' queue' : List ℕ) : Type 0 where
+  pub marks-rest : Beyond n marks marks'
+  pub queue-rest : Beyond n queue queue'
+
+-- the effect of a call that left the plane and answered the number of retoned components
+abbrev pub came : List ℕ → ℕ → Effect
+came plane r = record { plane = plane; retoned = r }
+
+-- a section with the levels below it; the bound carries the sum of the counts through the recursion
+pub record Equalised (z : Shape) (a b code span : ℕ) (t : Settings) (plane marks queue plane' marks' queue' : List ℕ)
+    (r : ℕ) : Type 0 where
+  pub model : (d k : ℕ) → Wide (t .last) a b d k
+      → came plane' r ≡ runEffect (passNeighbours z) (deep k (t .area) (t .rule) d a) plane
+  pub bound : r + 2097152 * a ≤ 2097152 * b + 1048576
+  pub apart : Apart (pixels z) a b code span plane marks plane' marks'
+  pub rest : Rest (pixels z) marks queue marks' queue'
+
+-- both halves with the levels below them
+pub record Halved (z : Shape) (a b code span : ℕ) (t : Settings) (plane marks queue plane' marks' queue' : List ℕ)
+    (r : ℕ) : Type 0 where
+  pub model : (d k : ℕ) → Wide (t .last) a b (suc d) k
+      → came plane' r ≡ runEffect (passNeighbours z)
+      (deep k (t .area) (t .rule) d a ++ deep k (t .area) (t .rule) d (a + 2 ^ (d + k))) plane
+  pub bound : r + 2097152 * a ≤ 2097152 * b
+  pub apart : Apart (pixels z) a b code span plane marks plane' marks'
+  pub rest : Rest (pixels z) marks queue marks' queue'

@@ -1,0 +1,3 @@
+pub mod Channels
+pub mod Quotients
+pub mod Scales

@@ -1,0 +1,88 @@
+-- How the library's answers and settings are written as numbers for a C caller. Definitions only.
+--
+--   encoded        an answer as one number: a refusal k as -k, and else the value
+--   numberReply    the reply that a number stands for, of a call that gives one value
+--   doneReply      the same of a call that gives none: 0 stands for done
+--   statusNumber   the answer of intensity or recolouring, encoded
+--   answerNumber   the answer of a pass, a list or an enhancement, encoded
+--   writtenNumber  the answer of writing, encoded
+--   numbersFor     the numbers of a rule, as in a record of a pass list
+--   passOf         the pass for its numbers
+--   settingsOf     the settings for their numbers; the rule's are those of a record of a pass list
+use Prim.Native.Nat.{ℕ, zero, suc, _<_}
+use mathlib.Core.Bool.{cond}
+use mathlib.Core.Path.{_≡_}
+use mathlib.Core.List.{List, [], _∷_}
+use lib.IntN.{ℤ, pos, negsuc}
+use lib.ListN.{length, drop}
+use lib.Dec.{ltb}
+use Rattle.planes.specs.Refusals.{when}
+use Rattle.planes.specs.Replies.{Reply, refuses, gives}
+use Rattle.model.specs.declared.Pass.{Pass}
+use Rattle.colours.specs.declared.Status.{Status}
+use Rattle.colours.specs.declared.Status.the-variants as Status
+use Rattle.model.specs.declared.Answer.{Answer}
+use Rattle.model.specs.declared.Answer.the-variants as Answer
+use Rattle.netpbm.specs.declared.Header.{Header}
+use Rattle.netpbm.specs.declared.Header.the-variants as Header
+use Rattle.netpbm.specs.declared.Written.{Written}
+use Rattle.netpbm.specs.declared.Written.the-variants as Written
+use Rattle.levels.specs.declared.Settings.{Settings}
+use Rattle.tones.specs.declared.RuleNumbers.{RuleNumbers}
+use Rattle.tones.specs.Numbers.{ruleOf}
+
+-- the number of a refusal, 0 where there is none, and a value; negsuc k is -(k + 1)
+abbrev pub encoded : ℕ → ℕ → ℤ
+encoded zero value = pos value
+encoded (suc k) value = negsuc k
+
+-- negsuc k is -(k + 1), which stands for the refusal k + 1
+abbrev pub numberReply : ℤ → Reply
+numberReply (pos value) = gives (value ∷ [])
+numberReply (negsuc k) = refuses (suc k)
+
+abbrev pub doneReply : ℤ → Reply
+doneReply (pos zero) = gives []
+doneReply (pos (suc value)) = gives (suc value ∷ [])
+doneReply (negsuc k) = refuses (suc k)
+
+-- the answers of the calls as numbers
+abbrev pub statusNumber : Status → ℤ
+statusNumber Status.Done = encoded 0 0
+statusNumber (Status.Refused k) = encoded k 0
+
+abbrev pub answerNumber : Answer → ℤ
+answerNumber (Answer.Refused k) = encoded k 0
+answerNumber (Answer.Done count) = encoded 0 count
+
+abbrev pub writtenNumber : Written → ℤ
+writtenNumber (Written.Refused k) = encoded k 0
+writtenNumber (Written.Length size) = encoded 0 size
+
+-- a length that a signed number of 64 bits holds
+pub record Short (r : Written) : Type 0 where
+  pub short : (size : ℕ) → r ≡ Written.Length size → size < 9223372036854775808
+
+-- a rule by its numbers, as in a record of a pass list whose extra byte is 0
+abbrev pub numbersFor : ℕ → ℕ → ℕ → RuleNumbers
+numbersFor rule first second = record { code = rule; extra = 0; first = first; second = second }
+
+abbrev pub passOf : ℕ → ℕ → ℕ → ℕ → ℕ → ℕ → Pass
+passOf a b area rule first second = record { a = a; b = b; area = area; rule = ruleOf (numbersFor rule first second) }
+
+abbrev pub settingsOf : ℕ → ℕ → ℕ → ℕ → ℕ → Settings
+settingsOf last area rule first second =
+    record { last = last; area = area; rule = ruleOf (numbersFor rule first second) }
+
+-- ## What reading answers
+
+-- the answer for what reading gives: its refusal, then 14 where fewer than three numbers are lent, else 0
+abbrev pub readNumber : Header → ℕ → ℤ
+readNumber (Header.Refused k) lent = encoded k 0
+readNumber (Header.Frame w h offset) lent = encoded (when (ltb lent 3) 14) 0
+
+-- the lent numbers afterwards; those beyond the first three stay
+abbrev pub numbersAfter : Header → List ℕ → List ℕ
+numbersAfter (Header.Refused k) numbers = numbers
+numbersAfter (Header.Frame w h offset) numbers =
+    cond (ltb (length numbers) 3) numbers (w ∷ h ∷ offset ∷ drop 3 numbers)

@@ -1,0 +1,5 @@
+pub mod Bytes
+pub mod Parsers
+pub mod Grammar
+pub mod Cursors
+pub mod Headers

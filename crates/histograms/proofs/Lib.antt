@@ -1,0 +1,7 @@
+pub mod Sums
+pub mod Values
+pub mod Scaled
+pub mod Stores
+pub mod Histograms
+pub mod Tables
+pub mod Components

@@ -1,0 +1,120 @@
+-- What stores leave: entries filled one after another, sums made in place, and counts. The invariant of each loop has a
+-- law for where it begins and one for a turn. Assumes nothing.
+use Prim.Native.Nat.{ℕ, _+_, _-_, _≤_, _<_}
+use mathlib.Core.Path.{_≡_, refl, sym, ap, _∙_}
+use mathlib.Core.Bool.{Bool, true, false, cond}
+use mathlib.Core.List.{List, [], _∷_, _++_, map-append}
+use native.Mathlib.Nat.{min-le-left}
+use native.Mathlib.Omega.{arith}
+use native.Mathlib.Numerals.{add-one}
+use lib.ListN.{length, set, take, length-set, length-map, length-take}
+use lib.Seq.{getD-set-other, take-suc}
+use lib.Dec.{eqb}
+use borrow.Author.Tests.{eq-eqb, ne-eqb}
+use Rattle.planes.specs.Lists.{count, at}
+use Rattle.planes.proofs.Counts.{count-le, count-snoc}
+use Rattle.planes.proofs.Stores.{at-set}
+use Rattle.histograms.specs.Values.{sumTo}
+use Rattle.histograms.specs.Histograms.{values, Outside, Tally, Refilled}
+use Rattle.histograms.proofs.Sums.{sumTo-first, sumTo-next}
+
+-- ## Entries filled one after another
+
+pub refilled-none : {f : ℕ → ℕ} {a : ℕ} (l : List ℕ) → Refilled f a a l l
+refilled-none l = record { size = refl; new = λ v h g. absurd (omega arith); old = λ v h. refl }
+
+pub refilled-more : {f : ℕ → ℕ} {a e x : ℕ} {l l' : List ℕ} → Refilled f a e l l' → a ≤ e → e < length l → x ≡ f e
+    → Refilled f a (e + 1) l (set l' e x)
+refilled-more {f} {a} {e} {x} {l} {l'} h ae room eq = record {
+  size = simp length-set (h .size);
+  new = λ v av ve. at-set (λ n. n ≡ f v) l' e v x (omega (arith, h .size))
+      (λ (s : v ≡ e). eq ∙ ap f (sym s))
+      (λ o. h .new v av (omega arith));
+  old = λ v out. getD-set-other l' e v x 0 (λ s. out (omega arith) (omega arith))
+      ∙ h .old v (λ av ve. out av (omega arith));
+}
+
+-- ## What stays outside [a, b]
+
+pub outside-none : {a b : ℕ} (l : List ℕ) → Outside a b l l
+outside-none l = record { size = refl; rest = λ v out. refl }
+
+pub outside-more : {a b v : ℕ} {l l' : List ℕ} (x : ℕ) → Outside a b l l' → a ≤ v → v ≤ b → Outside a b l (set l' v x)
+outside-more {v = v} {l' = l'} x h av vb = record {
+  size = simp length-set (h .size);
+  rest = λ u out. getD-set-other l' v u x 0 (λ s. out (omega arith) (omega arith)) ∙ h .rest u out;
+}
+
+pub outside-both : {a b : ℕ} {l l' l'' : List ℕ} → Outside a b l l' → Outside a b l' l'' → Outside a b l l''
+outside-both h g = record { size = g .size ∙ h .size; rest = λ v out. g .rest v out ∙ h .rest v out }
+
+pub refilled-outside : {f : ℕ → ℕ} {a b : ℕ} {l l' : List ℕ} → Refilled f a (b + 1) l l' → Outside a b l l'
+refilled-outside h = record { size = h .size; rest = λ v out. h .old v (λ av ve. out av (omega arith)) }
+
+-- ## Sums made in place
+
+-- the entry at a is its own sum
+pub summing-first : (a : ℕ) (l : List ℕ) → Refilled (sumTo (at l) a) a (a + 1) l l
+summing-first a l = record {
+  size = refl;
+  new = λ v av ve. let s : v ≡ a = omega arith in rw s (sym (sumTo-first (at l) a));
+  old = λ v h. refl;
+}
+
+-- what is stored after v
+pub summing-next : {a v : ℕ} {l l' : List ℕ} → Refilled (sumTo (at l) a) a (v + 1) l l' → a ≤ v
+    → at l' (v + 1) + at l' v ≡ sumTo (at l) a (v + 1)
+summing-next {a} {v} {l} {l'} h av = omega (
+  arith,
+  h .old (v + 1) (λ _ g. omega arith),
+  h .new v av (omega arith),
+  sumTo-next (at l) av,
+)
+
+-- ## Counts
+
+one-more : (f : ℕ → Bool) (vs : List ℕ) (x : ℕ) → f x ≡ true → count f (vs ++ (x ∷ [])) ≡ count f vs + 1
+one-more f vs x e = omega (arith, count-snoc f vs x ∙ ap (λ t. cond t 1 0 + count f vs) e)
+
+no-more : (f : ℕ → Bool) (vs : List ℕ) (x : ℕ) → f x ≡ false → count f (vs ++ (x ∷ [])) ≡ count f vs
+no-more f vs x e = omega (arith, count-snoc f vs x ∙ ap (λ t. cond t 1 0 + count f vs) e)
+
+grow : {a b : ℕ} {vs counts : List ℕ} (x : ℕ) → Tally a b vs counts → a ≤ x → x ≤ b → x < 256
+    → Tally a b (vs ++ (x ∷ [])) (set counts x (at counts x + 1))
+grow {a} {b} {vs} {counts} x h ax xb small = record {
+  size = simp length-set (h .size);
+  entry = λ v av vb. at-set (λ n. n ≡ count (eqb v) (vs ++ (x ∷ []))) counts x v (at counts x + 1)
+      (omega (arith, h .size))
+      (λ (s : v ≡ x). omega (
+        arith,
+        h .entry x ax xb,
+        ap (λ u. count (eqb u) vs) s,
+        one-more (eqb v) vs x (eq-eqb v x s),
+      ))
+      (λ o. omega (arith, h .entry v av vb, no-more (eqb v) vs x (ne-eqb v x o)));
+}
+
+pub tally-none : {a b : ℕ} (plane queue : List ℕ) {counts : List ℕ} → length counts ≡ 256
+    → ((v : ℕ) → a ≤ v → v ≤ b → at counts v ≡ 0) → Tally a b (values plane queue 0) counts
+tally-none plane queue size zeros = record { size = size; entry = zeros }
+
+pub tally-more : (plane queue : List ℕ) (i : ℕ) {a b : ℕ} {counts : List ℕ} → Tally a b (values plane queue i) counts
+    → i < length queue → a ≤ at plane (at queue i) → at plane (at queue i) ≤ b → at plane (at queue i) < 256
+    → Tally a b (values plane queue (i + 1))
+    (set counts (at plane (at queue i)) (at counts (at plane (at queue i)) + 1))
+tally-more plane queue i h lt low high small =
+    let next : values plane queue (i + 1) ≡ values plane queue i ++ (at plane (at queue i) ∷ [])
+    = rw (add-one, take-suc queue i 0 lt, map-append) in
+    rw next (grow (at plane (at queue i)) h low high small)
+
+-- no value occurs more often than there are entries
+pub tally-le : (plane queue : List ℕ) (i v : ℕ) {a b : ℕ} {counts : List ℕ} → Tally a b (values plane queue i) counts
+    → a ≤ v → v ≤ b → at counts v ≤ i
+tally-le plane queue i v h av vb = omega (
+  arith,
+  h .entry v av vb,
+  count-le (eqb v) (values plane queue i),
+  length-map (take i queue) (at plane),
+  length-take i queue,
+  min-le-left i (length queue),
+)

@@ -1,0 +1,4 @@
+pub mod Values
+pub mod Sound
+pub mod Histograms
+pub mod Tables

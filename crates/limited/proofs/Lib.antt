@@ -1,0 +1,4 @@
+pub mod Sound
+pub mod Ends
+pub mod Stores
+pub mod Histograms

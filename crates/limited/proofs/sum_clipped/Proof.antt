@@ -1,0 +1,35 @@
+-- `limited::sum_clipped` meets its contract: the sums of the clipped counts are those of the definition. Assumes
+-- nothing.
+use mathlib.Core.Path.{_∙_}
+use native.Mathlib.Nat.{mul-le-mul-left}
+use Rattle.histograms.proofs.Stores.{outside-both, refilled-outside}
+use Rattle.limited.proofs.Histograms.{clips-le, clipped-of}
+use borrow.Author.Needs.{needs}
+use native.Mathlib.Omega.{arith}
+use Rattle.limited.proofs.sum_clipped.Statement.{statement}
+use Rattle.limited.proofs.sum_clipped.Tie as tie
+
+clip-of-requires : tie.Need-clip-of-requires
+clip-of-requires c κs = omega (arith, mul-le-mul-left {m = c .args .m} {n = 1048576} (c .args .k) (c .pre .few))
+
+clip-requires : tie.Need-clip-requires
+clip-requires c κs = search needs
+
+sum-up-requires : tie.Need-sum-up-requires
+sum-up-requires c κs =
+    let pre = c .before .before .before .before .pre in
+    let clip = c .before .clip .ensures in
+    let most = c .before .before .before .clip-of .result in
+    (clip .size ∙ pre .size, (pre .order, omega (arith, clips-le pre most clip, pre .few)))
+
+returns : tie.Need-returns
+returns c =
+    let start = c .before .before .before .before .before in
+    let most = c .before .before .before .before .clip-of .ensures in
+    let clip = c .before .before .clip .ensures in (
+      clipped-of (start .args .k) (start .args .m) (start .pre) most clip (c .sum-up .ensures),
+      outside-both (refilled-outside clip) (refilled-outside (c .sum-up .ensures)),
+    )
+
+pub sum-clipped-spec : {M : Type 1} → statement M
+sum-clipped-spec = tie.close (tie.spec clip-of-requires clip-requires sum-up-requires returns)

@@ -1,0 +1,60 @@
+-- The limited rule: what the value v of a component in the section [a, b] becomes. It sees only the list vs of the
+-- component's values, and keeps nothing back. Definitions only.
+--
+-- For callers:
+--   clipped       a value's clipped count, in thousandths of a pixel
+--   limitedTone   the sum of the clipped counts up to v, with its share of what the clipping left over, scaled
+--   neverKept     the rule keeps nothing back
+-- For the functions within:
+--   limitedBy     the tone, by the sums of the clipped counts
+--   ClippedSums   the sums of the clipped counts, by every list of values that has the counts
+--   Filled        a table with new entries at the values of the listed pixels
+use Prim.Native.Nat.{ℕ, _+_, _-_, _*_, _≤_, _<_, min}
+use mathlib.Core.Path.{_≡_}
+use mathlib.Core.Bool.{Bool, false}
+use mathlib.Core.List.{List}
+use lib.ListN.{length}
+use lib.Dec.{eqb}
+use Rattle.planes.specs.Lists.{count, at}
+use Rattle.histograms.specs.Values.{sumTo, scaled}
+use Rattle.histograms.specs.Histograms.{Histogram, Sums}
+
+-- ## The rule
+
+-- the count q of the value v gives min (1000 q) (k m)
+unfoldable pub clipped : ℕ → List ℕ → ℕ → ℕ
+clipped k vs v = min (1000 * count (eqb v) vs) (k * length vs)
+
+-- w is W, the number of values of [a, b], n of which are no greater than v; all is 1000 m; e is E, what the clipping
+-- leaves over. Each value has its clipped count and E / W more, so that the sum up to v over 1000 m is
+-- (W * sum of the clipped counts + n * E) / (W * 1000 m). Nothing but the tone is rounded.
+unfoldable pub limitedTone : ℕ → ℕ → ℕ → List ℕ → ℕ → ℕ
+limitedTone k a b vs v =
+    let w = b - a + 1 in
+    let n = v - a + 1 in
+    let all = 1000 * length vs in
+    let e = all - sumTo (clipped k vs) a b in
+    scaled a b (w * sumTo (clipped k vs) a v + n * e) (w * all)
+
+abbrev pub neverKept : List ℕ → Bool
+neverKept vs = false
+
+-- ## Sums and tables
+
+-- the limited rule's tone of v, by the sums of the clipped counts
+abbrev pub limitedBy : List ℕ → ℕ → ℕ → ℕ → ℕ → ℕ
+limitedBy sums m a b v =
+    let w = b - a + 1 in
+    let n = v - a + 1 in
+    let all = 1000 * m in
+    scaled a b (w * at sums v + n * (all - at sums b)) (w * all)
+
+-- the sums of the clipped counts, and that they give the limited rule's tones
+pub record ClippedSums (k m a b : ℕ) (counts sums : List ℕ) : Type 0 where
+  pub rising : Sums sums (1000 * m) m a b
+  pub exact : (vs : List ℕ) → Histogram a b vs counts → (v : ℕ) → a ≤ v → v ≤ b
+      → limitedBy sums m a b v ≡ limitedTone k a b vs v
+
+-- at the value of each of the queue's first m pixels, the entry is that of f
+pub record Filled (f : ℕ → ℕ) (plane queue table : List ℕ) (m : ℕ) : Type 0 where
+  pub entry : (i : ℕ) → i < m → at table (at plane (at queue i)) ≡ f (at plane (at queue i))

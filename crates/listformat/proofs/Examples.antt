@@ -1,0 +1,39 @@
+-- The worked examples of the refusals of a list hold, by computation. Assumes nothing.
+use mathlib.Core.Path.{refl}
+use Rattle.tones.specs.Refusals.{ruleRefusal}
+use Rattle.tones.specs.Numbers.{malformed}
+use Rattle.model.specs.Calls.{areaRefusal, numbersRefusal}
+use Rattle.listformat.specs.Format.{passAt, misnamed, miscounted, headRefusal}
+use Rattle.listformat.specs.Refusals.{recordRefusal, recordRefusals, listRefusal}
+use Rattle.listformat.specs.Examples.{ListRefusals}
+
+pub list-refusals : ListRefusals
+unfolding listRefusal headRefusal misnamed miscounted malformed recordRefusals recordRefusal passAt numbersRefusal
+    areaRefusal ruleRefusal
+list-refusals = record {
+  no-passes = refl;
+  two-passes = refl;
+  limited = refl;
+  nothing = refl;
+  mark-alone = refl;
+  six-bytes = refl;
+  other-mark = refl;
+  other-version = refl;
+  mark-before-count = refl;
+  many = refl;
+  short = refl;
+  long = refl;
+  length-before-record = refl;
+  rule-two = refl;
+  zero-byte = refl;
+  second-number = refl;
+  interval = refl;
+  area-zero = refl;
+  area-large = refl;
+  low-above-high = refl;
+  high-large = refl;
+  clip-large = refl;
+  form-first = refl;
+  first-record = refl;
+  last-record = refl;
+}

@@ -1,0 +1,4 @@
+pub mod Numbers
+pub mod Format
+pub mod Refusals
+pub mod Examples

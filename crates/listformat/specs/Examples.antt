@@ -1,0 +1,54 @@
+-- Worked examples of the refusals of a list: each way in which it is refused, and the order of the refusals.
+-- Definitions only.
+use Prim.Native.Nat.{ℕ}
+use mathlib.Core.Path.{_≡_}
+use mathlib.Core.List.{List, [], _∷_, _++_}
+use lib.ListN.{set}
+use Rattle.listformat.specs.Refusals.{listRefusal}
+
+-- the head of a list of n records, n below 256
+abbrev pub head : ℕ → List ℕ
+head n = 77 ∷ 76 ∷ 80 ∷ 1 ∷ 0 ∷ n ∷ 0 ∷ []
+
+-- the record of example Q
+abbrev pub recordQ : List ℕ
+recordQ = 0 ∷ 127 ∷ 0 ∷ 0 ∷ 1 ∷ 0 ∷ 0 ∷ 0 ∷ 0 ∷ 0 ∷ 156 ∷ 99 ∷ []
+
+abbrev pub one : List ℕ → List ℕ
+one r = head 1 ++ r
+
+abbrev pub two : List ℕ → List ℕ → List ℕ
+two r s = head 2 ++ (r ++ s)
+
+pub record ListRefusals : Type 0 where
+  pub no-passes : listRefusal (head 0) ≡ 0
+  pub two-passes : listRefusal (two recordQ recordQ) ≡ 0
+  pub limited : listRefusal (one (0 ∷ 127 ∷ 1 ∷ 0 ∷ 1 ∷ 0 ∷ 0 ∷ 0 ∷ 232 ∷ 3 ∷ 0 ∷ 0 ∷ [])) ≡ 0
+  -- 16: under 7 bytes
+  pub nothing : listRefusal [] ≡ 16
+  pub mark-alone : listRefusal (77 ∷ 76 ∷ 80 ∷ []) ≡ 16
+  pub six-bytes : listRefusal (77 ∷ 76 ∷ 81 ∷ 1 ∷ 0 ∷ 0 ∷ []) ≡ 16
+  -- 15: the mark or the version, before the count
+  pub other-mark : listRefusal (77 ∷ 76 ∷ 81 ∷ 1 ∷ 0 ∷ 0 ∷ 0 ∷ []) ≡ 15
+  pub other-version : listRefusal (77 ∷ 76 ∷ 80 ∷ 1 ∷ 1 ∷ 0 ∷ 0 ∷ []) ≡ 15
+  pub mark-before-count : listRefusal (77 ∷ 76 ∷ 81 ∷ 1 ∷ 0 ∷ 1 ∷ 4 ∷ []) ≡ 15
+  -- 16: the count or the length
+  pub many : listRefusal (77 ∷ 76 ∷ 80 ∷ 1 ∷ 0 ∷ 1 ∷ 4 ∷ []) ≡ 16
+  pub short : listRefusal (head 1) ≡ 16
+  pub long : listRefusal (head 0 ++ recordQ) ≡ 16
+  pub length-before-record : listRefusal (head 2 ++ set recordQ 2 2) ≡ 16
+  -- 17: the rule, the zero byte, limited's second number
+  pub rule-two : listRefusal (one (set recordQ 2 2)) ≡ 17
+  pub zero-byte : listRefusal (one (set recordQ 3 1)) ≡ 17
+  pub second-number : listRefusal (one (set recordQ 2 1)) ≡ 17
+  -- 5 to 8: the pass's own numbers
+  pub interval : listRefusal (one (set recordQ 0 128)) ≡ 5
+  pub area-zero : listRefusal (one (set recordQ 4 0)) ≡ 6
+  pub area-large : listRefusal (one (set recordQ 6 16)) ≡ 6
+  pub low-above-high : listRefusal (one (set recordQ 9 100)) ≡ 7
+  pub high-large : listRefusal (one (set recordQ 10 157)) ≡ 7
+  pub clip-large : listRefusal (one (0 ∷ 127 ∷ 1 ∷ 0 ∷ 1 ∷ 0 ∷ 0 ∷ 0 ∷ 233 ∷ 3 ∷ 0 ∷ 0 ∷ [])) ≡ 8
+  -- the first bad record decides, and in a record 17 comes first
+  pub form-first : listRefusal (one (set (set recordQ 0 128) 3 1)) ≡ 17
+  pub first-record : listRefusal (two (set recordQ 0 128) (set recordQ 3 1)) ≡ 5
+  pub last-record : listRefusal (two recordQ (set recordQ 3 1)) ≡ 17

@@ -1,0 +1,57 @@
+-- `passturns::step` meets its contract: the pass is treated, and its count added; there is room for the sum. Assumes
+-- nothing.
+use Prim.Native.Nat.{ℕ, _+_}
+use mathlib.Core.Path.{ap}
+use mathlib.Core.Bool.{true}
+use native.Mathlib.Omega.{arith}
+use borrow.Author.Needs.{needs}
+use Rattle.passturns.specs.declared.Progress.{Progress}
+use Rattle.passturns.proofs.step.Statement.{statement}
+use Rattle.passturns.proofs.step.Tie as tie
+
+treat-requires : tie.Need-treat-requires
+treat-requires c κs =
+    let ready = c .before .before .before .before .before .before .pre .1 in
+    (ready .lent, ready .order)
+
+add-t14 : tie.Need-add-t14
+add-t14 c = search needs
+
+add-t15 : tie.Need-add-t15
+add-t15 c =
+    let treated = c .before .before .before .before .before .before .before .before in
+    let start = treated .before .before .before .before .before .before .before in
+    omega (arith, treated .treat .ensures .count-is, start .pre .1 .room)
+
+same-length : tie.Need-same-length
+same-length c = search needs
+
+same-length-2 : tie.Need-same-length-2
+same-length-2 c = search needs
+
+same-length-3 : tie.Need-same-length-3
+same-length-3 c = search needs
+
+returns : tie.Need-returns
+returns c =
+    let treated = c .before .before .before .before .before .before .before .before in
+    let start = treated .before .before .before .before .before .before .before in
+    let over = treated .treat .ensures in
+    let s : Progress = start .args .s in
+    record {
+      state-is = ap (λ (n : ℕ). record {
+        at = s .at + 1;
+        end = s .end;
+        sum = s .sum + n;
+        refusal = 0;
+        running = true;
+      }) (over .count-is);
+      plane-is = over .plane-is;
+      marks-rest = over .marks-rest;
+      queue-rest = over .queue-rest;
+    }
+
+pub step-spec : {M : Type 1} → statement M
+step-spec =
+    tie.close
+    (tie.spec treat-requires add-t14 add-t15 same-length same-length-2 same-length-3 returns)

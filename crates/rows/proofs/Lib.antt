@@ -1,0 +1,5 @@
+pub mod Rows
+pub mod Codes
+pub mod Stretches
+pub mod Taken
+pub mod Runs

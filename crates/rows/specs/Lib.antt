@@ -1,0 +1,4 @@
+pub mod Rows
+pub mod Codes
+pub mod Stretches
+pub mod Runs

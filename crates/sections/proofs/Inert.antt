@@ -1,0 +1,135 @@
+-- An inert component stays as it is: neither the pass changes it, nor a later pass with the same rule and no smaller
+-- least area on a part of its section. The components of the part lie in those of the section, so they are no larger,
+-- and have no other values. For any symmetric neighbour relation. Assumes nothing.
+use Prim.Native.Nat.{ℕ, _≤_, _<_}
+use mathlib.Core.Path.{_≡_, refl, sym, ap, ap₂, subst, _∙_}
+use mathlib.Core.Logic.{inl, inr}
+use mathlib.Core.Bool.{Bool, true, false, not, _&&_, _||_, and-false}
+use mathlib.Core.List.{List}
+use mathlib.Mathlib.Data.Bool.Basic.{or-inl, or-inr, and-elim-left, and-elim-right, and-intro}
+use native.Mathlib.Omega.{arith}
+use lib.ListN.{length}
+use lib.Dec.{leb, ltb, eqb}
+use borrow.Author.Tests.{ltb-true, lt-ltb, lt-leb}
+use Rattle.planes.specs.Lists.{from, every, count, at}
+use Rattle.planes.specs.Shapes.{Symmetric}
+use Rattle.planes.specs.Neighbours.{Near, linked}
+use Rattle.planes.proofs.Tests.{or-cases}
+use Rattle.planes.proofs.Counts.{count-mono-from}
+use Rattle.planes.proofs.Links.{chain-map, linked-iff}
+use Rattle.tones.specs.declared.Rule.{Rule}
+use Rattle.histograms.specs.Histograms.{Alike}
+use Rattle.tones.specs.Tones.{kept}
+use Rattle.tones.specs.Lone.{lone}
+use Rattle.tones.proofs.Lone.{lone-kept, lone-alike, lone-part}
+use Rattle.model.specs.declared.Pass.{Pass}
+use Rattle.model.specs.Passes.{within, inside, componentValues, changes, passed}
+use Rattle.model.proofs.Components.{values-length, every-value, value-every, out-tone, linked-values, still-tone}
+use Rattle.model.proofs.Order.{in-of, in-to, length-passed, passed-at}
+use Rattle.sections.specs.Sections.{small, inert}
+
+-- ## An inert component is not changed
+
+pub inert-still : (s : Pass) (vs : List ℕ) → inert s vs ≡ true → changes s vs ≡ false
+unfolding inert small changes
+inert-still s vs e = elim (or-cases (ltb (length vs) (s .area)) (lone (s .rule) vs) e) [
+  | inl d ↦ ap (_&& not (kept (s .rule) (s .a) (s .b) vs)) (lt-leb (s .area) (length vs) (ltb-true _ _ d))
+  | inr d ↦ ap (λ (t : Bool). leb (s .area) (length vs) && not t) (lone-kept (s .rule) (s .a) (s .b) vs d)
+      ∙ and-false (leb (s .area) (length vs))
+]
+
+-- ## The same values in another order
+
+pub inert-alike : (s : Pass) (vs ws : List ℕ) → Alike vs ws → inert s vs ≡ inert s ws
+unfolding inert small
+inert-alike s vs ws A = ap₂ _||_ (ap (λ (k : ℕ). ltb k (s .area)) (A .size)) (lone-alike (s .rule) A)
+
+-- ## A part of the section
+
+-- t is a pass on a part of the section of s, with the same rule and no smaller least area
+pub record Part (s t : Pass) : Type 0 where
+  pub low : s .a ≤ t .a
+  pub high : t .b ≤ s .b
+  pub area : s .area ≤ t .area
+  pub rule : t .rule ≡ s .rule
+
+pub part-within : {s t : Pass} → Part s t → (v : ℕ) → within t v ≡ true → within s v ≡ true
+part-within {s} {t} P v e =
+    let i = in-of t v e in
+    in-to s v (omega (arith, P .low)) (omega (arith, P .high))
+
+module _ (near : Near) (symm : Symmetric near) (s t : Pass) (P : Part s t) (p : List ℕ) where
+  abbrev n : ℕ
+  n = length p
+
+  -- the plane after the pass on s
+  abbrev q : List ℕ
+  q = passed near s p
+
+  pub was-within : (i : ℕ) → i < n → within s (at q i) ≡ true → within s (at p i) ≡ true
+  was-within i h e = go (within s (at p i)) refl
+    where
+      go : (b : Bool) → within s (at p i) ≡ b → within s (at p i) ≡ true
+      go true d = d
+      go false d = ap (within s) (sym (passed-at near s p i h ∙ out-tone near s p i d)) ∙ e
+
+  pub inside-part : (u v : ℕ) → u < n → v < n → inside near t q u v ≡ true → inside near s p u v ≡ true
+  unfolding inside
+  inside-part u v hu hv e =
+      let both = and-elim-left (within t (at q u) && within t (at q v)) (near u v) e in
+      let wu = part-within P (at q u) (and-elim-left (within t (at q u)) (within t (at q v)) both) in
+      let wv = part-within P (at q v) (and-elim-right (within t (at q u)) (within t (at q v)) both) in
+      let e′ = and-elim-right (within t (at q u) && within t (at q v)) (near u v) e in
+      and-intro (and-intro (was-within u hu wu) (was-within v hv wv)) e′
+
+  -- a component of the part lies in one of the section
+  pub linked-part : (i x : ℕ) → i < n → x < n → linked (inside near t q) n i x ≡ true
+      → linked (inside near s p) n i x ≡ true
+  linked-part i x hi hx e =
+      let c = linked-iff (inside near t q) n i x hi hx .0 e in
+      linked-iff (inside near s p) n i x hi hx .1 (chain-map n (inside near t q) (inside near s p) inside-part hi c .1)
+
+  same-size : length q ≡ n
+  same-size = length-passed near s p
+
+  no-larger : (i : ℕ) → i < n → length (componentValues near t q i) ≤ length (componentValues near s p i)
+  no-larger i hi =
+      let larger = values-length near s p i in
+      let smaller =
+      values-length near t q i
+      ∙ ap (λ (k : ℕ). count (linked (inside near t q) k i) (from 0 k)) same-size in
+      let fewer = count-mono-from (linked (inside near t q) n i) (linked (inside near s p) n i) 0 n
+      (λ x _ h d. linked-part i x hi (omega arith) d) in
+      omega arith
+
+  -- a component of the part has no other values
+  one-part : (i : ℕ) → i < n → inert s (componentValues near s p i) ≡ true
+      → (v : ℕ) → every (eqb v) (componentValues near s p i) ≡ true → every (eqb v) (componentValues near t q i) ≡ true
+  one-part i hi e v one = every-value near t q i (eqb v) (λ x hx d.
+      let hx′ : x < n = omega (arith, same-size) in
+      let d′ = subst (λ (k : ℕ). linked (inside near t q) k i x ≡ true) same-size d in
+      let l = linked-part i x hi hx′ d′ in
+      let still : changes s (componentValues near s p x) ≡ false =
+      ap (changes s) (sym (linked-values near symm s p i x hi hx′ l)) ∙ inert-still s (componentValues near s p i) e in
+      let old : at q x ≡ at p x = passed-at near s p x hx′ ∙ still-tone near s p x still in
+      ap (eqb v) old ∙ value-every near s p i (eqb v) one x hx′ l)
+
+  -- an inert component of the section: the components of the part in it are inert
+  pub inert-part : (i : ℕ) → i < n → inert s (componentValues near s p i) ≡ true
+      → inert t (componentValues near t q i) ≡ true
+  unfolding inert small
+  inert-part i hi e = elim (or-cases (ltb (length vs) (s .area)) (lone (s .rule) vs) e) [
+    | inl d ↦
+        let few = ltb-true (length vs) (s .area) d in
+        let small : length ws < t .area = omega (arith, no-larger i hi, P .area) in
+        or-inl _ _ (lt-ltb (length ws) (t .area) small)
+    | inr d ↦
+        let one = lone-part (s .rule) vs ws (one-part i hi e) d in
+        or-inr (ltb (length ws) (t .area)) _ (subst (λ (rule : Rule). lone rule ws ≡ true) (sym (P .rule)) one)
+  ]
+    where
+      vs : List ℕ
+      vs = componentValues near s p i
+
+      ws : List ℕ
+      ws = componentValues near t q i

@@ -1,0 +1,4 @@
+pub mod Decimal
+pub mod Placing
+pub mod Digits
+pub mod Heading

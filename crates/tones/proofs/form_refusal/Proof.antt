@@ -1,0 +1,36 @@
+-- `tones::form_refusal` meets its contract: each answer follows from the tests that led to it. Assumes nothing.
+use borrow.Author.Tests.{lt-ltb, le-ltb, eq-eqb, ne-eqb}
+use Rattle.tones.specs.Numbers.{malformed}
+use Rattle.tones.proofs.form_refusal.Statement.{statement}
+use Rattle.tones.proofs.form_refusal.Tie as tie
+
+returns : tie.Need-returns
+unfolding malformed
+returns c = simp (lt-ltb _ _ (c .if1 .taken))
+
+returns-2 : tie.Need-returns-2
+unfolding malformed
+returns-2 c = simp (le-ltb _ _ (c .before .before .if1 .left), ne-eqb _ _ (c .if2 .taken))
+
+returns-3 : tie.Need-returns-3
+unfolding malformed
+returns-3 c =
+    let known = le-ltb _ _ (c .before .before .before .before .if1 .left) in
+    simp (known, eq-eqb _ _ (c .before .before .if2 .left), ne-eqb _ _ (c .if3 .taken))
+
+returns-4 : tie.Need-returns-4
+unfolding malformed
+returns-4 c =
+    let known = le-ltb _ _ (c .before .before .before .before .before .before .if1 .left) in
+    let clear = eq-eqb _ _ (c .before .before .before .before .if2 .left) in
+    simp (known, clear, eq-eqb _ _ (c .before .before .if3 .left), ne-eqb _ _ (c .if4 .taken))
+
+returns-5 : tie.Need-returns-5
+unfolding malformed
+returns-5 c =
+    let known = le-ltb _ _ (c .before .before .before .before .before .before .if1 .left) in
+    let clear = eq-eqb _ _ (c .before .before .before .before .if2 .left) in
+    simp (known, clear, eq-eqb _ _ (c .before .before .if3 .left), eq-eqb _ _ (c .if4 .left))
+
+pub form-refusal-spec : {M : Type 1} → statement M
+form-refusal-spec = tie.close (tie.spec returns returns-2 returns-3 returns-4 returns-5)

@@ -1,0 +1,13 @@
+-- `tones::rule_of` meets its contract: each answer follows from the test that led to it. Assumes nothing.
+use borrow.Author.Tests.{ne-eqb, eq-eqb}
+use Rattle.tones.proofs.rule_of.Statement.{statement}
+use Rattle.tones.proofs.rule_of.Tie as tie
+
+returns : tie.Need-returns
+returns c = simp (eq-eqb _ _ (c .if1 .taken))
+
+returns-2 : tie.Need-returns-2
+returns-2 c = simp (ne-eqb _ _ (c .if1 .left))
+
+pub rule-of-spec : {M : Type 1} → statement M
+rule-of-spec = tie.close (tie.spec returns returns-2)

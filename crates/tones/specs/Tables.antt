@@ -1,0 +1,20 @@
+-- A rule's table of new values for a component. Definitions only.
+--
+--   ToneTable    a rule's table for a component, by a list of its values
+--   ToneTables   the same by every such list
+--   ToneTabled   what `tone_table` answers and leaves, and what it leaves free
+use Prim.Native.Nat.{ℕ}
+use mathlib.Core.Bool.{Bool}
+use mathlib.Core.List.{List}
+use Rattle.histograms.specs.Tables.{RuleTable, RuleTables, RuleTabled}
+use Rattle.tones.specs.declared.Rule.{Rule}
+use Rattle.tones.specs.Tones.{tone, kept}
+
+abbrev pub ToneTable : Rule → ℕ → ℕ → List ℕ → List ℕ → List ℕ → List ℕ → ℕ → Bool → Type 0
+ToneTable rule a b = RuleTable (kept rule a b) (tone rule a b)
+
+abbrev pub ToneTables : Rule → ℕ → ℕ → List ℕ → List ℕ → List ℕ → ℕ → Bool → Type 0
+ToneTables rule a b = RuleTables (kept rule a b) (tone rule a b)
+
+abbrev pub ToneTabled : Rule → ℕ → ℕ → List ℕ → List ℕ → List ℕ → List ℕ → ℕ → Bool → List ℕ → List ℕ → Type 0
+ToneTabled rule a b = RuleTabled (kept rule a b) (tone rule a b) a b
