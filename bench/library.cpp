@@ -40,6 +40,14 @@ std::uint64_t pass(std::uint8_t *plane, int w, int h, int min, int max, const pu
                               static_cast<std::uint16_t>(parameters.high)));
 }
 
+std::uint64_t limited_pass(std::uint8_t *plane, int w, int h, int min, int max, std::uint32_t area, int k,
+                           Memory &memory) {
+    const std::size_t n = static_cast<std::size_t>(w) * static_cast<std::size_t>(h);
+    return accepted(mlhe_pass(plane, n, memory.marks.data(), n, memory.queue.data(), n, w, h,
+                              static_cast<std::uint8_t>(min), static_cast<std::uint8_t>(max), area, MLHE_LIMITED,
+                              static_cast<std::uint16_t>(k), 0));
+}
+
 } // namespace library
 
 #else
@@ -52,6 +60,8 @@ std::uint64_t enhance(const std::uint8_t *, int, int, const published::Parameter
 }
 
 std::uint64_t pass(std::uint8_t *, int, int, int, int, const published::Parameters &, Memory &) { std::abort(); }
+
+std::uint64_t limited_pass(std::uint8_t *, int, int, int, int, std::uint32_t, int, Memory &) { std::abort(); }
 
 } // namespace library
 

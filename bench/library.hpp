@@ -31,4 +31,8 @@ std::uint64_t enhance(const std::uint8_t *frame, int w, int h, const published::
 std::uint64_t pass(std::uint8_t *plane, int w, int h, int min, int max, const published::Parameters &parameters,
                    Memory &memory);
 
+// The same with the limited rule, k being the clip in thousandths.
+std::uint64_t limited_pass(std::uint8_t *plane, int w, int h, int min, int max, std::uint32_t area, int k,
+                           Memory &memory);
+
 } // namespace library

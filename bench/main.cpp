@@ -1,31 +1,22 @@
 // The benchmark: the published structure and the project's library in one run, call by call in turn, on planes made
 // here. It prints tables of times and ratios, and checks on every plane that bytes and counts agree with the second
 // implementation's. The library is there if WITH_MLHE is defined; see library.hpp.
-//
-// Times are of the calling thread alone, and the least of several rounds is taken: other work on the machine then
-// disturbs least. Every buffer is written once before it is measured.
+// Every buffer is written once before it is measured.
 
+#include "checker.hpp"
+#include "grain.hpp"
 #include "library.hpp"
 #include "planes.hpp"
 #include "published.hpp"
+#include "stopwatch.hpp"
 
 #include <algorithm>
 #include <cmath>
 #include <cstdio>
-#include <cstdlib>
 #include <cstring>
-#include <ctime>
 #include <functional>
 #include <string>
 #include <vector>
-
-extern "C" {
-std::uint64_t checker_enhance(const std::uint8_t *frame, std::size_t w, std::size_t h, std::uint32_t last_level,
-                              std::uint32_t area, std::uint32_t low, std::uint32_t high, std::uint8_t *plane,
-                              std::uint8_t *output);
-std::uint64_t checker_pass(std::uint8_t *plane, std::size_t w, std::size_t h, std::uint8_t a, std::uint8_t b,
-                           std::uint32_t area, std::uint32_t low, std::uint32_t high);
-}
 
 namespace {
 
@@ -33,12 +24,6 @@ using published::Parameters;
 
 int rounds = 7;
 std::vector<double> ratios;
-
-double seconds() {
-    timespec now;
-    clock_gettime(CLOCK_THREAD_CPUTIME_ID, &now);
-    return static_cast<double>(now.tv_sec) + 1e-9 * static_cast<double>(now.tv_nsec);
-}
 
 // What a call left behind. Before a call all of it is blank, so that nothing of the call before counts for it.
 struct Result {
@@ -62,31 +47,6 @@ struct Times {
     double published;
     double library;
 };
-
-// The least time of a call, over all rounds. Short calls are repeated within a round.
-class Stopwatch {
-  public:
-    void measure(const std::function<void()> &call) {
-        const double start = seconds();
-        int calls = 0;
-        do {
-            call();
-            calls++;
-        } while (seconds() - start < 0.01);
-        least = std::min(least, (seconds() - start) / calls);
-    }
-    double time() const { return least; }
-
-  private:
-    double least = 1e9;
-};
-
-void require(bool holds, const std::string &what) {
-    if (!holds) {
-        std::printf("DIFFERENT: %s\n", what.c_str());
-        std::exit(1);
-    }
-}
 
 // Measures two calls in turn and checks what they left behind.
 Times compare(const std::string &name, const Result &expected, const std::function<void(Result &)> &by_published,
@@ -272,6 +232,7 @@ int main(int argc, char **argv) {
     growth_with_pixels();
     growth_with_levels_and_single_passes();
     single_passes_by_shape();
+    print_grain(rounds);
     summary();
     return 0;
 }

@@ -63,10 +63,12 @@ int clamp(int value) { return std::max(0, std::min(255, value)); }
 int clean(int x, int y) { return clamp(octaves(x, y, 1) * 200 / 65536 + 20 + edges(x, y) / 2); }
 
 // Grain: the sum of three small numbers, so that most of it is near to nothing.
-int natural(int x, int y) {
-    const std::uint32_t grain = hash(x, y, 2);
-    return clamp(clean(x, y) + static_cast<int>(grain % 5 + grain / 5 % 5 + grain / 25 % 5) - 6);
+int grain(int x, int y) {
+    const std::uint32_t random = hash(x, y, 2);
+    return static_cast<int>(random % 5 + random / 5 % 5 + random / 25 % 5) - 6;
 }
+
+int natural(int x, int y) { return clamp(clean(x, y) + grain(x, y)); }
 
 // Two values so far apart that the whole plane is kept back, and both halves of the values are entered.
 constexpr int dark = 40, bright = 215;
@@ -114,6 +116,7 @@ int value_of(const std::string &kind, int x, int y, int w, int h) {
     if (kind == "checkerboard") return (x + y) % 2 == 0 ? dark : bright;
     if (kind == "comb") return comb(x, y, h);
     if (kind == "tiles") return hash(x / 5, y / 5, 4) & 255;
+    if (kind == "grain") return clamp(clean(x, y) + 4 * grain(x, y));
     throw std::invalid_argument(kind);
 }
 
@@ -135,6 +138,18 @@ Plane make(const std::string &kind, int w, int h) {
     for (int y = 0; y < h; y++) {
         for (int x = 0; x < w; x++) {
             plane.values.push_back(static_cast<std::uint8_t>(value_of(kind, x, y, w, h)));
+        }
+    }
+    return plane;
+}
+
+Plane bands(int width, int w, int h) {
+    Plane plane{"bands", w, h, {}};
+    plane.values.reserve(static_cast<std::size_t>(w) * h);
+    for (int y = 0; y < h; y++) {
+        for (int x = 0; x < w; x++) {
+            const int section = x * (256 / width) / w;
+            plane.values.push_back(static_cast<std::uint8_t>(section * width + hash(x, y, 3) % width));
         }
     }
     return plane;

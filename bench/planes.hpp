@@ -26,8 +26,12 @@ struct Plane {
 //   tiles         squares of 5 by 5 pixels, each of one random value: components just above the house's least area
 const std::vector<std::string> &kinds();
 
-// A plane of one of these kinds.
+// A plane of one of these kinds, or of one more:
+//   grain         natural with four times as much grain: many thousand small components
 Plane make(const std::string &kind, int w, int h);
+
+// Random values, of which each section of a width has columns of its own: it is one component.
+Plane bands(int width, int w, int h);
 
 // A frame whose intensities are the plane's: the channels lie around them by a hue that changes slowly.
 std::vector<std::uint8_t> coloured(const Plane &plane);

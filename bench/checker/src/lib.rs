@@ -1,4 +1,4 @@
-//! The second implementation behind two C functions, with which the benchmark checks what it measures.
+//! The second implementation behind C functions, with which the benchmark checks what it measures.
 
 use mlhe_reference::{enhance, pass, Pass, Rule, Settings};
 use std::slice;
@@ -50,5 +50,27 @@ pub unsafe extern "C" fn checker_pass(
     // SAFETY: the caller lends so many bytes.
     let plane = unsafe { slice::from_raw_parts_mut(plane, n) };
     let settings = Pass { a, b, area, rule: Rule::Plain { low, high } };
+    pass(plane, n, n, w, h, &settings).expect("the benchmark's calls are sound")
+}
+
+/// Runs one pass with the limited rule. Answers the count; anything refused ends the benchmark.
+///
+/// # Safety
+///
+/// The plane has w × h bytes.
+#[no_mangle]
+pub unsafe extern "C" fn checker_limited_pass(
+    plane: *mut u8,
+    w: usize,
+    h: usize,
+    a: u8,
+    b: u8,
+    area: u32,
+    k: u32,
+) -> u64 {
+    let n = w * h;
+    // SAFETY: the caller lends so many bytes.
+    let plane = unsafe { slice::from_raw_parts_mut(plane, n) };
+    let settings = Pass { a, b, area, rule: Rule::Limited { k } };
     pass(plane, n, n, w, h, &settings).expect("the benchmark's calls are sound")
 }

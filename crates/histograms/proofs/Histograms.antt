@@ -16,7 +16,8 @@ use Rattle.planes.proofs.Enumerations.{count-indexes}
 use Rattle.planes.proofs.Tests.{less-or-not}
 use Rattle.histograms.specs.Values.{sumTo, greatest, least}
 use Rattle.histograms.specs.Histograms.{values, Component, Alike}
-use Rattle.histograms.specs.Histograms.{Tally, Histogram, Counted, Lowest, Highest, Refilled, Sums}
+use Rattle.histograms.specs.Histograms.{Tally, Inside, Histogram, Counted, Lowest, Highest}
+use Rattle.histograms.specs.Sums.{SummedInPlace, Sums}
 use Rattle.histograms.proofs.Components.{values-size}
 use Rattle.histograms.proofs.Sums.{sum-same, sumTo-mono}
 use Rattle.histograms.proofs.Values.{In, in-inside, inside-all, inside-sum}
@@ -34,21 +35,30 @@ module _ {a b : ℕ} {vs counts : List ℕ} (h : Histogram a b vs counts) where
   pub histogram-size : {m : ℕ} → Counted counts m a b → m ≡ length vs
   histogram-size c = sym (c .whole) ∙ histogram-sum b (c .order) (omega arith) ∙ inside-all (h .inside)
 
--- the sums of counts
-pub sums-of : {counts sums : List ℕ} {m a b : ℕ} → Counted counts m a b
-    → Refilled (sumTo (at counts) a) a (b + 1) counts sums → Sums sums m m a b
-sums-of {counts} {sums} {m} {a} {b} c s = record {
-  order = c .order;
-  some = c .some;
-  few = c .few;
-  rises = λ v av vb. omega (
-    arith,
-    s .new v av (omega arith),
-    s .new b (c .order) (omega arith),
-    sumTo-mono (at counts) a vb,
-  );
-  top = omega (arith, s .new b (c .order) (omega arith), c .whole);
-}
+-- sums made in place of a component's counts
+module _ {a b : ℕ} {vs counts sums : List ℕ} (h : Histogram a b vs counts) (s : SummedInPlace a b counts sums) where
+  -- the entry at v is c(v), the number of values that are no greater than v
+  pub summed-counts : (v : ℕ) → a ≤ v → v ≤ b → at sums v ≡ count (λ x. leb x v) vs
+  summed-counts v av vb = s .entry v av vb ∙ histogram-sum h v av vb
+
+  -- it is the sum of the counts of v and of all values below it: those below a are 0
+  pub summed-all : (v : ℕ) → a ≤ v → v ≤ b → at sums v ≡ sumTo (λ u. count (eqb u) vs) 0 v
+  summed-all v av vb =
+      let all : Inside 0 b vs = record { low = λ u below. absurd (omega arith); high = h .inside .high } in
+      summed-counts v av vb ∙ sym (inside-sum all v (omega arith))
+
+-- they never fall, and end at the sum of all, of counts clipped or not
+pub summed-rise : {counts sums : List ℕ} {m a b : ℕ} (most : ℕ) → a ≤ b → 1 ≤ m → m ≤ 1048576
+    → sumTo (at counts) a b ≤ most → SummedInPlace a b counts sums → Sums sums most m a b
+summed-rise {counts} {sums} {m} {a} {b} most order some few top s =
+    let last = s .entry b order (omega arith) in
+    record {
+      order = order;
+      some = some;
+      few = few;
+      rises = λ v av vb. omega (arith, s .entry v av vb, last, sumTo-mono (at counts) a vb);
+      top = omega (arith, last);
+    }
 
 -- ## The least and the greatest value
 

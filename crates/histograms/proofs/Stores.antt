@@ -16,6 +16,7 @@ use Rattle.planes.proofs.Counts.{count-le, count-snoc}
 use Rattle.planes.proofs.Stores.{at-set}
 use Rattle.histograms.specs.Values.{sumTo}
 use Rattle.histograms.specs.Histograms.{values, Outside, Tally, Refilled}
+use Rattle.histograms.specs.Sums.{SummedInPlace}
 use Rattle.histograms.proofs.Sums.{sumTo-first, sumTo-next}
 
 -- ## Entries filled one after another
@@ -61,15 +62,23 @@ summing-first a l = record {
   old = λ v h. refl;
 }
 
--- what is stored after v
-pub summing-next : {a v : ℕ} {l l' : List ℕ} → Refilled (sumTo (at l) a) a (v + 1) l l' → a ≤ v
-    → at l' (v + 1) + at l' v ≡ sumTo (at l) a (v + 1)
-summing-next {a} {v} {l} {l'} h av = omega (
-  arith,
-  h .old (v + 1) (λ _ g. omega arith),
-  h .new v av (omega arith),
-  sumTo-next (at l) av,
-)
+-- what is stored at v, after the sum before it
+pub summing-next : {a v : ℕ} {l l' : List ℕ} → Refilled (sumTo (at l) a) a v l l' → a < v
+    → at l' v + at l' (v - 1) ≡ sumTo (at l) a v
+summing-next {a} {v} {l} {l'} h av =
+    let next : v - 1 + 1 ≡ v = omega arith in
+    omega (
+      arith,
+      h .old v (λ _ g. omega arith),
+      h .new (v - 1) (omega arith) (omega arith),
+      sumTo-next (at l) {a = a} {v = v - 1} (omega arith),
+      ap (sumTo (at l) a) next,
+      ap (at l) next,
+    )
+
+-- all entries of [a, b] are sums
+pub summed-of : {a b : ℕ} {l l' : List ℕ} → Refilled (sumTo (at l) a) a (b + 1) l l' → SummedInPlace a b l l'
+summed-of h = record { entry = λ v av vb. h .new v av (omega arith); rest = refilled-outside h }
 
 -- ## Counts
 

@@ -15,7 +15,6 @@
 --   Counted                 the counts of [a, b] of some m pixels
 --   Lowest, Highest         the least and the greatest value that occurs
 --   Refilled                an array with new entries from a on, and what they are
---   Sums                    sums that never fall
 use Prim.Native.Nat.{ℕ, _≤_, _<_}
 use mathlib.Core.Path.{_≡_}
 use mathlib.Core.List.{List, map}
@@ -104,11 +103,3 @@ pub record Refilled (f : ℕ → ℕ) (a e : ℕ) (l l' : List ℕ) : Type 0 whe
   pub size : length l' ≡ length l
   pub new : (v : ℕ) → a ≤ v → v < e → at l' v ≡ f v
   pub old : (v : ℕ) → (a ≤ v → v < e → ⊥) → at l' v ≡ at l v
-
--- in [a, b], no entry is above that at b, which is no more than `most`; there are m pixels
-pub record Sums (sums : List ℕ) (most m a b : ℕ) : Type 0 where
-  pub order : a ≤ b
-  pub some : 1 ≤ m
-  pub few : m ≤ 1048576
-  pub rises : (v : ℕ) → a ≤ v → v ≤ b → at sums v ≤ at sums b
-  pub top : at sums b ≤ most

@@ -1,4 +1,5 @@
 pub mod Values
 pub mod Sound
 pub mod Histograms
+pub mod Sums
 pub mod Tables

@@ -16,6 +16,7 @@ ghost use Rattle.planes.specs.Lists.{at};
 ghost use Rattle.planes.specs.Rounding.{rounded};
 ghost use Rattle.histograms.specs.Values.{sumTo, scaled};
 ghost use Rattle.histograms.specs.Histograms.{values, Component, Outside, Tally, Lowest, Highest, Refilled};
+ghost use Rattle.histograms.specs.Sums.{SummedInPlace};
 
 // Zeroes the counts of the values of [a, b].
 fn clear(counts: &mut [u32], a: u8, b: u8)
@@ -46,16 +47,15 @@ pub fn histogram(plane: &[u8], queue: &[u32], m: usize, counts: &mut [u32; 256],
     }
 }
 
-// Adds to each entry of [a, b] those from a on before it.
+// Sums the counts of the values of [a, b], in place.
 pub fn sum_up(counts: &mut [u32; 256], a: u8, b: u8)
     requires { ⌜ (length (now counts) ≡ 256) × ((a ≤ b) × (sumTo (at (now counts)) a b < 4294967296)) ⌝ }
-    ensures { λ r. ⌜ Refilled (sumTo (at (now (counts .entry))) a) a (b + 1)
-        (now (counts .entry)) (now (counts .exit)) ⌝ }
+    ensures { λ r. ⌜ SummedInPlace a b (now (counts .entry)) (now (counts .exit)) ⌝ }
 {
-    let last = b as usize;
-    let mut v = a as usize;
-    while v < last {
-        counts[v + 1] += counts[v];
+    let end = b as usize + 1;
+    let mut v = a as usize + 1;
+    while v < end {
+        counts[v] += counts[v - 1];
         v += 1;
     }
 }

@@ -10,10 +10,11 @@ use lib.ListN.{length}
 use Rattle.planes.specs.Lists.{at}
 use Rattle.histograms.specs.Values.{sumTo}
 use Rattle.limited.specs.Limited.{clipped, limitedTone, neverKept, limitedBy, ClippedSums, Filled}
-use Rattle.histograms.specs.Histograms.{values, Component, Tally, Counted, Refilled, Sums}
+use Rattle.histograms.specs.Histograms.{values, Component, Tally, Histogram, Counted, Refilled}
+use Rattle.histograms.specs.Sums.{SummedInPlace}
 use Rattle.histograms.specs.Tables.{RuleTables}
-use Rattle.histograms.proofs.Sums.{sum-le, sum-same, sum-thousand, sumTo-mono}
-use Rattle.histograms.proofs.Histograms.{histogram-size, histogram-of}
+use Rattle.histograms.proofs.Sums.{sum-le, sum-same, sum-thousand}
+use Rattle.histograms.proofs.Histograms.{summed-rise, histogram-size, histogram-of, counted-of}
 
 -- ## Sums of clipped counts
 
@@ -26,37 +27,28 @@ module _ {m a b : ℕ} {counts clips : List ℕ} (c : Counted counts m a b) (mos
       (λ v av vb. omega (arith, clip .new v av (omega (arith, c .order)), min-le-left (1000 * at counts v) most)) in
       omega (arith, each, sum-thousand (at counts) a (b - a + 1), c .whole)
 
-  clipped-sums : {sums : List ℕ} → Refilled (sumTo (at clips) a) a (b + 1) clips sums → Sums sums (1000 * m) m a b
-  clipped-sums {sums} s = record {
-    order = c .order;
-    some = c .some;
-    few = c .few;
-    rises = λ v av vb. omega (
-      arith,
-      s .new v av (omega arith),
-      s .new b (c .order) (omega arith),
-      sumTo-mono (at clips) a vb,
-    );
-    top = omega (arith, s .new b (c .order) (omega arith), clips-le);
-  }
-
 -- with a clip of k thousandths of m, the sums are those of the limited rule
 pub clipped-of : (k m : ℕ) {a b most : ℕ} {counts clips sums : List ℕ} → Counted counts m a b → most ≡ k * m
     → Refilled (λ v. min (1000 * at counts v) most) a (b + 1) counts clips
-    → Refilled (sumTo (at clips) a) a (b + 1) clips sums
+    → SummedInPlace a b clips sums
     → ClippedSums k m a b counts sums
-unfolding limitedTone clipped
+unfolding clipped
 clipped-of k m {a} {b} {most} {counts} {clips} {sums} c e clip s = record {
-  rising = clipped-sums c most clip s;
-  exact = λ vs h v av vb.
+  rising = summed-rise (1000 * m) (c .order) (c .some) (c .few) (clips-le c most clip) s;
+  entry = λ vs h v av vb.
       let size : m ≡ length vs = histogram-size h c in
       let each : (u : ℕ) → a ≤ u → u ≤ b → at clips u ≡ clipped k vs u = λ u au ub.
       clip .new u au (omega arith) ∙ ap₂ (λ (q n : ℕ). min (1000 * q) n) (h .entry u au ub) (e ∙ ap (k *_) size) in
-      let to : (u : ℕ) → a ≤ u → u ≤ b → at sums u ≡ sumTo (clipped k vs) a u = λ u au ub.
-      s .new u au (omega arith)
-      ∙ sum-same (at clips) (clipped k vs) a (u - a + 1) (λ x ax xu. each x ax (omega arith)) in
-      rw (to v av vb, to b (c .order) (omega arith), size);
+      s .entry v av vb
+      ∙ sum-same (at clips) (clipped k vs) a (v - a + 1) (λ u au uv. each u au (omega arith));
 }
+
+-- and they give its tones
+pub limited-by-sums : {k m a b : ℕ} {vs counts sums : List ℕ} → Counted counts m a b → Histogram a b vs counts
+    → ClippedSums k m a b counts sums → (v : ℕ) → a ≤ v → v ≤ b → limitedBy sums m a b v ≡ limitedTone k a b vs v
+unfolding limitedTone
+limited-by-sums {b = b} {vs} c h s v av vb =
+    rw (s .entry vs h v av vb, s .entry vs h b (c .order) (omega arith), histogram-size h c)
 
 -- ## Tables
 
@@ -67,5 +59,5 @@ module _ {plane queue counts table : List ℕ} {m a b : ℕ} (k : Component plan
       → Filled (limitedBy sums m a b) plane queue table m
       → RuleTables neverKept (limitedTone c a b) plane queue table m true
   limited-tables u f vs s =
-      let exact = u .exact vs (histogram-of k t s) in
-      record { answer = refl; entry = λ i im. f .entry i im ∙ exact _ (k .within i im .0) (k .within i im .1) }
+      let tones = limited-by-sums (counted-of k t) (histogram-of k t s) u in
+      record { answer = refl; entry = λ i im. f .entry i im ∙ tones _ (k .within i im .0) (k .within i im .1) }

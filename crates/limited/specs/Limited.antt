@@ -17,7 +17,8 @@ use lib.ListN.{length}
 use lib.Dec.{eqb}
 use Rattle.planes.specs.Lists.{count, at}
 use Rattle.histograms.specs.Values.{sumTo, scaled}
-use Rattle.histograms.specs.Histograms.{Histogram, Sums}
+use Rattle.histograms.specs.Histograms.{Histogram}
+use Rattle.histograms.specs.Sums.{Sums}
 
 -- ## The rule
 
@@ -49,11 +50,11 @@ limitedBy sums m a b v =
     let all = 1000 * m in
     scaled a b (w * at sums v + n * (all - at sums b)) (w * all)
 
--- the sums of the clipped counts, and that they give the limited rule's tones
+-- each entry of [a, b] holds the sum of the clipped counts of its value and of those below it
 pub record ClippedSums (k m a b : ℕ) (counts sums : List ℕ) : Type 0 where
   pub rising : Sums sums (1000 * m) m a b
-  pub exact : (vs : List ℕ) → Histogram a b vs counts → (v : ℕ) → a ≤ v → v ≤ b
-      → limitedBy sums m a b v ≡ limitedTone k a b vs v
+  pub entry : (vs : List ℕ) → Histogram a b vs counts → (v : ℕ) → a ≤ v → v ≤ b
+      → at sums v ≡ sumTo (clipped k vs) a v
 
 -- at the value of each of the queue's first m pixels, the entry is that of f
 pub record Filled (f : ℕ → ℕ) (plane queue table : List ℕ) (m : ℕ) : Type 0 where

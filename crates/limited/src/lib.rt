@@ -13,7 +13,8 @@ ghost use Prim.Native.Nat.{_+_, _*_, _^_, _≤_, _<_, min};
 ghost use lib.ListN.{length};
 ghost use Rattle.planes.specs.Lists.{at};
 ghost use Rattle.histograms.specs.Values.{sumTo};
-ghost use Rattle.histograms.specs.Histograms.{values, Component, Outside, Tally, Counted, Refilled, Sums};
+ghost use Rattle.histograms.specs.Histograms.{values, Component, Outside, Tally, Counted, Refilled};
+ghost use Rattle.histograms.specs.Sums.{Sums};
 ghost use Rattle.histograms.specs.Tables.{RuleTabled};
 ghost use Rattle.limited.specs.Limited.{limitedTone, neverKept, limitedBy, ClippedSums, Filled};
 use histograms::scale;
@@ -101,7 +102,7 @@ fn clip_of(k: u16, m: usize) -> u64
     k as u64 * m as u64
 }
 
-// Clips the counts of the values of [a, b], and sums them.
+// Clips the counts of the values of [a, b], and sums them, in place.
 fn sum_clipped(counts: &mut [u32; 256], m: usize, a: u8, b: u8, k: u16)
     requires { ⌜ Counted (now counts) m a b ⌝ }
     ensures { λ r. ⌜ ClippedSums k m a b (now (counts .entry)) (now (counts .exit))

@@ -8,6 +8,7 @@ use Rattle.planes.specs.Lists.{at}
 use Rattle.histograms.specs.Values.{sumTo, scaled, least, spread}
 use Rattle.plain.specs.Plain.{plainTone, keptBy, plainKept}
 use Rattle.histograms.specs.Histograms.{Histogram, Counted, Lowest, Highest, Refilled}
+use Rattle.histograms.specs.Sums.{SummedInPlace}
 use Rattle.histograms.specs.Tables.{Tabled}
 use Rattle.histograms.proofs.Sums.{sumTo-last}
 use Rattle.histograms.proofs.Values.{spread-map}
@@ -37,12 +38,12 @@ module _ {m a b : ℕ} {vs counts : List ℕ} (c : Counted counts m a b) (h : Hi
 
 -- a table filled by the sums of the counts
 pub plain-tabled : {m a b : ℕ} {counts sums table table' : List ℕ} → Counted counts m a b
-    → Refilled (sumTo (at counts) a) a (b + 1) counts sums
+    → SummedInPlace a b counts sums
     → Refilled (λ v. scaled a b (at sums v) m) a (b + 1) table table'
     → Tabled (plainTone a b) a b counts table'
 plain-tabled {m} {a} {b} c s t = record {
   exact = λ vs h v av vb.
       t .new v av (omega arith)
-      ∙ ap (λ x. scaled a b x m) (s .new v av (omega arith))
+      ∙ ap (λ x. scaled a b x m) (s .entry v av vb)
       ∙ plain-by-sum c h v av vb;
 }

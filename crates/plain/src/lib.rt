@@ -15,7 +15,8 @@ ghost use Prim.Native.Nat.{ℕ, _+_, _≤_, _<_};
 ghost use lib.ListN.{length};
 ghost use Rattle.planes.specs.Lists.{at};
 ghost use Rattle.histograms.specs.Values.{scaled};
-ghost use Rattle.histograms.specs.Histograms.{Confined, Histogram, Counted, Refilled, Sums};
+ghost use Rattle.histograms.specs.Histograms.{Outside, Confined, Histogram, Counted, Refilled};
+ghost use Rattle.histograms.specs.Sums.{SummedInPlace, Sums};
 ghost use Rattle.histograms.specs.Tables.{Tabled, Ruled};
 ghost use Rattle.plain.specs.Plain.{plainTone, keptBy, plainKept};
 use histograms::highest;
@@ -69,8 +70,9 @@ fn fill_plain(sums: &[u32; 256], table: &mut [u8], m: usize, a: u8, b: u8)
 // The plain rule's tone of each value of [a, b]; the counts become their sums.
 fn plain_table(counts: &mut [u32; 256], table: &mut [u8; 256], m: usize, a: u8, b: u8)
     requires { ⌜ Counted (now counts) m a b ⌝ }
-    ensures { λ r. ⌜ Tabled (plainTone a b) a b (now (counts .entry)) (now (table .exit))
-        × Confined a b (now (counts .entry)) (now (table .entry)) (now (counts .exit)) (now (table .exit)) ⌝ }
+    ensures { λ r. ⌜ SummedInPlace a b (now (counts .entry)) (now (counts .exit))
+        × (Tabled (plainTone a b) a b (now (counts .entry)) (now (table .exit))
+        × Outside a b (now (table .entry)) (now (table .exit))) ⌝ }
 {
     sum_up(counts, a, b);
     fill_plain(counts, table, m, a, b);

@@ -28,7 +28,7 @@ returns c =
     let most = c .before .before .before .before .clip-of .ensures in
     let clip = c .before .before .clip .ensures in (
       clipped-of (start .args .k) (start .args .m) (start .pre) most clip (c .sum-up .ensures),
-      outside-both (refilled-outside clip) (refilled-outside (c .sum-up .ensures)),
+      outside-both (refilled-outside clip) (c .sum-up .ensures .rest),
     )
 
 pub sum-clipped-spec : {M : Type 1} → statement M

@@ -1,6 +1,6 @@
 -- `plain::plain_table` meets its contract: the sums of the counts give the tones. Assumes nothing.
 use Rattle.histograms.proofs.Stores.{refilled-outside}
-use Rattle.histograms.proofs.Histograms.{sums-of}
+use Rattle.histograms.proofs.Histograms.{summed-rise}
 use Rattle.plain.proofs.Histograms.{plain-tabled}
 use borrow.Author.Needs.{needs}
 use native.Mathlib.Omega.{arith}
@@ -12,15 +12,18 @@ sum-up-requires c κs = search needs
 
 fill-plain-requires : tie.Need-fill-plain-requires
 fill-plain-requires c κs =
-    (sums-of (c .before .before .before .before .pre) (c .before .before .sum-up .ensures), omega arith)
+    let counted = c .before .before .before .before .pre in
+    let summed = c .before .before .sum-up .ensures in (
+      summed-rise _ (counted .order) (counted .some) (counted .few) (omega (arith, counted .whole)) summed,
+      omega arith,
+    )
 
 returns : tie.Need-returns
 returns c =
     let counted = c .before .before .before .before .before .pre in
-    let summed = c .before .before .before .sum-up .ensures in (
-      plain-tabled counted summed (c .fill-plain .ensures),
-      record { counts-rest = refilled-outside summed; table-rest = refilled-outside (c .fill-plain .ensures) },
-    )
+    let summed = c .before .before .before .sum-up .ensures in
+    let filled = c .fill-plain .ensures in
+    (summed, (plain-tabled counted summed filled, refilled-outside filled))
 
 pub plain-table-spec : {M : Type 1} → statement M
 plain-table-spec = tie.close (tie.spec sum-up-requires fill-plain-requires returns)

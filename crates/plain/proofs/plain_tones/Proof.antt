@@ -28,8 +28,10 @@ plain-table-requires c κs = search needs
 returns-2 : tie.Need-returns-2
 returns-2 c =
     let test = c .before .before .before in
-    let tabled = c .plain-table .ensures in
-    (ruled-toned (test .before .plain-keeps .ensures) (test .if1 .left) (tabled .0), tabled .1)
+    let tabled = c .plain-table .ensures in (
+      ruled-toned (test .before .plain-keeps .ensures) (test .if1 .left) (tabled .1 .0),
+      record { counts-rest = tabled .0 .rest; table-rest = tabled .1 .1 },
+    )
 
 pub plain-tones-spec : {M : Type 1} → statement M
 plain-tones-spec =

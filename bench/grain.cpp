@@ -1,0 +1,180 @@
+// A row of a table is a level: passes over all sections of one width, from the lowest on, in one plane. Its time less
+// that of the same passes with a least area that no component has is what treating the components takes. The share of
+// their pixels is measured on a plane with such values in which each section is one component; the rest is their own.
+
+#include "grain.hpp"
+
+#include "checker.hpp"
+#include "library.hpp"
+#include "planes.hpp"
+#include "stopwatch.hpp"
+
+#include <cstddef>
+#include <cstdint>
+#include <string>
+#include <vector>
+
+namespace {
+
+constexpr int side = 512;
+constexpr std::uint32_t greatest_area = 1048576;
+constexpr published::Parameters any_ratio{7, 1, 0, 25500};
+constexpr int half = 500;
+
+// A level of passes, with the plain rule whatever the ratio, or the limited rule with half of the pixels as its clip.
+struct Level {
+    int width;
+    std::uint32_t area;
+    bool limited;
+};
+
+std::uint64_t by_library(planes::Plane &plane, const Level &level, library::Memory &memory) {
+    published::Parameters parameters = any_ratio;
+    parameters.area = level.area;
+    std::uint8_t *values = plane.values.data();
+    std::uint64_t count = 0;
+    for (int a = 0; a < 256; a += level.width) {
+        const int b = a + level.width - 1;
+        count += level.limited ? library::limited_pass(values, plane.w, plane.h, a, b, level.area, half, memory)
+                               : library::pass(values, plane.w, plane.h, a, b, parameters, memory);
+    }
+    return count;
+}
+
+std::uint64_t by_checker(planes::Plane &plane, const Level &level) {
+    std::uint8_t *values = plane.values.data();
+    std::uint64_t count = 0;
+    for (int section = 0; section < 256; section += level.width) {
+        const auto a = static_cast<std::uint8_t>(section);
+        const auto b = static_cast<std::uint8_t>(section + level.width - 1);
+        count += level.limited
+                     ? checker_limited_pass(values, plane.w, plane.h, a, b, level.area, half)
+                     : checker_pass(values, plane.w, plane.h, a, b, level.area, any_ratio.low, any_ratio.high);
+    }
+    return count;
+}
+
+// How many components of at least an area the sections of one width have, and how many pixels these have together.
+struct Components {
+    std::size_t number;
+    std::size_t pixels;
+};
+
+Components components_of(const planes::Plane &plane, int width, std::size_t area) {
+    const auto w = static_cast<std::size_t>(plane.w);
+    std::vector<bool> taken(plane.values.size(), false);
+    std::vector<std::size_t> members;
+    Components components{0, 0};
+    for (std::size_t first = 0; first < plane.values.size(); first++) {
+        if (taken[first]) {
+            continue;
+        }
+        const auto take = [&](std::size_t p) {
+            if (!taken[p] && plane.values[p] / width == plane.values[first] / width) {
+                taken[p] = true;
+                members.push_back(p);
+            }
+        };
+        members.clear();
+        take(first);
+        for (std::size_t i = 0; i < members.size(); i++) {
+            const std::size_t p = members[i];
+            if (p % w > 0) take(p - 1);
+            if (p % w + 1 < w) take(p + 1);
+            if (p >= w) take(p - w);
+            if (p + w < plane.values.size()) take(p + w);
+        }
+        if (members.size() >= area) {
+            components.number++;
+            components.pixels += members.size();
+        }
+    }
+    return components;
+}
+
+// The times of a level in seconds: of all of it, and where no component has the area.
+struct LevelTimes {
+    double all;
+    double untreated;
+    double treating() const { return all - untreated; }
+};
+
+LevelTimes time_level(const planes::Plane &plane, const Level &level, int rounds) {
+    const Level untreated{level.width, greatest_area, level.limited};
+    library::Memory memory(plane.values.size());
+    planes::Plane expected = plane, result = plane;
+    const std::uint64_t count = by_checker(expected, level);
+    Stopwatch all_watch, untreated_watch;
+    for (int round = 0; round < rounds; round++) {
+        std::uint64_t answer = 0;
+        all_watch.measure([&] {
+            result.values = plane.values;
+            answer = by_library(result, level, memory);
+        });
+        require(answer == count && result.values == expected.values, "passes of one width, " + plane.name);
+        untreated_watch.measure([&] {
+            result.values = plane.values;
+            answer = by_library(result, untreated, memory);
+        });
+        require(answer == 0 && result.values == plane.values, "passes that treat nothing, " + plane.name);
+    }
+    return {all_watch.time(), untreated_watch.time()};
+}
+
+// What treating a pixel takes, in sections of each width from 256 down.
+std::vector<double> pixel_times(bool limited, int rounds) {
+    std::vector<double> times;
+    for (int width = 256; width >= 2; width /= 2) {
+        const planes::Plane bands = planes::bands(width, side, side);
+        const double treating = time_level(bands, {width, 1, limited}, rounds).treating();
+        times.push_back(treating / static_cast<double>(bands.values.size()));
+    }
+    return times;
+}
+
+void print_level(const planes::Plane &plane, const Level &level, double pixel_time, int rounds) {
+    const Components treated = components_of(plane, level.width, level.area);
+    if (treated.number == 0) {
+        std::printf("%6d %11d\n", level.width, 0);
+        return;
+    }
+    const LevelTimes times = time_level(plane, level, rounds);
+    const auto found = static_cast<double>(components_of(plane, level.width, 1).number);
+    const auto number = static_cast<double>(treated.number);
+    const double pixels = static_cast<double>(treated.pixels) / number;
+    const double treating = times.treating() / number;
+    std::printf("%6d %11zu %10.1f %10.1f %10.1f %10.1f %10.1f\n", level.width, treated.number, pixels,
+                1e9 * times.untreated / found, 1e9 * treating, 1e9 * pixels * pixel_time,
+                1e9 * (treating - pixels * pixel_time));
+    std::fflush(stdout);
+}
+
+void print_levels(const std::string &kind, std::uint32_t area, bool limited, const std::vector<double> &pixel_times,
+                  int rounds) {
+    const planes::Plane plane = planes::make(kind, side, side);
+    std::printf("\nSmall components, in ns for each: %s, least area %u, %s, all sections of a width, %d x %d\n",
+                kind.c_str(), area, limited ? "limited" : "plain", side, side);
+    std::printf("%6s %11s %10s %10s %10s %10s %10s\n", "width", "components", "pixels", "to find", "to treat",
+                "by pixels", "besides");
+    int width = 256;
+    for (const double pixel_time : pixel_times) {
+        print_level(plane, {width, area, limited}, pixel_time, rounds);
+        width /= 2;
+    }
+}
+
+} // namespace
+
+void print_grain(int rounds) {
+    if (!library::linked) {
+        return;
+    }
+    const std::vector<double> plain = pixel_times(false, rounds), limited = pixel_times(true, rounds);
+    for (const std::uint32_t area : {1, 2, 20}) {
+        print_levels("noise", area, false, plain, rounds);
+    }
+    for (const std::uint32_t area : {1, 20}) {
+        print_levels("grain", area, false, plain, rounds);
+    }
+    print_levels("noise", 1, true, limited, rounds);
+}

@@ -1,0 +1,42 @@
+// How the benchmark measures and checks. Times are of the calling thread alone, and the least of several rounds is
+// taken: other work on the machine then disturbs least.
+#pragma once
+
+#include <algorithm>
+#include <cstdio>
+#include <cstdlib>
+#include <ctime>
+#include <functional>
+#include <string>
+
+inline double seconds() {
+    timespec now;
+    clock_gettime(CLOCK_THREAD_CPUTIME_ID, &now);
+    return static_cast<double>(now.tv_sec) + 1e-9 * static_cast<double>(now.tv_nsec);
+}
+
+// The least time of a call, over all rounds. Short calls are repeated within a round.
+class Stopwatch {
+  public:
+    void measure(const std::function<void()> &call) {
+        const double start = seconds();
+        int calls = 0;
+        do {
+            call();
+            calls++;
+        } while (seconds() - start < 0.01);
+        least = std::min(least, (seconds() - start) / calls);
+    }
+    double time() const { return least; }
+
+  private:
+    double least = 1e9;
+};
+
+// Ends the benchmark where an answer is not the one that was expected.
+inline void require(bool holds, const std::string &what) {
+    if (!holds) {
+        std::printf("DIFFERENT: %s\n", what.c_str());
+        std::exit(1);
+    }
+}
