@@ -9,8 +9,10 @@
 #include "planes.hpp"
 #include "stopwatch.hpp"
 
+#include <algorithm>
 #include <cstddef>
 #include <cstdint>
+#include <cstdio>
 #include <string>
 #include <vector>
 
@@ -20,6 +22,9 @@ constexpr int side = 512;
 constexpr std::uint32_t greatest_area = 1048576;
 constexpr published::Parameters any_ratio{7, 1, 0, 25500};
 constexpr int half = 500;
+
+// Fewer pixels than this do not tell what treating a component takes, fewer components not what of it is its own.
+constexpr std::size_t few_pixels = 5000, few_components = 1000;
 
 // A level of passes, with the plain rule whatever the ratio, or the limited rule with half of the pixels as its clip.
 struct Level {
@@ -92,11 +97,11 @@ Components components_of(const planes::Plane &plane, int width, std::size_t area
     return components;
 }
 
-// The times of a level in seconds: of all of it, and where no component has the area.
+// The times of a level in seconds: where no component has the area, and what it takes more where they are treated. The
+// latter is a difference, so that it is taken as the middle one of its ratios to the former, over more rounds.
 struct LevelTimes {
-    double all;
-    double untreated;
-    double treating() const { return all - untreated; }
+    double finding;
+    double treating;
 };
 
 LevelTimes time_level(const planes::Plane &plane, const Level &level, int rounds) {
@@ -104,21 +109,25 @@ LevelTimes time_level(const planes::Plane &plane, const Level &level, int rounds
     library::Memory memory(plane.values.size());
     planes::Plane expected = plane, result = plane;
     const std::uint64_t count = by_checker(expected, level);
-    Stopwatch all_watch, untreated_watch;
-    for (int round = 0; round < rounds; round++) {
+    double finding = 1e9;
+    std::vector<double> shares;
+    for (int round = 0; round < 3 * rounds; round++) {
         std::uint64_t answer = 0;
-        all_watch.measure([&] {
-            result.values = plane.values;
-            answer = by_library(result, level, memory);
-        });
-        require(answer == count && result.values == expected.values, "passes of one width, " + plane.name);
-        untreated_watch.measure([&] {
+        const double found = time_of([&] {
             result.values = plane.values;
             answer = by_library(result, untreated, memory);
         });
         require(answer == 0 && result.values == plane.values, "passes that treat nothing, " + plane.name);
+        const double all = time_of([&] {
+            result.values = plane.values;
+            answer = by_library(result, level, memory);
+        });
+        require(answer == count && result.values == expected.values, "passes of one width, " + plane.name);
+        finding = std::min(finding, found);
+        shares.push_back((all - found) / found);
     }
-    return {all_watch.time(), untreated_watch.time()};
+    std::sort(shares.begin(), shares.end());
+    return {finding, finding * shares[shares.size() / 2]};
 }
 
 // What treating a pixel takes, in sections of each width from 256 down.
@@ -126,7 +135,7 @@ std::vector<double> pixel_times(bool limited, int rounds) {
     std::vector<double> times;
     for (int width = 256; width >= 2; width /= 2) {
         const planes::Plane bands = planes::bands(width, side, side);
-        const double treating = time_level(bands, {width, 1, limited}, rounds).treating();
+        const double treating = time_level(bands, {width, 1, limited}, rounds).treating;
         times.push_back(treating / static_cast<double>(bands.values.size()));
     }
     return times;
@@ -142,10 +151,15 @@ void print_level(const planes::Plane &plane, const Level &level, double pixel_ti
     const auto found = static_cast<double>(components_of(plane, level.width, 1).number);
     const auto number = static_cast<double>(treated.number);
     const double pixels = static_cast<double>(treated.pixels) / number;
-    const double treating = times.treating() / number;
-    std::printf("%6d %11zu %10.1f %10.1f %10.1f %10.1f %10.1f\n", level.width, treated.number, pixels,
-                1e9 * times.untreated / found, 1e9 * treating, 1e9 * pixels * pixel_time,
-                1e9 * (treating - pixels * pixel_time));
+    const double treating = times.treating / number;
+    std::printf("%6d %11zu %10.1f %10.1f", level.width, treated.number, pixels, 1e9 * times.finding / found);
+    if (treated.pixels >= few_pixels) {
+        std::printf(" %10.1f", 1e9 * treating);
+    }
+    if (treated.number >= few_components) {
+        std::printf(" %10.1f %10.1f", 1e9 * pixels * pixel_time, 1e9 * (treating - pixels * pixel_time));
+    }
+    std::printf("\n");
     std::fflush(stdout);
 }
 

@@ -13,7 +13,6 @@
 #include <algorithm>
 #include <cmath>
 #include <cstdio>
-#include <cstring>
 #include <functional>
 #include <string>
 #include <vector>
@@ -221,10 +220,15 @@ void summary() {
 } // namespace
 
 int main(int argc, char **argv) {
-    if (argc == 2 && std::strcmp(argv[1], "--quick") == 0) {
+    const std::string option = argc == 2 ? argv[1] : "";
+    if (option == "--grain" && library::linked) {
+        print_grain(rounds);
+        return 0;
+    }
+    if (option == "--quick") {
         rounds = 1;
     } else if (argc != 1) {
-        std::fprintf(stderr, "%s [--quick]\n", argv[0]);
+        std::fprintf(stderr, "%s [--quick | --grain]\n", argv[0]);
         return 2;
     }
     every_plane_and_shape();

@@ -15,18 +15,21 @@ inline double seconds() {
     return static_cast<double>(now.tv_sec) + 1e-9 * static_cast<double>(now.tv_nsec);
 }
 
-// The least time of a call, over all rounds. Short calls are repeated within a round.
+// The time of a call. Short calls are repeated.
+inline double time_of(const std::function<void()> &call) {
+    const double start = seconds();
+    int calls = 0;
+    do {
+        call();
+        calls++;
+    } while (seconds() - start < 0.01);
+    return (seconds() - start) / calls;
+}
+
+// The least time of a call, over all rounds.
 class Stopwatch {
   public:
-    void measure(const std::function<void()> &call) {
-        const double start = seconds();
-        int calls = 0;
-        do {
-            call();
-            calls++;
-        } while (seconds() - start < 0.01);
-        least = std::min(least, (seconds() - start) / calls);
-    }
+    void measure(const std::function<void()> &call) { least = std::min(least, time_of(call)); }
     double time() const { return least; }
 
   private:
