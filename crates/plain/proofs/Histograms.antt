@@ -12,7 +12,8 @@ use Rattle.histograms.specs.Sums.{SummedInPlace}
 use Rattle.histograms.specs.Tables.{Tabled}
 use Rattle.histograms.proofs.Sums.{sumTo-last}
 use Rattle.histograms.proofs.Values.{spread-map}
-use Rattle.histograms.proofs.Histograms.{histogram-sum, histogram-size, some-values, lowest-least, highest-greatest}
+use Rattle.histograms.proofs.Histograms.{histogram-sum, histogram-size, summed-counts}
+use Rattle.histograms.proofs.Histograms.{some-values, lowest-least, highest-greatest}
 use Rattle.plain.proofs.Sound.{plain-rises}
 use Rattle.plain.proofs.Ends.{plain-greatest}
 
@@ -41,9 +42,8 @@ pub plain-tabled : {m a b : ℕ} {counts sums table table' : List ℕ} → Count
     → SummedInPlace a b counts sums
     → Refilled (λ v. scaled a b (at sums v) m) a (b + 1) table table'
     → Tabled (plainTone a b) a b counts table'
+unfolding plainTone
 plain-tabled {m} {a} {b} c s t = record {
   exact = λ vs h v av vb.
-      t .new v av (omega arith)
-      ∙ ap (λ x. scaled a b x m) (s .entry v av vb)
-      ∙ plain-by-sum c h v av vb;
+      t .new v av (omega arith) ∙ ap₂ (scaled a b) (summed-counts h s v av vb) (histogram-size h c);
 }
