@@ -9,7 +9,5 @@ std::uint64_t checker_enhance(const std::uint8_t *frame, std::size_t w, std::siz
                               std::uint32_t area, std::uint32_t low, std::uint32_t high, std::uint8_t *plane,
                               std::uint8_t *output);
 std::uint64_t checker_pass(std::uint8_t *plane, std::size_t w, std::size_t h, std::uint8_t a, std::uint8_t b,
-                           std::uint32_t area, std::uint32_t low, std::uint32_t high);
-std::uint64_t checker_limited_pass(std::uint8_t *plane, std::size_t w, std::size_t h, std::uint8_t a, std::uint8_t b,
-                                   std::uint32_t area, std::uint32_t k);
+                           std::uint32_t area, std::uint8_t rule, std::uint16_t first, std::uint16_t second);
 }

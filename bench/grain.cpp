@@ -20,41 +20,36 @@ namespace {
 
 constexpr int side = 512;
 constexpr std::uint32_t greatest_area = 1048576;
-constexpr published::Parameters any_ratio{7, 1, 0, 25500};
-constexpr int half = 500;
+
+// The plain rule whatever the ratio, and the limited rule with half of the pixels as its clip.
+constexpr library::Rule any_ratio = library::plain(0, 25500), half = library::limited(500);
 
 // Fewer pixels than this do not tell what treating a component takes, fewer components not what of it is its own.
 constexpr std::size_t few_pixels = 5000, few_components = 1000;
 
-// A level of passes, with the plain rule whatever the ratio, or the limited rule with half of the pixels as its clip.
+// Passes over all sections of one width.
 struct Level {
     int width;
     std::uint32_t area;
-    bool limited;
+    library::Rule rule;
 };
 
 std::uint64_t by_library(planes::Plane &plane, const Level &level, library::Memory &memory) {
-    published::Parameters parameters = any_ratio;
-    parameters.area = level.area;
-    std::uint8_t *values = plane.values.data();
     std::uint64_t count = 0;
     for (int a = 0; a < 256; a += level.width) {
         const int b = a + level.width - 1;
-        count += level.limited ? library::limited_pass(values, plane.w, plane.h, a, b, level.area, half, memory)
-                               : library::pass(values, plane.w, plane.h, a, b, parameters, memory);
+        count += library::pass(plane.values.data(), plane.w, plane.h, a, b, level.area, level.rule, memory);
     }
     return count;
 }
 
 std::uint64_t by_checker(planes::Plane &plane, const Level &level) {
-    std::uint8_t *values = plane.values.data();
     std::uint64_t count = 0;
-    for (int section = 0; section < 256; section += level.width) {
-        const auto a = static_cast<std::uint8_t>(section);
-        const auto b = static_cast<std::uint8_t>(section + level.width - 1);
-        count += level.limited
-                     ? checker_limited_pass(values, plane.w, plane.h, a, b, level.area, half)
-                     : checker_pass(values, plane.w, plane.h, a, b, level.area, any_ratio.low, any_ratio.high);
+    for (int a = 0; a < 256; a += level.width) {
+        const int b = a + level.width - 1;
+        count += checker_pass(plane.values.data(), plane.w, plane.h, static_cast<std::uint8_t>(a),
+                              static_cast<std::uint8_t>(b), level.area, level.rule.code, level.rule.first,
+                              level.rule.second);
     }
     return count;
 }
@@ -105,7 +100,7 @@ struct LevelTimes {
 };
 
 LevelTimes time_level(const planes::Plane &plane, const Level &level, int rounds) {
-    const Level untreated{level.width, greatest_area, level.limited};
+    const Level untreated{level.width, greatest_area, level.rule};
     library::Memory memory(plane.values.size());
     planes::Plane expected = plane, result = plane;
     const std::uint64_t count = by_checker(expected, level);
@@ -131,11 +126,11 @@ LevelTimes time_level(const planes::Plane &plane, const Level &level, int rounds
 }
 
 // What treating a pixel takes, in sections of each width from 256 down.
-std::vector<double> pixel_times(bool limited, int rounds) {
+std::vector<double> pixel_times(const library::Rule &rule, int rounds) {
     std::vector<double> times;
     for (int width = 256; width >= 2; width /= 2) {
         const planes::Plane bands = planes::bands(width, side, side);
-        const double treating = time_level(bands, {width, 1, limited}, rounds).treating;
+        const double treating = time_level(bands, {width, 1, rule}, rounds).treating;
         times.push_back(treating / static_cast<double>(bands.values.size()));
     }
     return times;
@@ -163,16 +158,16 @@ void print_level(const planes::Plane &plane, const Level &level, double pixel_ti
     std::fflush(stdout);
 }
 
-void print_levels(const std::string &kind, std::uint32_t area, bool limited, const std::vector<double> &pixel_times,
-                  int rounds) {
+void print_levels(const std::string &kind, std::uint32_t area, const library::Rule &rule,
+                  const std::vector<double> &pixel_times, int rounds) {
     const planes::Plane plane = planes::make(kind, side, side);
     std::printf("\nSmall components, in ns for each: %s, least area %u, %s, all sections of a width, %d x %d\n",
-                kind.c_str(), area, limited ? "limited" : "plain", side, side);
+                kind.c_str(), area, rule.code == 0 ? "plain" : "limited", side, side);
     std::printf("%6s %11s %10s %10s %10s %10s %10s\n", "width", "components", "pixels", "to find", "to treat",
                 "by pixels", "besides");
     int width = 256;
     for (const double pixel_time : pixel_times) {
-        print_level(plane, {width, area, limited}, pixel_time, rounds);
+        print_level(plane, {width, area, rule}, pixel_time, rounds);
         width /= 2;
     }
 }
@@ -181,14 +176,15 @@ void print_levels(const std::string &kind, std::uint32_t area, bool limited, con
 
 void print_grain(int rounds) {
     if (!library::linked) {
+        std::printf("\nThe library is not linked: what small components cost is not measured.\n");
         return;
     }
-    const std::vector<double> plain = pixel_times(false, rounds), limited = pixel_times(true, rounds);
+    const std::vector<double> plain = pixel_times(any_ratio, rounds), limited = pixel_times(half, rounds);
     for (const std::uint32_t area : {1, 2, 20}) {
-        print_levels("noise", area, false, plain, rounds);
+        print_levels("noise", area, any_ratio, plain, rounds);
     }
     for (const std::uint32_t area : {1, 20}) {
-        print_levels("grain", area, false, plain, rounds);
+        print_levels("grain", area, any_ratio, plain, rounds);
     }
-    print_levels("noise", 1, true, limited, rounds);
+    print_levels("noise", 1, half, limited, rounds);
 }

@@ -30,22 +30,12 @@ std::uint64_t enhance(const std::uint8_t *frame, int w, int h, const published::
                                  memory.queue.data(), n, output, 3 * n));
 }
 
-std::uint64_t pass(std::uint8_t *plane, int w, int h, int min, int max, const published::Parameters &parameters,
+std::uint64_t pass(std::uint8_t *plane, int w, int h, int min, int max, std::size_t area, const Rule &rule,
                    Memory &memory) {
     const std::size_t n = static_cast<std::size_t>(w) * static_cast<std::size_t>(h);
     return accepted(mlhe_pass(plane, n, memory.marks.data(), n, memory.queue.data(), n, w, h,
                               static_cast<std::uint8_t>(min), static_cast<std::uint8_t>(max),
-                              static_cast<std::uint32_t>(parameters.area), MLHE_PLAIN,
-                              static_cast<std::uint16_t>(parameters.low),
-                              static_cast<std::uint16_t>(parameters.high)));
-}
-
-std::uint64_t limited_pass(std::uint8_t *plane, int w, int h, int min, int max, std::uint32_t area, int k,
-                           Memory &memory) {
-    const std::size_t n = static_cast<std::size_t>(w) * static_cast<std::size_t>(h);
-    return accepted(mlhe_pass(plane, n, memory.marks.data(), n, memory.queue.data(), n, w, h,
-                              static_cast<std::uint8_t>(min), static_cast<std::uint8_t>(max), area, MLHE_LIMITED,
-                              static_cast<std::uint16_t>(k), 0));
+                              static_cast<std::uint32_t>(area), rule.code, rule.first, rule.second));
 }
 
 } // namespace library
@@ -59,9 +49,7 @@ std::uint64_t enhance(const std::uint8_t *, int, int, const published::Parameter
     std::abort();
 }
 
-std::uint64_t pass(std::uint8_t *, int, int, int, int, const published::Parameters &, Memory &) { std::abort(); }
-
-std::uint64_t limited_pass(std::uint8_t *, int, int, int, int, std::uint32_t, int, Memory &) { std::abort(); }
+std::uint64_t pass(std::uint8_t *, int, int, int, int, std::size_t, const Rule &, Memory &) { std::abort(); }
 
 } // namespace library
 

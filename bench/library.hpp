@@ -27,12 +27,21 @@ struct Memory {
 std::uint64_t enhance(const std::uint8_t *frame, int w, int h, const published::Parameters &parameters,
                       std::uint8_t *plane, Memory &memory, std::uint8_t *output);
 
-// As published::pass.
-std::uint64_t pass(std::uint8_t *plane, int w, int h, int min, int max, const published::Parameters &parameters,
-                   Memory &memory);
+// A tone rule by its numbers: 0, low and high for the plain rule; 1, the clip k and 0 for the limited rule.
+struct Rule {
+    std::uint8_t code;
+    std::uint16_t first;
+    std::uint16_t second;
+};
 
-// The same with the limited rule, k being the clip in thousandths.
-std::uint64_t limited_pass(std::uint8_t *plane, int w, int h, int min, int max, std::uint32_t area, int k,
-                           Memory &memory);
+constexpr Rule plain(int low, int high) {
+    return {0, static_cast<std::uint16_t>(low), static_cast<std::uint16_t>(high)};
+}
+
+constexpr Rule limited(int k) { return {1, static_cast<std::uint16_t>(k), 0}; }
+
+// As published::pass, with either rule.
+std::uint64_t pass(std::uint8_t *plane, int w, int h, int min, int max, std::size_t area, const Rule &rule,
+                   Memory &memory);
 
 } // namespace library

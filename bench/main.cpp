@@ -87,12 +87,13 @@ Times time_enhance(const planes::Plane &plane, const Parameters &parameters) {
 // A pass on the plane itself. The copy that each call starts from is part of both times.
 Times time_pass(const planes::Plane &plane, int min, int max, const Parameters &parameters) {
     const std::size_t n = plane.values.size();
+    const library::Rule rule = library::plain(parameters.low, parameters.high);
     library::Memory memory(n);
     Result expected(n);
     expected.plane = plane.values;
     expected.count = checker_pass(expected.plane.data(), plane.w, plane.h, static_cast<std::uint8_t>(min),
                                   static_cast<std::uint8_t>(max), static_cast<std::uint32_t>(parameters.area),
-                                  parameters.low, parameters.high);
+                                  rule.code, rule.first, rule.second);
     return compare(
         plane.name, expected,
         [&](Result &r) {
@@ -101,7 +102,7 @@ Times time_pass(const planes::Plane &plane, int min, int max, const Parameters &
         },
         [&](Result &r) {
             r.plane = plane.values;
-            r.count = library::pass(r.plane.data(), plane.w, plane.h, min, max, parameters, memory);
+            r.count = library::pass(r.plane.data(), plane.w, plane.h, min, max, parameters.area, rule, memory);
         });
 }
 
@@ -221,7 +222,7 @@ void summary() {
 
 int main(int argc, char **argv) {
     const std::string option = argc == 2 ? argv[1] : "";
-    if (option == "--grain" && library::linked) {
+    if (option == "--grain") {
         print_grain(rounds);
         return 0;
     }

@@ -1,4 +1,4 @@
-//! The second implementation behind C functions, with which the benchmark checks what it measures.
+//! The second implementation behind two C functions, with which the benchmark checks what it measures.
 
 use mlhe_reference::{enhance, pass, Pass, Rule, Settings};
 use std::slice;
@@ -30,7 +30,8 @@ pub unsafe extern "C" fn checker_enhance(
     enhance(frame, w, h, &settings, plane, n, n, output).expect("the benchmark's calls are sound")
 }
 
-/// Runs one pass with the plain rule. Answers the count; anything refused ends the benchmark.
+/// Runs one pass. The rule is 0 with low and high, or 1 with the clip and 0. Answers the count; anything refused ends the
+/// benchmark.
 ///
 /// # Safety
 ///
@@ -43,34 +44,16 @@ pub unsafe extern "C" fn checker_pass(
     a: u8,
     b: u8,
     area: u32,
-    low: u32,
-    high: u32,
+    rule: u8,
+    first: u16,
+    second: u16,
 ) -> u64 {
     let n = w * h;
     // SAFETY: the caller lends so many bytes.
     let plane = unsafe { slice::from_raw_parts_mut(plane, n) };
-    let settings = Pass { a, b, area, rule: Rule::Plain { low, high } };
-    pass(plane, n, n, w, h, &settings).expect("the benchmark's calls are sound")
-}
-
-/// Runs one pass with the limited rule. Answers the count; anything refused ends the benchmark.
-///
-/// # Safety
-///
-/// The plane has w × h bytes.
-#[no_mangle]
-pub unsafe extern "C" fn checker_limited_pass(
-    plane: *mut u8,
-    w: usize,
-    h: usize,
-    a: u8,
-    b: u8,
-    area: u32,
-    k: u32,
-) -> u64 {
-    let n = w * h;
-    // SAFETY: the caller lends so many bytes.
-    let plane = unsafe { slice::from_raw_parts_mut(plane, n) };
-    let settings = Pass { a, b, area, rule: Rule::Limited { k } };
-    pass(plane, n, n, w, h, &settings).expect("the benchmark's calls are sound")
+    let rule = match rule {
+        0 => Rule::Plain { low: first.into(), high: second.into() },
+        _ => Rule::Limited { k: first.into() },
+    };
+    pass(plane, n, n, w, h, &Pass { a, b, area, rule }).expect("the benchmark's calls are sound")
 }

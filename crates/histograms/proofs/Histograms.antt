@@ -47,16 +47,16 @@ module _ {a b : ℕ} {vs counts sums : List ℕ} (h : Histogram a b vs counts) (
       let all : Inside 0 b vs = record { low = λ u below. absurd (omega arith); high = h .inside .high } in
       summed-counts v av vb ∙ sym (inside-sum all v (omega arith))
 
--- they never fall, and end at the sum of all, of counts clipped or not
-pub summed-rise : {counts sums : List ℕ} {m a b : ℕ} (most : ℕ) → a ≤ b → 1 ≤ m → m ≤ 1048576
-    → sumTo (at counts) a b ≤ most → SummedInPlace a b counts sums → Sums sums most m a b
-summed-rise {counts} {sums} {m} {a} {b} most order some few top s =
-    let last = s .entry b order (omega arith) in
+-- sums of any terms never fall, and end at the sum of all: the terms may be counts, or counts clipped
+pub summed-rise : {counts sums : List ℕ} {most m a b : ℕ} (f : ℕ → ℕ) → Counted counts m a b
+    → ((v : ℕ) → a ≤ v → v ≤ b → at sums v ≡ sumTo f a v) → sumTo f a b ≤ most → Sums sums most m a b
+summed-rise {a = a} {b} f c entry top =
+    let last = entry b (c .order) (omega arith) in
     record {
-      order = order;
-      some = some;
-      few = few;
-      rises = λ v av vb. omega (arith, s .entry v av vb, last, sumTo-mono (at counts) a vb);
+      order = c .order;
+      some = c .some;
+      few = c .few;
+      rises = λ v av vb. omega (arith, entry v av vb, last, sumTo-mono f a vb);
       top = omega (arith, last);
     }
 

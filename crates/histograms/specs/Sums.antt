@@ -1,7 +1,7 @@
 -- One array holds the counts of a component and then their sums. Definitions only.
 --
 --   SummedInPlace   what the summing in place leaves
---   Sums            sums that never fall
+--   Sums            sums of which none is above the last
 use Prim.Native.Nat.{ℕ, _≤_}
 use mathlib.Core.Path.{_≡_}
 use mathlib.Core.List.{List}

@@ -6,49 +6,69 @@ use mathlib.Core.Bool.{true}
 use mathlib.Core.List.{List}
 use native.Mathlib.Nat.{min-le-left}
 use native.Mathlib.Omega.{arith}
-use lib.ListN.{length}
 use Rattle.planes.specs.Lists.{at}
 use Rattle.histograms.specs.Values.{sumTo}
-use Rattle.limited.specs.Limited.{clipped, limitedTone, neverKept, limitedBy, ClippedSums, Filled}
+use Rattle.limited.specs.Limited.{clipped, limitedTone, neverKept, limitedBy}
+use Rattle.limited.specs.Limited.{clippedAt, ClippedSums, Filled}
 use Rattle.histograms.specs.Histograms.{values, Component, Tally, Histogram, Counted, Refilled}
-use Rattle.histograms.specs.Sums.{SummedInPlace}
+use Rattle.histograms.specs.Sums.{SummedInPlace, Sums}
 use Rattle.histograms.specs.Tables.{RuleTables}
 use Rattle.histograms.proofs.Sums.{sum-le, sum-same, sum-thousand}
+use Rattle.histograms.proofs.Stores.{outside-both, refilled-outside}
 use Rattle.histograms.proofs.Histograms.{summed-rise, histogram-size, histogram-of, counted-of}
 
 -- ## Sums of clipped counts
 
-module _ {m a b : ℕ} {counts clips : List ℕ} (c : Counted counts m a b) (most : ℕ)
-    (clip : Refilled (λ v. min (1000 * at counts v) most) a (b + 1) counts clips) where
-  pub clips-le : sumTo (at clips) a b ≤ 1000 * m
-  clips-le =
-      let each : sumTo (at clips) a b ≤ sumTo (λ v. 1000 * at counts v) a b
-      = sum-le (at clips) (λ v. 1000 * at counts v) a (b - a + 1)
-      (λ v av vb. omega (arith, clip .new v av (omega (arith, c .order)), min-le-left (1000 * at counts v) most)) in
-      omega (arith, each, sum-thousand (at counts) a (b - a + 1), c .whole)
+-- clipped counts are no more than 1000 for each pixel
+pub clips-le : {m a b : ℕ} {counts : List ℕ} (most : ℕ) → Counted counts m a b
+    → sumTo (clippedAt most counts) a b ≤ 1000 * m
+clips-le {m} {a} {b} {counts} most c =
+    let each : sumTo (clippedAt most counts) a b ≤ sumTo (λ v. 1000 * at counts v) a b
+    = sum-le (clippedAt most counts) (λ v. 1000 * at counts v) a (b - a + 1)
+    (λ v _ _. min-le-left (1000 * at counts v) most) in
+    omega (arith, each, sum-thousand (at counts) a (b - a + 1), c .whole)
 
--- with a clip of k thousandths of m, the sums are those of the limited rule
-pub clipped-of : (k m : ℕ) {a b most : ℕ} {counts clips sums : List ℕ} → Counted counts m a b → most ≡ k * m
-    → Refilled (λ v. min (1000 * at counts v) most) a (b + 1) counts clips
+-- the sums of an array of them
+pub clips-sum : {a b : ℕ} {counts clips : List ℕ} (most : ℕ)
+    → Refilled (clippedAt most counts) a (b + 1) counts clips → (v : ℕ) → a ≤ v → v ≤ b
+    → sumTo (at clips) a v ≡ sumTo (clippedAt most counts) a v
+clips-sum {a} {b} {counts} {clips} most clip v av vb =
+    sum-same (at clips) (clippedAt most counts) a (v - a + 1) (λ u au uv. clip .new u au (omega arith))
+
+-- clipped at k thousandths of m, then summed in place
+pub clipped-of : {k m a b most : ℕ} {counts clips sums : List ℕ} → most ≡ k * m
+    → Refilled (clippedAt most counts) a (b + 1) counts clips
     → SummedInPlace a b clips sums
     → ClippedSums k m a b counts sums
-unfolding clipped
-clipped-of k m {a} {b} {most} {counts} {clips} {sums} c e clip s = record {
-  rising = summed-rise (1000 * m) (c .order) (c .some) (c .few) (clips-le c most clip) s;
-  entry = λ vs h v av vb.
-      let size : m ≡ length vs = histogram-size h c in
-      let each : (u : ℕ) → a ≤ u → u ≤ b → at clips u ≡ clipped k vs u = λ u au ub.
-      clip .new u au (omega arith) ∙ ap₂ (λ (q n : ℕ). min (1000 * q) n) (h .entry u au ub) (e ∙ ap (k *_) size) in
+clipped-of {k} {m} {a} {b} {most} {counts} e clip s = record {
+  entry = λ v av vb.
       s .entry v av vb
-      ∙ sum-same (at clips) (clipped k vs) a (v - a + 1) (λ u au uv. each u au (omega arith));
+      ∙ clips-sum most clip v av vb
+      ∙ ap (λ n. sumTo (clippedAt n counts) a v) e;
+  rest = outside-both (refilled-outside clip) (s .rest);
 }
 
--- and they give its tones
-pub limited-by-sums : {k m a b : ℕ} {vs counts sums : List ℕ} → Counted counts m a b → Histogram a b vs counts
-    → ClippedSums k m a b counts sums → (v : ℕ) → a ≤ v → v ≤ b → limitedBy sums m a b v ≡ limitedTone k a b vs v
-unfolding limitedTone
-limited-by-sums {b = b} {vs} c h s v av vb =
-    rw (s .entry vs h v av vb, s .entry vs h b (c .order) (omega arith), histogram-size h c)
+module _ {k m a b : ℕ} {counts sums : List ℕ} (c : Counted counts m a b) (s : ClippedSums k m a b counts sums) where
+  -- they never fall, and end at no more than 1000 for each pixel
+  pub clipped-rise : Sums sums (1000 * m) m a b
+  clipped-rise = summed-rise (clippedAt (k * m) counts) c (s .entry) (clips-le (k * m) c)
+
+  module _ {vs : List ℕ} (h : Histogram a b vs counts) where
+    -- they are the sums of the limited rule, for every list of values that has the counts
+    pub clipped-sums : (v : ℕ) → a ≤ v → v ≤ b → at sums v ≡ sumTo (clipped k vs) a v
+    unfolding clipped
+    clipped-sums v av vb =
+        let each : (u : ℕ) → a ≤ u → u ≤ b → clippedAt (k * m) counts u ≡ clipped k vs u = λ u au ub.
+        ap₂ (λ (q n : ℕ). min (1000 * q) (k * n)) (h .entry u au ub) (histogram-size h c) in
+        s .entry v av vb
+        ∙ sum-same (clippedAt (k * m) counts) (clipped k vs) a (v - a + 1)
+        (λ u au uv. each u au (omega arith))
+
+    -- and they give its tones
+    pub limited-by-sums : (v : ℕ) → a ≤ v → v ≤ b → limitedBy sums m a b v ≡ limitedTone k a b vs v
+    unfolding limitedTone
+    limited-by-sums v av vb =
+        rw (clipped-sums v av vb, clipped-sums b (c .order) (omega arith), histogram-size h c)
 
 -- ## Tables
 
@@ -59,5 +79,5 @@ module _ {plane queue counts table : List ℕ} {m a b : ℕ} (k : Component plan
       → Filled (limitedBy sums m a b) plane queue table m
       → RuleTables neverKept (limitedTone c a b) plane queue table m true
   limited-tables u f vs s =
-      let tones = limited-by-sums (counted-of k t) (histogram-of k t s) u in
+      let tones = limited-by-sums (counted-of k t) u (histogram-of k t s) in
       record { answer = refl; entry = λ i im. f .entry i im ∙ tones _ (k .within i im .0) (k .within i im .1) }

@@ -7,7 +7,8 @@
 --   neverKept     the rule keeps nothing back
 -- For the functions within:
 --   limitedBy     the tone, by the sums of the clipped counts
---   ClippedSums   the sums of the clipped counts, by every list of values that has the counts
+--   clippedAt     an array's counts in thousandths, none above a limit
+--   ClippedSums   what clipping the counts and summing them in place leaves
 --   Filled        a table with new entries at the values of the listed pixels
 use Prim.Native.Nat.{ℕ, _+_, _-_, _*_, _≤_, _<_, min}
 use mathlib.Core.Path.{_≡_}
@@ -17,8 +18,7 @@ use lib.ListN.{length}
 use lib.Dec.{eqb}
 use Rattle.planes.specs.Lists.{count, at}
 use Rattle.histograms.specs.Values.{sumTo, scaled}
-use Rattle.histograms.specs.Histograms.{Histogram}
-use Rattle.histograms.specs.Sums.{Sums}
+use Rattle.histograms.specs.Histograms.{Outside}
 
 -- ## The rule
 
@@ -50,11 +50,14 @@ limitedBy sums m a b v =
     let all = 1000 * m in
     scaled a b (w * at sums v + n * (all - at sums b)) (w * all)
 
--- each entry of [a, b] holds the sum of the clipped counts of its value and of those below it
-pub record ClippedSums (k m a b : ℕ) (counts sums : List ℕ) : Type 0 where
-  pub rising : Sums sums (1000 * m) m a b
-  pub entry : (vs : List ℕ) → Histogram a b vs counts → (v : ℕ) → a ≤ v → v ≤ b
-      → at sums v ≡ sumTo (clipped k vs) a v
+abbrev pub clippedAt : ℕ → List ℕ → ℕ → ℕ
+clippedAt most counts v = min (1000 * at counts v) most
+
+-- each entry of [a, b] holds the sum of what it and the entries below it held before, each clipped; what stands outside
+-- is in no sum and stays
+pub record ClippedSums (k m a b : ℕ) (before after : List ℕ) : Type 0 where
+  pub entry : (v : ℕ) → a ≤ v → v ≤ b → at after v ≡ sumTo (clippedAt (k * m) before) a v
+  pub rest : Outside a b before after
 
 -- at the value of each of the queue's first m pixels, the entry is that of f
 pub record Filled (f : ℕ → ℕ) (plane queue table : List ℕ) (m : ℕ) : Type 0 where

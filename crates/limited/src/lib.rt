@@ -16,7 +16,7 @@ ghost use Rattle.histograms.specs.Values.{sumTo};
 ghost use Rattle.histograms.specs.Histograms.{values, Component, Outside, Tally, Counted, Refilled};
 ghost use Rattle.histograms.specs.Sums.{Sums};
 ghost use Rattle.histograms.specs.Tables.{RuleTabled};
-ghost use Rattle.limited.specs.Limited.{limitedTone, neverKept, limitedBy, ClippedSums, Filled};
+ghost use Rattle.limited.specs.Limited.{limitedTone, neverKept, limitedBy, clippedAt, ClippedSums, Filled};
 use histograms::scale;
 use histograms::sum_up;
 
@@ -30,7 +30,7 @@ fn lesser(x: u64, y: u64) -> u64
 // The counts of the values of [a, b] in thousandths, none above `most`.
 fn clip(counts: &mut [u32; 256], a: u8, b: u8, most: u64)
     requires { ⌜ (length (now counts) ≡ 256) × ((a ≤ b) × (sumTo (at (now counts)) a b ≤ 1048576)) ⌝ }
-    ensures { λ r. ⌜ Refilled (λ v. min (1000 * at (now (counts .entry)) v) most) a (b + 1)
+    ensures { λ r. ⌜ Refilled (clippedAt most (now (counts .entry))) a (b + 1)
         (now (counts .entry)) (now (counts .exit)) ⌝ }
 {
     let end = b as usize + 1;
@@ -105,8 +105,7 @@ fn clip_of(k: u16, m: usize) -> u64
 // Clips the counts of the values of [a, b], and sums them, in place.
 fn sum_clipped(counts: &mut [u32; 256], m: usize, a: u8, b: u8, k: u16)
     requires { ⌜ Counted (now counts) m a b ⌝ }
-    ensures { λ r. ⌜ ClippedSums k m a b (now (counts .entry)) (now (counts .exit))
-        × Outside a b (now (counts .entry)) (now (counts .exit)) ⌝ }
+    ensures { λ r. ⌜ ClippedSums k m a b (now (counts .entry)) (now (counts .exit)) ⌝ }
 {
     let most = clip_of(k, m);
     clip(counts, a, b, most);

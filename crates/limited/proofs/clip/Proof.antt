@@ -5,6 +5,7 @@ use mathlib.Core.Path.{_≡_, ap, _∙_}
 use native.Mathlib.Nat.{min-le-left}
 use Rattle.planes.specs.Lists.{at}
 use Rattle.histograms.specs.Histograms.{Refilled}
+use Rattle.limited.specs.Limited.{clippedAt}
 use Rattle.histograms.proofs.Sums.{term-le}
 use Rattle.histograms.proofs.Stores.{refilled-none, refilled-more}
 use borrow.Author.Needs.{needs}
@@ -14,7 +15,7 @@ use Rattle.limited.proofs.clip.Tie as tie
 
 abbrev Inv-loop : tie.InvT-loop
 Inv-loop counts₀ a b most end v₀ counts v =
-    (a ≤ v) × ((v ≤ b + 1) × Refilled (λ k. min (1000 * at counts₀ k) most) a v counts₀ counts)
+    (a ≤ v) × ((v ≤ b + 1) × Refilled (clippedAt most counts₀) a v counts₀ counts)
 
 abbrev μ-loop : tie.MeasureT-loop
 μ-loop counts₀ a b most end v₀ counts v = b + 1 - v
@@ -54,7 +55,7 @@ lesser-requires c κs = search needs
 -- what is stored is the clipped count
 clipped : (c : tie.After-lesser Inv-loop μ-loop) →
     let a = c .before .before .before .before .args in
-    c .lesser .result ≡ min (1000 * at (a .counts .now) (c .before .before .before .loop .v)) (a .most)
+    c .lesser .result ≡ clippedAt (a .most) (a .counts .now) (c .before .before .before .loop .v)
 clipped c =
     let most = c .before .before .before .before .args .most in
     c .lesser .ensures ∙ ap (λ n. min (1000 * n) most) (old (c .before .before))

@@ -2,8 +2,7 @@
 -- nothing.
 use mathlib.Core.Path.{_∙_}
 use native.Mathlib.Nat.{mul-le-mul-left}
-use Rattle.histograms.proofs.Stores.{outside-both, refilled-outside}
-use Rattle.limited.proofs.Histograms.{clips-le, clipped-of}
+use Rattle.limited.proofs.Histograms.{clips-le, clips-sum, clipped-of}
 use borrow.Author.Needs.{needs}
 use native.Mathlib.Omega.{arith}
 use Rattle.limited.proofs.sum_clipped.Statement.{statement}
@@ -20,16 +19,13 @@ sum-up-requires c κs =
     let pre = c .before .before .before .before .pre in
     let clip = c .before .clip .ensures in
     let most = c .before .before .before .clip-of .result in
-    (clip .size ∙ pre .size, (pre .order, omega (arith, clips-le pre most clip, pre .few)))
+    let sum = clips-sum most clip _ (pre .order) (omega arith) in
+    (clip .size ∙ pre .size, (pre .order, omega (arith, clips-le most pre, sum, pre .few)))
 
 returns : tie.Need-returns
 returns c =
-    let start = c .before .before .before .before .before in
     let most = c .before .before .before .before .clip-of .ensures in
-    let clip = c .before .before .clip .ensures in (
-      clipped-of (start .args .k) (start .args .m) (start .pre) most clip (c .sum-up .ensures),
-      outside-both (refilled-outside clip) (c .sum-up .ensures .rest),
-    )
+    clipped-of most (c .before .before .clip .ensures) (c .sum-up .ensures)
 
 pub sum-clipped-spec : {M : Type 1} → statement M
 sum-clipped-spec = tie.close (tie.spec clip-of-requires clip-requires sum-up-requires returns)

@@ -13,10 +13,8 @@ sum-up-requires c κs = search needs
 fill-plain-requires : tie.Need-fill-plain-requires
 fill-plain-requires c κs =
     let counted = c .before .before .before .before .pre in
-    let summed = c .before .before .sum-up .ensures in (
-      summed-rise _ (counted .order) (counted .some) (counted .few) (omega (arith, counted .whole)) summed,
-      omega arith,
-    )
+    let summed = c .before .before .sum-up .ensures in
+    (summed-rise _ counted (summed .entry) (omega (arith, counted .whole)), omega arith)
 
 returns : tie.Need-returns
 returns c =
