@@ -1,4 +1,4 @@
--- The demands hold: `demand-1`, `demand-2` and `demand-3`; and `lists-are-chains`. Assumes nothing.
+-- The demands hold: `demand-1`, `demand-2` and `demand-3`; and `lists-are-chains` and `as-before`. Assumes nothing.
 use Prim.Native.Nat.{ℕ, _-_, _*_, _/_, _≤_}
 use mathlib.Core.Path.{_≡_, refl, sym, ap, subst, _∙_}
 use mathlib.Core.List.{List, [], _∷_}
@@ -31,11 +31,12 @@ use Rattle.enhance.proofs.Published.{chain-published}
 use Rattle.netpbm.specs.Reading.{readReply}
 use Rattle.netpbm.specs.Writing.{encoding, writeRefusal}
 use Rattle.netpbm.proofs.Replies.{malformed-reply, headed-reply, framed-reply}
+use Rattle.netpbm.proofs.Uncommented.{reads-as-before, comments-got-10}
 use Rattle.passlists.proofs.Chains.{list-taken, list-chain, passes-taken, passes-chain}
 use Rattle.frames.specs.Program.{programOutput}
 use Rattle.frames.proofs.Program.{long-output, frame-output, refused-output}
 use Rattle.claims.specs.Claims.{AsListed, ReadAsListed, Writes, Demand1, Had, Demand2, ShapePreserving, Coloured}
-use Rattle.claims.specs.Claims.{Demand3Holds, passesChain, Chained, ListsAreChains}
+use Rattle.claims.specs.Claims.{Demand3Holds, passesChain, Chained, ListsAreChains, AsBefore}
 use Rattle.claims.proofs.ShapePreserving.{fine-shapes, grey-file}
 
 -- ## Demand 1
@@ -250,4 +251,12 @@ lists-are-chains = record {
   of-passes = λ z ss {plane} {marks} {queue} O.
       let taken = outcome-given O .0 in
       chained (passes-taken z plane marks queue ss taken) (passes-chain z plane marks queue _ _ _ _ ss taken O);
+}
+
+-- ## What is as it was before
+
+pub as-before : AsBefore
+as-before = record {
+  of-read = reads-as-before;
+  commented = λ bytes limit w h maxval raster p e. comments-got-10 limit p e;
 }

@@ -30,8 +30,9 @@ use Rattle.listformat.specs.Format.{encodePasses, encode}
 use Rattle.listformat.specs.Refusals.{recordRefusal, recordRefusals, listRefusal}
 use Rattle.texts.specs.Ascii.{isDigit, decimal}
 use Rattle.texts.specs.Heading.{heading}
-use Rattle.headers.specs.Bytes.{isWhite}
-use Rattle.headers.specs.Grammar.{mark, numeral, field, header}
+use Rattle.gaps.specs.Bytes.{isWhite, isSign, endsComment}
+use Rattle.gaps.specs.Gaps.{pieces, gap}
+use Rattle.headers.specs.Grammar.{mark, numeral, field, headerWith, header}
 use Rattle.netpbm.specs.Reading.{maxvalRefusal, rasterRefusal, trailingRefusal, frameRefusal, readAnswer}
 use Rattle.printing.specs.Printing.{enhancedFrame}
 use Rattle.frames.specs.Program.{programOutput}
@@ -77,8 +78,8 @@ unfolding shapeRefusal sizeRefusal sideRefusal pixelRefusal lengthRefusal passNe
     section level levels passes callOf enhanced
     passAt passesOf malformed misnamed miscounted headRefusal encodePass encodePasses encode
     recordRefusal recordRefusals listRefusal
-    isDigit isWhite mark numeral field header maxvalRefusal rasterRefusal trailingRefusal frameRefusal readAnswer
-    decimal heading enhancedFrame programOutput
+    isDigit isWhite isSign endsComment pieces gap mark numeral field headerWith header
+    maxvalRefusal rasterRefusal trailingRefusal frameRefusal readAnswer decimal heading enhancedFrame programOutput
 starred = record {
   passes = pass-examples;
   extrema = extrema-examples;
@@ -89,6 +90,7 @@ starred = record {
   N′ = refl;
   O = λ j. refl;
   P = refl;
+  P-commented = refl;
   Q-is = refl;
   Q-accepted = refl;
   Q = refl;

@@ -25,13 +25,17 @@
 --   Sequence           calls of `pass`, each lent the plane as the one before left it (passes/specs/Calls)
 --   readReply          what reading replies to some bytes (netpbm/specs/Reading)
 --   IsHeader           a list of bytes begins with a P6 header, by its parts (headers/specs/Headers)
+--   Gap                what stands before each of its numbers: whitespace bytes and comments (gaps/specs/Gaps)
 --   IsFrame            a list of bytes is a P6 frame, by its parts (netpbm/specs/Frames)
+--   signless           no number sign stands in the header before a raster (headers/specs/Uncommented)
+--   Uncommented        no number sign stands in a header that begins the bytes (headers/specs/Uncommented)
+--   uncommentedReply   what reading replied before comments were read (netpbm/specs/Uncommented)
 --   Bytes              every member is a byte (listformat/specs/Format)
 --   Emitted            what the program's function ensures: some bytes at the beginning of the output (printing)
 use Prim.Native.Nat.{ℕ, suc, _-_, _*_, _/_, _≤_, _<_}
 use mathlib.Core.Path.{_≡_}
 use mathlib.Core.Logic.{_↔_}
-use mathlib.Core.Bool.{true}
+use mathlib.Core.Bool.{true, false}
 use mathlib.Core.List.{List, [], _∷_, map}
 use lib.ListN.{length, take, drop}
 use lib.Dec.{ltb}
@@ -52,7 +56,9 @@ use Rattle.levels.specs.declared.Settings.{Settings}
 use Rattle.enhance.specs.Calls.{chainOf, enhanceCallRefusal, EnhanceOutcome}
 use Rattle.enhance.specs.Published.{publishedOf}
 use Rattle.headers.specs.Headers.{IsHeader}
+use Rattle.headers.specs.Uncommented.{signless, Uncommented}
 use Rattle.netpbm.specs.Reading.{frameRefusal, readReply}
+use Rattle.netpbm.specs.Uncommented.{uncommentedReply}
 use Rattle.netpbm.specs.Frames.{IsFrame}
 use Rattle.netpbm.specs.Writing.{encoding, writeRefusal, WriteOutcome}
 use Rattle.listformat.specs.Format.{Bytes, passesOf}
@@ -236,3 +242,12 @@ pub record ListsAreChains : Type 0 where
   pub of-passes : (z : Shape) (ss : List Pass) {plane marks queue values plane' marks' queue' : List ℕ}
       → PassesOutcome z ss plane marks queue (gives values) plane' marks' queue'
       → Chained z (length marks) (length queue) ss plane values plane'
+
+-- ## What is as it was before
+
+-- frames without comments are read as before comments were read; a header with a comment was refused with 10
+pub record AsBefore : Type 0 where
+  pub of-read : (bytes : List ℕ) (limit : ℕ) → Uncommented bytes
+      → readReply bytes limit ≡ uncommentedReply bytes limit
+  pub commented : (bytes : List ℕ) (limit w h maxval : ℕ) (raster : List ℕ) → IsHeader bytes w h maxval raster
+      → signless bytes raster ≡ false → uncommentedReply bytes limit ≡ refuses 10

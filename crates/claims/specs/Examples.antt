@@ -5,7 +5,7 @@
 --   Extrema, ExtremaExamples  how many regional maxima and minima a plane has
 --   Enhancing                 an enhancement leaves a plane and a count: examples K and L
 --   Starred                   all of them, with the published recursion on K, L and M, recolouring (N, O), the program
---                             (P) and a list (Q)
+--                             (P, and P with comments) and a list (Q)
 --   Demand3Met                an accepted frame, and calls from its plane of which one is accepted and two are refused
 use Prim.Native.Nat.{ℕ}
 use mathlib.Core.Path.{_≡_}
@@ -112,6 +112,10 @@ greyK = 10 ∷ 10 ∷ 10 ∷ 20 ∷ 20 ∷ 20 ∷ []
 abbrev pub fileP : List ℕ
 fileP = ascii "P6\n2 1\n255\n" ++ greyK
 
+-- the same with comments: right after P6, right after a digit and ended by CR, two in a row of which one is empty
+abbrev pub commentedP : List ℕ
+commentedP = ascii "P6# by hand\n2#1\r1 #\n# 15\n255\n" ++ greyK
+
 -- 4D 4C 50 01 00 01 00 00 7F 00 00 01 00 00 00 00 00 9C 63
 abbrev pub listQ : List ℕ
 listQ = 77 ∷ 76 ∷ 80 ∷ 1 ∷ 0 ∷ 1 ∷ 0 ∷ 0 ∷ 127 ∷ 0 ∷ 0 ∷ 1 ∷ 0 ∷ 0 ∷ 0 ∷ 0 ∷ 0 ∷ 156 ∷ 99 ∷ []
@@ -128,6 +132,8 @@ pub record Starred : Type 0 where
   pub O : (j : ℕ) → recolour (0 ∷ 0 ∷ 1 ∷ []) (j ∷ []) ≡ 0 ∷ 0 ∷ 0 ∷ []
   -- the program writes the frame as it was read
   pub P : programOutput fileP ≡ fileP
+  -- comments are read as whitespace, and none is written
+  pub P-commented : programOutput commentedP ≡ fileP
   -- the list is that of E's pass, is not refused, and does E
   pub Q-is : encode (on 0 127 1 anyRatio ∷ []) ≡ listQ
   pub Q-accepted : listRefusal listQ ≡ 0

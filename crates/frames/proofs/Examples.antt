@@ -2,8 +2,9 @@
 use mathlib.Core.Path.{refl}
 use Rattle.planes.specs.Refusals.{sizeRefusal, sideRefusal, pixelRefusal}
 use Rattle.texts.specs.Ascii.{isDigit, decimal}
-use Rattle.headers.specs.Bytes.{isWhite}
-use Rattle.headers.specs.Grammar.{mark, numeral, field, header}
+use Rattle.gaps.specs.Bytes.{isWhite, isSign, endsComment}
+use Rattle.gaps.specs.Gaps.{pieces, gap}
+use Rattle.headers.specs.Grammar.{mark, numeral, field, headerWith, header}
 use Rattle.netpbm.specs.Reading.{maxvalRefusal, rasterRefusal, trailingRefusal, frameRefusal, readAnswer}
 use Rattle.printing.specs.Printing.{refusalLine}
 use Rattle.frames.specs.Program.{programOutput}
@@ -11,11 +12,15 @@ use Rattle.frames.specs.Examples.{ProgramRefusals}
 use Rattle.frames.proofs.Program.{long-output}
 
 pub program-refusals : ProgramRefusals
-unfolding programOutput refusalLine readAnswer header mark field numeral isDigit isWhite decimal
+unfolding programOutput refusalLine readAnswer header headerWith mark field gap pieces numeral
+    isDigit isWhite isSign endsComment decimal
     frameRefusal sizeRefusal sideRefusal pixelRefusal maxvalRefusal rasterRefusal trailingRefusal
 program-refusals = record {
   empty = refl;
   wrong-mark = refl;
+  comment-unended = refl;
+  comment-for-separator = refl;
+  behind-comments = refl;
   no-width = refl;
   too-many = refl;
   just-enough = refl;
@@ -24,4 +29,5 @@ program-refusals = record {
   long-raster = refl;
   too-long = λ input long. long-output input long;
   longest = refl;
+  longest-comment = refl;
 }

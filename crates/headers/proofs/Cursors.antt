@@ -1,44 +1,32 @@
 -- From a place of the reader to what the grammar leaves there. Assumes nothing.
-use Prim.Native.Nat.{ℕ, _+_, _-_, _≤_}
-use mathlib.Core.Path.{_≡_, refl, sym, ap, ap₂, _∙_}
+use Prim.Native.Nat.{ℕ, _-_, _≤_}
+use mathlib.Core.Path.{_≡_, refl, ap, ap₂, _∙_}
 use mathlib.Core.List.{List}
 use native.Mathlib.Omega.{arith}
 use lib.ListN.{length, drop}
-use lib.Seq.{drop-drop}
-use Rattle.headers.specs.Bytes.{isWhite}
-use Rattle.headers.specs.Parsers.{Parsed, failed, parsed, takeWhile, dropWhile}
-use Rattle.headers.specs.Grammar.{numeral, field, Numbers, header}
+use Rattle.gaps.specs.Parsers.{Parsed, failed, parsed}
+use Rattle.gaps.specs.Gaps.{gap}
+use Rattle.headers.specs.Grammar.{field, Numbers, header}
 use Rattle.headers.specs.Cursors.{numberAt, fieldsAt}
 use Rattle.headers.specs.declared.Number.the-variants.{Read, Malformed}
 use Rattle.headers.specs.declared.Fields.the-variants.{Whole, Broken}
-use Rattle.headers.proofs.Parsers.{suffix-of-suffix, suffix-place, while-rest}
-use Rattle.headers.proofs.Grammar.{field-present, field-suffix, header-passed, header-suffix}
+use Rattle.gaps.proofs.Parsers.{suffix-of-suffix, suffix-place}
+use Rattle.headers.proofs.Grammar.{field-suffix, header-passed, header-suffix}
 
 module _ (bytes : List ℕ) (from : ℕ) where
-  -- a field is the number after its whitespace
-  pub field-number : (n : ℕ) → n ≡ from + length (takeWhile isWhite (drop from bytes)) → (n ≡ from → ⊥)
-      → field (drop from bytes) ≡ numeral (drop n bytes)
-  field-number n e some =
-      let spaces = takeWhile isWhite (drop from bytes) in
-      let present : 1 ≤ length spaces = omega arith in
-      let left : dropWhile isWhite (drop from bytes) ≡ drop n bytes =
-      while-rest isWhite (drop from bytes) ∙ drop-drop (length spaces) from bytes
-      ∙ ap (λ (i : ℕ). drop i bytes) (sym e) in
-      field-present (drop from bytes) present ∙ ap numeral left
-
-  pub field-lost : numberAt (length bytes) (field (drop from bytes)) ≡ Malformed → field (drop from bytes) ≡ failed
-  field-lost e = go (field (drop from bytes)) e
+  pub field-lost : numberAt (length bytes) (field gap (drop from bytes)) ≡ Malformed → field gap (drop from bytes) ≡ failed
+  field-lost e = go (field gap (drop from bytes)) e
     where
       go : (p : Parsed ℕ) → numberAt (length bytes) p ≡ Malformed → p ≡ failed
       go failed h = refl
       go (parsed v rest) h = let clash : _≡_ {A = ℕ} 0 1 = cc in absurd (omega arith)
 
-  pub field-read : (v n : ℕ) → numberAt (length bytes) (field (drop from bytes)) ≡ Read v n
-      → (field (drop from bytes) ≡ parsed v (drop n bytes)) × (n ≤ length bytes)
-  field-read v n e = go (field (drop from bytes)) refl e
+  pub field-read : (v n : ℕ) → numberAt (length bytes) (field gap (drop from bytes)) ≡ Read v n
+      → (field gap (drop from bytes) ≡ parsed v (drop n bytes)) × (n ≤ length bytes)
+  field-read v n e = go (field gap (drop from bytes)) refl e
     where
-      go : (p : Parsed ℕ) → field (drop from bytes) ≡ p → numberAt (length bytes) p ≡ Read v n
-          → (field (drop from bytes) ≡ parsed v (drop n bytes)) × (n ≤ length bytes)
+      go : (p : Parsed ℕ) → field gap (drop from bytes) ≡ p → numberAt (length bytes) p ≡ Read v n
+          → (field gap (drop from bytes) ≡ parsed v (drop n bytes)) × (n ≤ length bytes)
       go failed d h = let clash : _≡_ {A = ℕ} 0 1 = cc in absurd (omega arith)
       go (parsed u rest) d h =
           let same : u ≡ v = cc in

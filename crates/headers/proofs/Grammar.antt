@@ -1,5 +1,5 @@
 -- The parts of a header, each where its parser passes: the bytes that it takes and the bytes that it leaves.
--- `header-passed` gathers them. Assumes nothing.
+-- `header-passed` gathers them, whatever parser takes what stands before each number. Assumes nothing.
 use Prim.Native.Nat.{ℕ, _≤_, _<_}
 use mathlib.Core.Path.{_≡_, refl, sym, ap, _∙_}
 use mathlib.Core.Bool.{Bool, true, false, _&&_, cond, false≢true}
@@ -10,13 +10,14 @@ use lib.ListN.{length, drop}
 use Rattle.planes.specs.Lists.{at}
 use borrow.Author.Tests.{leb-true, eqb-true}
 use Rattle.texts.specs.Ascii.{isDigit, value}
-use Rattle.headers.specs.Bytes.{isWhite}
-use Rattle.headers.specs.Parsers.{failed, parsed, next, check, oneByte, byte, takeWhile1, takeWhile, dropWhile}
-use Rattle.headers.specs.Grammar.{mark, numeral, field, Numbers, header}
-use Rattle.headers.specs.Cursors.{succeeded}
-use Rattle.headers.proofs.Parsers.{passed-test, some-present, some-absent}
-use Rattle.headers.proofs.Parsers.{next-passed, check-passed, Run, run-passed}
-use Rattle.headers.proofs.Parsers.{Head, one-passed, Suffix, suffix-of-suffix, run-suffix}
+use Rattle.gaps.specs.Bytes.{isWhite}
+use Rattle.gaps.specs.Parsers.{Parser, failed, parsed, next, check, oneByte, byte, takeWhile1}
+use Rattle.gaps.specs.Gaps.{gap}
+use Rattle.gaps.specs.Cursors.{succeeded}
+use Rattle.headers.specs.Grammar.{mark, numeral, field, Numbers, headerWith, header}
+use Rattle.gaps.proofs.Parsers.{passed-test, next-passed, check-passed, Run, run-passed}
+use Rattle.gaps.proofs.Parsers.{Head, one-passed, Suffix, suffix-of-suffix, run-suffix}
+use Rattle.gaps.proofs.Cursors.{gap-suffix}
 
 -- the mark is the first two bytes
 pub mark-is : (xs : List ℕ) → 2 ≤ length xs → succeeded (mark xs) ≡ (eqb (at xs 0) 80 && eqb (at xs 1) 54)
@@ -53,15 +54,15 @@ mark-rest (x ∷ y ∷ xs) e = (go (eqb x 80) (eqb y 54) refl e, omega arith)
     go true false d h = absurd (false≢true (sym d ∙ sym (passed-test (eqb y 54) xs) ∙ h))
     go false t d h = absurd (false≢true h)
 
--- one or more whitespace bytes, and then a number
-pub field-absent : (bytes : List ℕ) → length (takeWhile isWhite bytes) ≡ 0 → field bytes ≡ failed
-unfolding field
-field-absent bytes e = rw (some-absent (takeWhile isWhite bytes) (dropWhile isWhite bytes) e)
+-- a number after what another parser takes
+module _ (before : Parser (Unit {0})) (bytes : List ℕ) where
+  pub field-absent : before bytes ≡ failed → field before bytes ≡ failed
+  unfolding field
+  field-absent e = rw e
 
-pub field-present : (bytes : List ℕ) → 1 ≤ length (takeWhile isWhite bytes)
-    → field bytes ≡ numeral (dropWhile isWhite bytes)
-unfolding field
-field-present bytes h = rw (some-present (takeWhile isWhite bytes) (dropWhile isWhite bytes) h)
+  pub field-present : (rest : List ℕ) → before bytes ≡ parsed tt rest → field before bytes ≡ numeral rest
+  unfolding field
+  field-present rest e = rw e
 
 -- a number that passes: its digits, and what they leave
 pub record Digits (bytes : List ℕ) (v : ℕ) (rest : List ℕ) : Type 0 where
@@ -85,29 +86,25 @@ number-passed bytes v rest e =
       value-is = same;
     }
 
--- a field that passes: the whitespace, and the number after it
-pub record Spaced (bytes : List ℕ) (v : ℕ) (rest : List ℕ) : Type 0 where
-  pub spaces : List ℕ
+-- a field that passes: what stands before the number, and the number
+pub record Field (before : Parser (Unit {0})) (bytes : List ℕ) (v : ℕ) (rest : List ℕ) : Type 0 where
   pub left : List ℕ
-  pub taken : Run isWhite bytes spaces left
+  pub taken : before bytes ≡ parsed tt left
   pub then : Digits left v rest
 
-pub field-passed : (bytes : List ℕ) (v : ℕ) (rest : List ℕ) → field bytes ≡ parsed v rest → Spaced bytes v rest
+pub field-passed : (before : Parser (Unit {0})) (bytes : List ℕ) (v : ℕ) (rest : List ℕ)
+    → field before bytes ≡ parsed v rest → Field before bytes v rest
 unfolding field
-field-passed bytes v rest e =
-    let spaces = next-passed (takeWhile1 isWhite bytes) _ v rest e in
-    record {
-      spaces = spaces .value;
-      left = spaces .left;
-      taken = run-passed isWhite bytes (spaces .value) (spaces .left) (spaces .first);
-      then = number-passed (spaces .left) v rest (spaces .second);
-    }
+field-passed before bytes v rest e =
+    let first = next-passed (before bytes) _ v rest e in
+    record { left = first .left; taken = first .first; then = number-passed (first .left) v rest (first .second) }
 
-pub spaced-suffix : {bytes : List ℕ} {v : ℕ} {rest : List ℕ} → Spaced bytes v rest → Suffix rest bytes
-spaced-suffix parts = suffix-of-suffix (run-suffix (parts .then .taken)) (run-suffix (parts .taken))
+pub spaced-suffix : {bytes : List ℕ} {v : ℕ} {rest : List ℕ} → Field gap bytes v rest → Suffix rest bytes
+spaced-suffix {bytes} parts =
+    suffix-of-suffix (run-suffix (parts .then .taken)) (gap-suffix bytes (parts .left) (parts .taken))
 
-pub field-suffix : (bytes : List ℕ) (v : ℕ) (rest : List ℕ) → field bytes ≡ parsed v rest → Suffix rest bytes
-field-suffix bytes v rest e = spaced-suffix (field-passed bytes v rest e)
+pub field-suffix : (bytes : List ℕ) (v : ℕ) (rest : List ℕ) → field gap bytes ≡ parsed v rest → Suffix rest bytes
+field-suffix bytes v rest e = spaced-suffix (field-passed gap bytes v rest e)
 
 pub mark-passed : (bytes : List ℕ) (u : Unit {0}) (rest : List ℕ) → mark bytes ≡ parsed u rest → bytes ≡ 80 ∷ 54 ∷ rest
 unfolding mark
@@ -120,33 +117,33 @@ mark-passed bytes u rest e =
     p .is ∙ rw (p-is, six .is, six-is)
 
 -- a header that passes: each of its parts, and what it leaves
-pub record Parts (bytes : List ℕ) (n : Numbers) (raster : List ℕ) : Type 0 where
+pub record Parts (before : Parser (Unit {0})) (bytes : List ℕ) (n : Numbers) (raster : List ℕ) : Type 0 where
   pub after-mark : List ℕ
   pub after-width : List ℕ
   pub after-height : List ℕ
   pub after-maxval : List ℕ
   pub marked : bytes ≡ 80 ∷ 54 ∷ after-mark
-  pub width-is : Spaced after-mark (n .width) after-width
-  pub height-is : Spaced after-width (n .height) after-height
-  pub maxval-is : Spaced after-height (n .maxval) after-maxval
+  pub width-is : Field before after-mark (n .width) after-width
+  pub height-is : Field before after-width (n .height) after-height
+  pub maxval-is : Field before after-height (n .maxval) after-maxval
   pub separator : Head isWhite after-maxval raster
 
-pub header-passed : (bytes : List ℕ) (n : Numbers) (raster : List ℕ) → header bytes ≡ parsed n raster
-    → Parts bytes n raster
-unfolding header
-header-passed bytes n raster e =
+pub header-passed-with : (before : Parser (Unit {0})) (bytes : List ℕ) (n : Numbers) (raster : List ℕ)
+    → headerWith before bytes ≡ parsed n raster → Parts before bytes n raster
+unfolding headerWith
+header-passed-with before bytes n raster e =
     let a = next-passed (mark bytes) _ n raster e in
-    let b = next-passed (field (a .left)) _ n raster (a .second) in
-    let c = next-passed (field (b .left)) _ n raster (b .second) in
-    let d = next-passed (field (c .left)) _ n raster (c .second) in
+    let b = next-passed (field before (a .left)) _ n raster (a .second) in
+    let c = next-passed (field before (b .left)) _ n raster (b .second) in
+    let d = next-passed (field before (c .left)) _ n raster (c .second) in
     let s = next-passed (oneByte isWhite (d .left)) _ n raster (d .second) in
     let numbers : record { width = b .value; height = c .value; maxval = d .value } ≡ n = cc (s .second) in
     let same : s .left ≡ raster = cc (s .second) in
-    let width : field (a .left) ≡ parsed (n .width) (b .left) =
+    let width : field before (a .left) ≡ parsed (n .width) (b .left) =
     b .first ∙ ap (λ (m : Numbers). parsed (m .width) (b .left)) numbers in
-    let height : field (b .left) ≡ parsed (n .height) (c .left) =
+    let height : field before (b .left) ≡ parsed (n .height) (c .left) =
     c .first ∙ ap (λ (m : Numbers). parsed (m .height) (c .left)) numbers in
-    let maxval : field (c .left) ≡ parsed (n .maxval) (d .left) =
+    let maxval : field before (c .left) ≡ parsed (n .maxval) (d .left) =
     d .first ∙ ap (λ (m : Numbers). parsed (m .maxval) (d .left)) numbers in
     record {
       after-mark = a .left;
@@ -154,13 +151,18 @@ header-passed bytes n raster e =
       after-height = c .left;
       after-maxval = d .left;
       marked = mark-passed bytes (a .value) (a .left) (a .first);
-      width-is = field-passed (a .left) (n .width) (b .left) width;
-      height-is = field-passed (b .left) (n .height) (c .left) height;
-      maxval-is = field-passed (c .left) (n .maxval) (d .left) maxval;
+      width-is = field-passed before (a .left) (n .width) (b .left) width;
+      height-is = field-passed before (b .left) (n .height) (c .left) height;
+      maxval-is = field-passed before (c .left) (n .maxval) (d .left) maxval;
       separator = one-passed isWhite (d .left) (s .value) raster (s .first ∙ ap (parsed (s .value)) same);
     }
 
-pub header-suffix : {bytes : List ℕ} {n : Numbers} {raster : List ℕ} → Parts bytes n raster → Suffix raster bytes
+pub header-passed : (bytes : List ℕ) (n : Numbers) (raster : List ℕ) → header bytes ≡ parsed n raster
+    → Parts gap bytes n raster
+unfolding header
+header-passed bytes n raster e = header-passed-with gap bytes n raster e
+
+pub header-suffix : {bytes : List ℕ} {n : Numbers} {raster : List ℕ} → Parts gap bytes n raster → Suffix raster bytes
 header-suffix parts =
     let mark : Suffix (parts .after-mark) _ = record { place = 2; is = sym (ap (drop 2) (parts .marked)) } in
     let one = parts .separator .is in

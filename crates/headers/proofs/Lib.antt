@@ -1,6 +1,5 @@
-pub mod Bytes
-pub mod Parsers
 pub mod Grammar
 pub mod Numbers
 pub mod Cursors
 pub mod Headers
+pub mod Uncommented

@@ -13,12 +13,12 @@ use lib.ListN.{length, drop, length-drop}
 use borrow.Author.Tests.{le-leb, lt-leb}
 use Rattle.planes.specs.Lists.{at}
 use Rattle.texts.specs.Ascii.{isDigit, valueAfter}
-use Rattle.headers.specs.Parsers.{Parsed, failed, parsed, Parser, next, pure, check, some, takeWhile, dropWhile}
+use Rattle.gaps.specs.Parsers.{Parsed, failed, parsed, Parser, next, pure, check, some, takeWhile, dropWhile}
 use Rattle.headers.specs.Grammar.{numeral}
 use Rattle.headers.specs.Cursors.{endedNumber, numberAt}
 use Rattle.headers.specs.declared.Number.the-variants.{Read, Malformed}
-use Rattle.headers.proofs.Bytes.{Taken}
-use Rattle.headers.proofs.Parsers.{drop-here, while-none}
+use Rattle.gaps.proofs.Bytes.{Taken}
+use Rattle.gaps.proofs.Parsers.{drop-here, while-none}
 
 -- the number of so many digits and this value, before the rest
 abbrev pub numberOf : ℕ → ℕ → List ℕ → Parsed ℕ

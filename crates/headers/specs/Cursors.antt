@@ -2,19 +2,13 @@
 -- bytes; the reader has the place where that list begins, which is the number of all bytes less its length.
 -- Definitions only.
 use Prim.Native.Nat.{ℕ, zero, suc, _-_}
-use mathlib.Core.Bool.{Bool, true, false}
 use lib.ListN.{length}
-use Rattle.headers.specs.Parsers.{Parsed, failed, parsed}
+use Rattle.gaps.specs.Parsers.{Parsed, failed, parsed}
 use Rattle.headers.specs.Grammar.{Numbers}
 use Rattle.headers.specs.declared.Number.{Number}
 use Rattle.headers.specs.declared.Number.the-variants.{Read, Malformed}
 use Rattle.headers.specs.declared.Fields.{Fields}
 use Rattle.headers.specs.declared.Fields.the-variants.{Whole, Broken}
-
--- the parser did not fail
-abbrev pub succeeded : {A : Type 0} → Parsed A → Bool
-succeeded failed = false
-succeeded (parsed a rest) = true
 
 -- a number that ends here, of so many digits
 abbrev pub endedNumber : ℕ → ℕ → ℕ → Number

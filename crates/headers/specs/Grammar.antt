@@ -1,12 +1,13 @@
 -- The grammar of a P6 header: the bytes P6, then width, height and maxval (the greatest value of a channel) as 1 to 6
--- digits, each after one or more whitespace bytes, then one whitespace byte. What it leaves is the raster.
+-- digits, each after a gap of whitespace and comments, then one whitespace byte. What it leaves is the raster.
 -- Definitions only.
 use Prim.Native.Nat.{ℕ}
 use lib.Dec.{leb}
 use lib.ListN.{length}
 use Rattle.texts.specs.Ascii.{isDigit, value}
-use Rattle.headers.specs.Bytes.{isWhite}
-use Rattle.headers.specs.Parsers.{Parser, _>>=_, _>>_, pure, check, byte, oneByte, takeWhile1}
+use Rattle.gaps.specs.Bytes.{isWhite}
+use Rattle.gaps.specs.Parsers.{Parser, _>>=_, _>>_, pure, check, byte, oneByte, takeWhile1}
+use Rattle.gaps.specs.Gaps.{gap}
 
 -- 1 to 6 digits; leading zeros count among them
 unfoldable pub numeral : Parser ℕ
@@ -15,10 +16,10 @@ numeral = do
   check (leb (length digits) 6)
   pure (value digits)
 
--- a number after one or more whitespace bytes
-unfoldable pub field : Parser ℕ
-field = do
-  takeWhile1 isWhite
+-- a number after what another parser takes
+unfoldable pub field : Parser (Unit {0}) → Parser ℕ
+field before = do
+  before
   numeral
 
 -- the three numbers of a header
@@ -33,11 +34,16 @@ mark = do
   byte 80
   byte 54
 
-unfoldable pub header : Parser Numbers
-header = do
+-- a header, by what stands before each number
+unfoldable pub headerWith : Parser (Unit {0}) → Parser Numbers
+headerWith before = do
   mark
-  w ← field
-  h ← field
-  maxval ← field
+  w ← field before
+  h ← field before
+  maxval ← field before
   oneByte isWhite
   pure (record { width = w; height = h; maxval = maxval })
+
+-- before each number stands a gap
+unfoldable pub header : Parser Numbers
+header = headerWith gap

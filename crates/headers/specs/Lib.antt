@@ -1,5 +1,4 @@
-pub mod Bytes
-pub mod Parsers
 pub mod Grammar
-pub mod Cursors
 pub mod Headers
+pub mod Uncommented
+pub mod Cursors

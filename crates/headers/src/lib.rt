@@ -2,25 +2,19 @@
 //
 // read_header   the three numbers of a header and the place of the raster, where a header begins the bytes
 ghost use mathlib.Core.Path.{_≡_};
-ghost use Prim.Native.Nat.{_+_, _≤_};
+ghost use Prim.Native.Nat.{_≤_};
 ghost use lib.ListN.{length, drop};
-ghost use Rattle.headers.specs.Bytes.{isWhite, moveFor};
-ghost use Rattle.headers.specs.Parsers.{takeWhile, oneByte};
+ghost use Rattle.gaps.specs.Bytes.{isWhite};
+ghost use Rattle.gaps.specs.Parsers.{oneByte};
+ghost use Rattle.gaps.specs.Gaps.{gap};
+ghost use Rattle.gaps.specs.Cursors.{succeeded};
 ghost use Rattle.headers.specs.Grammar.{mark, numeral, field, header};
-ghost use Rattle.headers.specs.Cursors.{succeeded, endedNumber, numberAt, fieldsAt};
+ghost use Rattle.headers.specs.Cursors.{endedNumber, numberAt, fieldsAt};
+use gaps::GapEnd;
+use gaps::Move;
 
 // The greatest number of digits of a number in a header.
 const DIGITS: usize = 6;
-
-// What the header reader does next, by the byte at its place.
-enum Move {
-    // A digit of this value: take it into the number.
-    Take(u8),
-    // Whitespace: step over it.
-    Skip,
-    // Any other byte: go no further.
-    Stop,
-}
 
 // A number of a header: its value, and the place after its last digit.
 enum Number {
@@ -37,34 +31,6 @@ pub enum Fields {
         offset: usize,
     },
     Broken,
-}
-
-// Header bytes sorted into digits, whitespace (TAB, LF, VT, FF and CR, which are 9 to 13, and space) and the rest.
-fn sorted(byte: u8) -> Move
-    ensures { λ r. ⌜ r ≡ moveFor byte ⌝ }
-{
-    match byte {
-        b'0'..=b'9' => Move::Take(byte - b'0'),
-        b'\t'..=b'\r' | b' ' => Move::Skip,
-        _ => Move::Stop,
-    }
-}
-
-// The place after the whitespace that begins at `from`.
-fn skip_whitespace(bytes: &[u8], from: usize) -> usize
-    ensures { λ r. ⌜ r ≡ from + length (takeWhile isWhite (drop from (now (bytes .entry)))) ⌝ }
-{
-    let mut at = from;
-    while at < bytes.len() {
-        let byte = bytes[at];
-        let next = sorted(byte);
-        match next {
-            Move::Skip => at += 1,
-            Move::Take(_) => return at,
-            Move::Stop => return at,
-        }
-    }
-    at
 }
 
 // The number whose digits end before `next`, if there are any.
@@ -87,7 +53,7 @@ fn read_number(bytes: &[u8], from: usize) -> Number
     let mut value = 0;
     while at < bytes.len() {
         let byte = bytes[at];
-        let next = sorted(byte);
+        let next = gaps::sorted(byte);
         match next {
             Move::Take(digit) => {
                 if digits == DIGITS {
@@ -98,25 +64,28 @@ fn read_number(bytes: &[u8], from: usize) -> Number
                 at += 1;
             }
             Move::Skip => return ended(digits, value, at),
+            Move::Comment => return ended(digits, value, at),
             Move::Stop => return ended(digits, value, at),
         }
     }
     ended(digits, value, at)
 }
 
-// The number after one or more whitespace bytes that begin at `from`.
+// The number after the gap of one or more whitespace bytes and comments that begins at `from`.
 fn read_field(bytes: &[u8], from: usize) -> Number
     requires { ⌜ from ≤ length (now bytes) ⌝ }
-    ensures { λ r. ⌜ r ≡ numberAt (length (now (bytes .entry))) (field (drop from (now (bytes .entry)))) ⌝ }
+    ensures { λ r. ⌜ r ≡ numberAt (length (now (bytes .entry))) (field gap (drop from (now (bytes .entry)))) ⌝ }
 {
-    let at = skip_whitespace(bytes, from);
+    let GapEnd::At(at) = gaps::skip_gap(bytes, from) else {
+        return Number::Malformed;
+    };
     if at == from {
         return Number::Malformed;
     }
     read_number(bytes, at)
 }
 
-// Whether one whitespace byte stands at `at`.
+// Whether one whitespace byte stands at `at`; a comment does not do.
 fn separated(bytes: &[u8], at: usize) -> bool
     ensures { λ r. ⌜ r ≡ succeeded (oneByte isWhite (drop at (now (bytes .entry)))) ⌝ }
 {
@@ -124,10 +93,11 @@ fn separated(bytes: &[u8], at: usize) -> bool
         return false;
     }
     let byte = bytes[at];
-    let next = sorted(byte);
+    let next = gaps::sorted(byte);
     match next {
         Move::Skip => true,
         Move::Take(_) => false,
+        Move::Comment => false,
         Move::Stop => false,
     }
 }

@@ -5,7 +5,7 @@ use mathlib.Core.List.{List, [], _∷_}
 use native.Mathlib.Omega.{arith}
 use lib.ListN.{length, drop, length-drop}
 use Rattle.planes.specs.Replies.{replied}
-use Rattle.headers.specs.Parsers.{parsed}
+use Rattle.gaps.specs.Parsers.{parsed}
 use Rattle.headers.specs.Grammar.{header}
 use Rattle.netpbm.specs.Reading.{frameRefusal, readReply}
 

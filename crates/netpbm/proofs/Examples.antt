@@ -3,14 +3,17 @@ use mathlib.Core.Path.{refl}
 use Rattle.planes.specs.Refusals.{sizeRefusal, sideRefusal, pixelRefusal, lengthRefusal, outputRefusal}
 use Rattle.texts.specs.Ascii.{isDigit, decimal}
 use Rattle.texts.specs.Heading.{heading}
-use Rattle.headers.specs.Bytes.{isWhite}
-use Rattle.headers.specs.Grammar.{mark, numeral, field, header}
+use Rattle.gaps.specs.Bytes.{isWhite, isSign, endsComment}
+use Rattle.gaps.specs.Gaps.{pieces, gap}
+use Rattle.headers.specs.Grammar.{mark, numeral, field, headerWith, header}
+use Rattle.headers.specs.Uncommented.{spaces, uncommentedHeader}
 use Rattle.netpbm.specs.Reading.{maxvalRefusal, rasterRefusal, trailingRefusal, frameRefusal, readAnswer}
 use Rattle.netpbm.specs.Writing.{writeRefusal}
 use Rattle.netpbm.specs.Examples.{NetpbmExamples}
 
 pub netpbm-examples : NetpbmExamples
-unfolding readAnswer header mark field numeral isDigit isWhite
+unfolding readAnswer header headerWith mark field gap pieces numeral isDigit isWhite isSign endsComment
+    spaces uncommentedHeader
     frameRefusal sizeRefusal sideRefusal pixelRefusal maxvalRefusal rasterRefusal trailingRefusal
     writeRefusal lengthRefusal outputRefusal heading decimal
 netpbm-examples = record {
@@ -18,6 +21,15 @@ netpbm-examples = record {
   all-whitespace = refl;
   line-feed-in-raster = refl;
   six-digits = refl;
+  comment = refl;
+  comment-after-mark = refl;
+  comment-after-digit = refl;
+  comment-in-number = refl;
+  empty-comments = refl;
+  comment-bytes = refl;
+  comment-to-return = refl;
+  comment-to-both = refl;
+  sign-in-raster = refl;
   wrong-mark = refl;
   empty = refl;
   ended = refl;
@@ -25,7 +37,12 @@ netpbm-examples = record {
   no-whitespace = refl;
   no-digits = refl;
   no-separator = refl;
-  comment = refl;
+  comment-unended = refl;
+  comment-for-separator = refl;
+  comment-before-mark = refl;
+  comment-in-mark = refl;
+  uncommented = refl;
+  was-malformed = refl;
   side-unread = refl;
   no-width = refl;
   no-height = refl;

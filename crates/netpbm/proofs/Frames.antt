@@ -11,7 +11,7 @@ use mathlib.Core.List.{List}
 use native.Mathlib.Omega.{arith}
 use lib.ListN.{length, length-drop}
 use Rattle.planes.specs.Refusals.{Sized}
-use Rattle.headers.specs.Parsers.{Parsed, failed, parsed}
+use Rattle.gaps.specs.Parsers.{Parsed, failed, parsed}
 use Rattle.headers.specs.Grammar.{Numbers, header}
 use Rattle.headers.specs.Headers.{IsHeader}
 use Rattle.headers.proofs.Grammar.{header-passed, header-suffix}

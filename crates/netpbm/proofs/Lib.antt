@@ -5,3 +5,4 @@ pub mod Replies
 pub mod Writing
 pub mod RoundTrip
 pub mod Examples
+pub mod Uncommented

@@ -14,7 +14,7 @@ use lib.ListN.{length}
 use Rattle.planes.specs.Lists.{at}
 use Rattle.planes.specs.Replies.{refuses, gives, replied}
 use Rattle.planes.proofs.Replies.{refuses-not-gives, refuses-same, gives-same, replied-refuses}
-use Rattle.headers.specs.Parsers.{Parsed, failed, parsed}
+use Rattle.gaps.specs.Parsers.{Parsed, failed, parsed}
 use Rattle.headers.specs.Grammar.{Numbers, header}
 use Rattle.headers.specs.Headers.{IsHeader}
 use Rattle.headers.proofs.Headers.{header-accepts}

@@ -17,8 +17,9 @@ use Rattle.planes.specs.Replies.{gives}
 use Rattle.texts.specs.Ascii.{decimal}
 use Rattle.texts.specs.Heading.{heading}
 use Rattle.texts.proofs.Decimal.{decimal-numeral}
-use Rattle.headers.specs.Bytes.{isWhite}
-use Rattle.headers.specs.Headers.{Spaces, IsHeader}
+use Rattle.gaps.specs.Bytes.{isWhite}
+use Rattle.gaps.specs.Gaps.{Gap, white, one}
+use Rattle.headers.specs.Headers.{IsHeader}
 use Rattle.netpbm.specs.Reading.{readAnswer}
 use Rattle.netpbm.specs.Frames.{IsFrame}
 use Rattle.netpbm.specs.Writing.{encoding, WriteOutcome}
@@ -26,8 +27,8 @@ use Rattle.netpbm.specs.declared.Header.the-variants.{Frame}
 use Rattle.netpbm.proofs.Frames.{accepted-iff}
 use Rattle.netpbm.proofs.Writing.{wrote-size, wrote-writable, wrote-frame}
 
-one-space : (b : ℕ) → isWhite b ≡ true → Spaces (b ∷ [])
-one-space b e = record { white = rw e; present = omega arith }
+one-space : (b : ℕ) → isWhite b ≡ true → Gap (b ∷ [])
+one-space b e = one (white e)
 
 line-feed : isWhite 10 ≡ true
 unfolding isWhite
@@ -37,24 +38,24 @@ space : isWhite 32 ≡ true
 unfolding isWhite
 space = refl
 
--- the written bytes are a header and a raster
+-- the written bytes are a header, with no comment, and a raster
 written-header : (raster : List ℕ) (w h : ℕ) → w < 1000000 → h < 1000000
     → IsHeader (encoding raster w h) w h 255 raster
 unfolding heading
 written-header raster w h wide high = record {
-  spaces₁ = 10 ∷ [];
+  gap₁ = 10 ∷ [];
   w-digits = decimal w;
-  spaces₂ = 32 ∷ [];
+  gap₂ = 32 ∷ [];
   h-digits = decimal h;
-  spaces₃ = 10 ∷ [];
+  gap₃ = 10 ∷ [];
   maxval-digits = decimal 255;
   separator = 10;
   parts = refl;
-  spaces₁-are = one-space 10 line-feed;
+  gap₁-is = one-space 10 line-feed;
   w-is = decimal-numeral w wide;
-  spaces₂-are = one-space 32 space;
+  gap₂-is = one-space 32 space;
   h-is = decimal-numeral h high;
-  spaces₃-are = one-space 10 line-feed;
+  gap₃-is = one-space 10 line-feed;
   maxval-is = decimal-numeral 255 (omega arith);
   separator-is = line-feed;
 }

@@ -7,6 +7,9 @@ use lib.ListN.{take, replicate}
 use Rattle.planes.specs.Lists.{from}
 use Rattle.planes.specs.Refusals.{greatestPixels}
 use Rattle.texts.specs.Ascii.{ascii, decimal}
+use Rattle.gaps.specs.Parsers.{failed, parsed}
+use Rattle.headers.specs.Grammar.{header}
+use Rattle.headers.specs.Uncommented.{uncommentedHeader}
 use Rattle.netpbm.specs.Reading.{readAnswer}
 use Rattle.netpbm.specs.Writing.{encoding, writeRefusal}
 use Rattle.netpbm.specs.declared.Header.{Header}
@@ -29,6 +32,20 @@ pub record NetpbmExamples : Type 0 where
   pub line-feed-in-raster : read "P6 1 1 255\r\nab" ≡ Frame 1 1 11
   -- six digits, leading zeros among them
   pub six-digits : read "P6 000001 1 255 abc" ≡ Frame 1 1 16
+  -- a comment counts as one whitespace byte: after other whitespace, right after P6 and right after a digit, where it
+  -- ends the number
+  pub comment : read "P6 #1\n1 1 255 abc" ≡ Frame 1 1 14
+  pub comment-after-mark : read "P6#x\n1 1 255 abc" ≡ Frame 1 1 13
+  pub comment-after-digit : header (ascii "P6 3# x\n2 24 ") ≡ parsed (record { width = 3; height = 2; maxval = 24 }) []
+  pub comment-in-number : header (ascii "P6 12#x\n3456 1 ") ≡ parsed (record { width = 12; height = 3456; maxval = 1 }) []
+  -- it may be empty, follow another, and hold any byte but LF and CR
+  pub empty-comments : read "P6#\n#\n1#\n#\n 1#\n255 abc" ≡ Frame 1 1 19
+  pub comment-bytes : read "P6 # P6 9 9#\0þ#\n1 1 255 abc" ≡ Frame 1 1 24
+  -- CR ends it as LF does; after CR LF the LF is one more whitespace byte
+  pub comment-to-return : read "P6 #x\r1 1 255 abc" ≡ Frame 1 1 14
+  pub comment-to-both : read "P6 #x\r\n1 1 255 abc" ≡ Frame 1 1 15
+  -- after `255 ` a number sign belongs to the raster
+  pub sign-in-raster : read "P6 1 1 255 #b\n" ≡ Frame 1 1 11
   -- 10: a header that is malformed or ended
   pub wrong-mark : read "P5 1 1 255" ≡ Refused 10
   pub empty : read "" ≡ Refused 10
@@ -38,7 +55,17 @@ pub record NetpbmExamples : Type 0 where
   pub no-whitespace : read "P61 1 255 abc" ≡ Refused 10
   pub no-digits : read "P6 a 1 255 abc" ≡ Refused 10
   pub no-separator : read "P6 1 1 255abc" ≡ Refused 10
-  pub comment : read "P6 #1\n1 1 255 abc" ≡ Refused 10
+  -- a comment that never ends, one after the third number, one before P6
+  pub comment-unended : map read ("P6 #" ∷ "P6 #1 1 255 abc" ∷ "P6 1#1 255 abc" ∷ "P6 1 1#255 abc" ∷ [])
+      ≡ replicate 4 (Refused 10)
+  pub comment-for-separator : map read ("P6 1 1 255#\nabc" ∷ "P6 1 1 255# abc" ∷ "P6 1 1 255# \nabc" ∷ [])
+      ≡ replicate 3 (Refused 10)
+  pub comment-before-mark : read "#x\nP6 1 1 255 abc" ≡ Refused 10
+  pub comment-in-mark : read "P#\n6 1 1 255 abc" ≡ Refused 10
+  -- before comments were read, a header with one was malformed, and one without was read
+  pub uncommented : uncommentedHeader (ascii "P6 1 1 255 #bc")
+      ≡ parsed (record { width = 1; height = 1; maxval = 255 }) (ascii "#bc")
+  pub was-malformed : uncommentedHeader (ascii "P6 #1\n1 1 255 abc") ≡ failed
   pub side-unread : read "P6 0 1 255" ≡ Refused 10
   -- 1: a side is 0 or above 4,096
   pub no-width : read "P6 0 1 255 " ≡ Refused 1

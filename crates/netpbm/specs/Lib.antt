@@ -1,4 +1,5 @@
 pub mod Reading
+pub mod Uncommented
 pub mod Frames
 pub mod Writing
 pub mod Examples

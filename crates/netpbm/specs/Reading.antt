@@ -16,7 +16,7 @@ use lib.Dec.{eqb, ltb}
 use lib.ListN.{length}
 use Rattle.planes.specs.Refusals.{when, _▷_, sizeRefusal}
 use Rattle.planes.specs.Replies.{Reply, refuses, gives, replied}
-use Rattle.headers.specs.Parsers.{Parsed, failed, parsed}
+use Rattle.gaps.specs.Parsers.{Parsed, failed, parsed}
 use Rattle.headers.specs.Grammar.{Numbers, header}
 use Rattle.netpbm.specs.declared.Header.{Header}
 use Rattle.netpbm.specs.declared.Header.the-variants.{Refused, Frame}

@@ -3,7 +3,7 @@ use Prim.Native.Nat.{ℕ, zero, suc, _+_, _≤_, _<_, zero-le}
 use mathlib.Core.Path.{_≡_, refl, sym, ap, ap₂, subst, _∙_}
 use mathlib.Core.Logic.{inl, inr}
 use mathlib.Core.Bool.{Bool, true, false, cond, _&&_}
-use mathlib.Core.List.{List, [], _∷_, map}
+use mathlib.Core.List.{List, [], _∷_, _++_, map}
 use mathlib.Mathlib.Data.Bool.Basic.{and-elim-left, and-elim-right, and-intro}
 use native.Mathlib.Nat.{le-refl, not-suc-le-zero, eq-or-lt-of-le, le-of-suc-le-suc}
 use native.Mathlib.Nat.{add-zero, suc-add, add-suc, zero-add}
@@ -86,6 +86,18 @@ every-both f g h k [] d e = refl
 every-both f g h k (x ∷ xs) d e =
     and-intro (k x (and-elim-left (f x) (every f xs) d) (and-elim-left (g x) (every g xs) e))
     (every-both f g h k xs (and-elim-right (f x) (every f xs) d) (and-elim-right (g x) (every g xs) e))
+
+module _ (f : ℕ → Bool) where
+  pub every-append : (s t : List ℕ) → every f s ≡ true → every f t ≡ true → every f (s ++ t) ≡ true
+  every-append [] t d e = e
+  every-append (x ∷ s) t d e =
+      and-intro (and-elim-left (f x) (every f s) d) (every-append s t (and-elim-right (f x) (every f s) d) e)
+
+  pub every-parts : (s t : List ℕ) → every f (s ++ t) ≡ true → (every f s ≡ true) × (every f t ≡ true)
+  every-parts [] t e = (refl, e)
+  every-parts (x ∷ s) t e =
+      let both = every-parts s t (and-elim-right (f x) (every f (s ++ t)) e) in
+      (and-intro (and-elim-left (f x) (every f (s ++ t)) e) (both .0), both .1)
 
 pub every-count : (f : ℕ → Bool) (xs : List ℕ) → count f xs ≡ length xs → every f xs ≡ true
 every-count f [] e = refl

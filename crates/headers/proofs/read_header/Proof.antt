@@ -9,12 +9,13 @@ use borrow.Author.Needs.{needs}
 use borrow.Author.Tests.{not-true, not-false}
 use lib.ListN.{length, drop, length-drop}
 use denote.Ref.{now}
-use Rattle.headers.specs.Bytes.{isWhite}
-use Rattle.headers.specs.Parsers.{parsed, oneByte}
-use Rattle.headers.specs.Grammar.{mark, field, header}
-use Rattle.headers.specs.Cursors.{succeeded}
+use Rattle.gaps.specs.Bytes.{isWhite}
+use Rattle.gaps.specs.Parsers.{parsed, oneByte}
+use Rattle.headers.specs.Grammar.{mark, field, headerWith, header}
+use Rattle.gaps.specs.Gaps.{gap}
+use Rattle.gaps.specs.Cursors.{succeeded}
 use Rattle.headers.specs.declared.Fields.the-variants.{Whole}
-use Rattle.headers.proofs.Parsers.{not-passed, one-within, one-rest}
+use Rattle.gaps.proofs.Parsers.{not-passed, one-within, one-rest}
 use Rattle.headers.proofs.Grammar.{mark-rest}
 use Rattle.headers.proofs.Cursors.{field-lost, field-read}
 use Rattle.headers.proofs.read_header.Statement.{statement}
@@ -63,7 +64,7 @@ marked-is c =
     mark-rest (bytes₀ c) (sym (c .before .marked .ensures) ∙ test)
 
 abbrev Field : List ℕ → ℕ → ℕ → ℕ → Type 0
-Field bytes from v n = (field (drop from bytes) ≡ parsed v (drop n bytes)) × (n ≤ length bytes)
+Field bytes from v n = (field gap (drop from bytes) ≡ parsed v (drop n bytes)) × (n ≤ length bytes)
 
 w-is : (c : tie.After-w) → Field (bytes₁ c) 2 (c .w .given .0 .0) (place₁ c)
 w-is c = field-read (bytes₁ c) 2 _ _ (sym (c .before .before .read-field .ensures) ∙ c .w .given .1)
@@ -83,7 +84,7 @@ marked-requires : tie.Need-marked-requires
 marked-requires c κs = search needs
 
 returns : tie.Need-returns
-unfolding header
+unfolding header headerWith
 returns c =
     let test = not-true (c .before .marked .result) (c .if1 .taken) in
     let bytes = now (c .before .before .before .args .bytes) in
@@ -99,7 +100,7 @@ enum-told : tie.Need-enum-told
 enum-told c = search needs
 
 returns-2 : tie.Need-returns-2
-unfolding header
+unfolding header headerWith
 returns-2 c =
     let reading = c .before .before in
     let after-mark = reading .before in
@@ -116,7 +117,7 @@ enum-told-2 : tie.Need-enum-told-2
 enum-told-2 c = search needs
 
 returns-3 : tie.Need-returns-3
-unfolding header
+unfolding header headerWith
 returns-3 c =
     let reading = c .before .before in
     let after-w = reading .before .before in
@@ -135,7 +136,7 @@ enum-told-3 : tie.Need-enum-told-3
 enum-told-3 c = search needs
 
 returns-4 : tie.Need-returns-4
-unfolding header
+unfolding header headerWith
 returns-4 c =
     let reading = c .before .before in
     let after-h = reading .before .before in
@@ -149,7 +150,7 @@ separated-requires : tie.Need-separated-requires
 separated-requires c κs = search needs
 
 returns-5 : tie.Need-returns-5
-unfolding header
+unfolding header headerWith
 returns-5 c =
     let after-maxval = c .before .before .before in
     let after-h = h-of after-maxval in
@@ -168,7 +169,7 @@ add-t13 c =
     omega (arith, after-mark .before .before .before .good)
 
 returns-6 : tie.Need-returns-6
-unfolding header
+unfolding header headerWith
 returns-6 c =
     let after-maxval = maxval-of c in
     let after-h = h-of after-maxval in

@@ -13,8 +13,8 @@ use Rattle.planes.specs.Lists.{at}
 use Rattle.texts.specs.Ascii.{isDigit}
 use Rattle.headers.specs.Grammar.{numeral}
 use Rattle.headers.specs.Cursors.{endedNumber, numberAt}
-use Rattle.headers.proofs.Bytes.{white-not-digit, Taken, taken, skipped, stopped}
-use Rattle.headers.proofs.Parsers.{none-here, none-end}
+use Rattle.gaps.proofs.Bytes.{white-not-digit, sign-not-digit, Taken, taken, skipped, opened, stopped}
+use Rattle.gaps.proofs.Parsers.{none-here, none-end}
 use Rattle.headers.proofs.Numbers.{Reading, reading-begins, reading-more, reading-ends}
 use Rattle.headers.proofs.Numbers.{reading-small, reading-long}
 use Rattle.headers.proofs.read_number.Statement.{statement}
@@ -117,17 +117,30 @@ returns-3 : tie.Need-returns-3 Inv-loop μ-loop
 returns-3 c =
     let met = c .before in
     let sorting = met .before .before in
-    let neither = stopped (byte sorting) (sym (sorting .sorted .ensures) ∙ met .enum-told2 .given .1) in
-    c .ended2 .ensures ∙ ends (sorting .before .before) (neither .0)
+    let sign = opened (byte sorting) (sym (sorting .sorted .ensures) ∙ met .enum-told2 .given .1) in
+    c .ended2 .ensures ∙ ends (sorting .before .before) (sign-not-digit (byte sorting) (sign .1))
+
+enum-told-3 : tie.Need-enum-told-3 Inv-loop μ-loop
+enum-told-3 c = search needs
 
 ended-requires-3 : tie.Need-ended-requires-3 Inv-loop μ-loop
 ended-requires-3 c κs = search needs
 
 returns-4 : tie.Need-returns-4 Inv-loop μ-loop
 returns-4 c =
+    let met = c .before in
+    let sorting = met .before .before in
+    let none = stopped (byte sorting) (sym (sorting .sorted .ensures) ∙ met .enum-told3 .given .1) in
+    c .ended3 .ensures ∙ ends (sorting .before .before) (none .no-digit)
+
+ended-requires-4 : tie.Need-ended-requires-4 Inv-loop μ-loop
+ended-requires-4 c κs = search needs
+
+returns-5 : tie.Need-returns-5 Inv-loop μ-loop
+returns-5 c =
     let head = c .before .before in
     let none = none-end isDigit (bytes head) (head .loop .at) (c .before .loop-test .left) in
-    c .ended3 .ensures ∙ reading-ends (head .loop .inv) none
+    c .ended4 .ensures ∙ reading-ends (head .loop .inv) none
 
 pub read-number-spec : {M : Type 1} → statement M
 read-number-spec =
@@ -153,5 +166,8 @@ read-number-spec =
     enum-told-2
     ended-requires-2
     returns-3
+    enum-told-3
     ended-requires-3
-    returns-4)
+    returns-4
+    ended-requires-4
+    returns-5)

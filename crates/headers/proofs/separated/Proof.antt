@@ -4,9 +4,9 @@ use mathlib.Core.Path.{sym, _∙_}
 use borrow.Author.Needs.{needs}
 use denote.Ref.{now}
 use Rattle.planes.specs.Lists.{at}
-use Rattle.headers.specs.Bytes.{isWhite}
-use Rattle.headers.proofs.Bytes.{digit-not-white, taken, skipped, stopped}
-use Rattle.headers.proofs.Parsers.{one-here, one-end}
+use Rattle.gaps.specs.Bytes.{isWhite}
+use Rattle.gaps.proofs.Bytes.{digit-not-white, taken, skipped, opened, stopped}
+use Rattle.gaps.proofs.Parsers.{one-here, one-end}
 use Rattle.headers.proofs.separated.Statement.{statement}
 use Rattle.headers.proofs.separated.Tie as tie
 
@@ -27,6 +27,9 @@ enum-told-2 c = search needs
 
 enum-told-3 : tie.Need-enum-told-3
 enum-told-3 c = search needs
+
+enum-told-4 : tie.Need-enum-told-4
+enum-told-4 c = search needs
 
 returns-2 : tie.Need-returns-2
 returns-2 c =
@@ -53,7 +56,16 @@ returns-4 c =
     let bytes = now (inside .before .before .args .bytes) in
     let i = inside .before .before .args .at in
     let byte = at bytes i in
-    let test = stopped byte (sym (c .before .before .sorted .ensures) ∙ c .enum-told3 .given .1) .1 in
+    let test = opened byte (sym (c .before .before .sorted .ensures) ∙ c .enum-told3 .given .1) .0 in
+    sym (one-here isWhite bytes i (inside .if1 .left) ∙ test)
+
+returns-5 : tie.Need-returns-5
+returns-5 c =
+    let inside = c .before .before .before .before in
+    let bytes = now (inside .before .before .args .bytes) in
+    let i = inside .before .before .args .at in
+    let byte = at bytes i in
+    let test = stopped byte (sym (c .before .before .sorted .ensures) ∙ c .enum-told4 .given .1) .no-white in
     sym (one-here isWhite bytes i (inside .if1 .left) ∙ test)
 
 pub separated-spec : {M : Type 1} → statement M
@@ -66,6 +78,8 @@ separated-spec =
     enum-told
     enum-told-2
     enum-told-3
+    enum-told-4
     returns-2
     returns-3
-    returns-4)
+    returns-4
+    returns-5)

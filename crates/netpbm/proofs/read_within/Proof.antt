@@ -8,7 +8,7 @@ use lib.ListN.{length, drop}
 use denote.Ref.{now}
 use Rattle.planes.specs.Replies.{replied}
 use Rattle.planes.proofs.Replies.{replied-none, replied-refused}
-use Rattle.headers.specs.Parsers.{parsed}
+use Rattle.gaps.specs.Parsers.{parsed}
 use Rattle.headers.specs.Grammar.{header}
 use Rattle.headers.proofs.Cursors.{header-lost, header-read}
 use Rattle.netpbm.specs.Reading.{readReply}

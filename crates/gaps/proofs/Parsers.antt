@@ -4,17 +4,18 @@ use Prim.Native.Nat.{ℕ, _+_, _-_, _≤_, _<_}
 use mathlib.Core.Path.{_≡_, refl, sym, ap, _∙_}
 use mathlib.Core.Logic.{⊎-elim}
 use mathlib.Core.Bool.{Bool, true, false, false≢true, true≢false, cond}
-use mathlib.Core.List.{List, [], _∷_, _++_}
+use mathlib.Core.List.{List, [], _∷_, _++_, append-nil}
+use mathlib.Mathlib.Data.Bool.Basic.{and-elim-left, and-elim-right}
 use native.Mathlib.Nat.{sub-zero}
 use native.Mathlib.Numerals.{add-one}
 use native.Mathlib.Omega.{arith}
-use lib.ListN.{length, drop, drop-of-length-le, length-drop, length-append}
+use lib.ListN.{length, drop, drop-of-length-le, length-drop}
 use lib.Seq.{drop-cons, drop-drop, drop-length, drop-append-seam}
-use Rattle.planes.specs.Lists.{at}
+use Rattle.planes.specs.Lists.{every, at}
 use Rattle.planes.proofs.Tests.{less-or-not}
-use Rattle.headers.specs.Parsers.{Parsed, failed, parsed, Parser, next, check}
-use Rattle.headers.specs.Parsers.{oneByte, some, takeWhile1, takeWhile, dropWhile}
-use Rattle.headers.specs.Cursors.{succeeded}
+use Rattle.gaps.specs.Parsers.{Parsed, failed, parsed, Parser, next, check}
+use Rattle.gaps.specs.Parsers.{oneByte, some, takeWhile1, takeWhile, dropWhile}
+use Rattle.gaps.specs.Cursors.{succeeded}
 
 -- what is left of a list, from some place on
 pub record Suffix (rest bytes : List ℕ) : Type 0 where
@@ -97,10 +98,6 @@ pub some-present : (taken rest : List ℕ) → 1 ≤ length taken → some taken
 some-present [] rest h = absurd (omega arith)
 some-present (b ∷ taken) rest h = refl
 
-pub some-absent : (taken rest : List ℕ) → length taken ≡ 0 → some taken rest ≡ failed
-some-absent [] rest h = refl
-some-absent (b ∷ taken) rest h = absurd (omega arith)
-
 -- a list is the longest beginning that passes the test, and what follows it
 pub while-split : (f : ℕ → Bool) (xs : List ℕ) → takeWhile f xs ++ dropWhile f xs ≡ xs
 while-split f [] = refl
@@ -118,13 +115,38 @@ pub while-rest : (f : ℕ → Bool) (xs : List ℕ) → dropWhile f xs ≡ drop 
 while-rest f xs =
     sym (drop-append-seam (takeWhile f xs) (dropWhile f xs)) ∙ ap (drop (length (takeWhile f xs))) (while-split f xs)
 
-pub while-length : (f : ℕ → Bool) (xs : List ℕ) → length (takeWhile f xs) ≤ length xs
-while-length f xs =
-    let whole = ap length (while-split f xs) in
-    omega (arith, simp length-append at whole)
-
 pub run-suffix : {f : ℕ → Bool} {bytes taken rest : List ℕ} → Run f bytes taken rest → Suffix rest bytes
 run-suffix {f} {bytes} r = record { place = length (takeWhile f bytes); is = r .rest-is ∙ while-rest f bytes }
+
+-- the longest beginning that passes a test, of a list that begins with bytes that all pass
+module _ (f : ℕ → Bool) where
+  while-every : (xs : List ℕ) → every f (takeWhile f xs) ≡ true
+  while-every [] = refl
+  while-every (x ∷ xs) = go (f x) refl (while-every xs)
+    where
+      go : (t : Bool) → f x ≡ t → every f (takeWhile f xs) ≡ true → every f (cond t (x ∷ takeWhile f xs) []) ≡ true
+      go true d e = rw d e
+      go false d e = refl
+
+  while-append : (s t : List ℕ) → every f s ≡ true
+      → (takeWhile f (s ++ t) ≡ s ++ takeWhile f t) × (dropWhile f (s ++ t) ≡ dropWhile f t)
+  while-append [] t e = (refl, refl)
+  while-append (x ∷ s) t e =
+      let rest = while-append s t (and-elim-right (f x) (every f s) e) in
+      let test : f x ≡ true = and-elim-left (f x) (every f s) e in
+      (rw test (ap (λ (l : List ℕ). x ∷ l) (rest .0)), rw test (rest .1))
+
+  pub while-stops : (s t : List ℕ) → every f s ≡ true → takeWhile f t ≡ []
+      → (takeWhile f (s ++ t) ≡ s) × (dropWhile f (s ++ t) ≡ t)
+  while-stops s t e none =
+      let both = while-append s t e in
+      let taken = both .0 ∙ ap (λ (l : List ℕ). s ++ l) none ∙ append-nil s in
+      (taken, both .1 ∙ while-none f t none)
+
+pub run-splits : {f : ℕ → Bool} {bytes taken rest : List ℕ} → Run f bytes taken rest
+    → (bytes ≡ taken ++ rest) × (every f taken ≡ true)
+run-splits {f} {bytes} r =
+    (sym (rw (r .taken-is, r .rest-is) (while-split f bytes)), rw (r .taken-is) (while-every f bytes))
 
 -- what stands from a place on: the byte there, and what stands after it
 pub drop-here : (xs : List ℕ) (i : ℕ) → i < length xs → drop i xs ≡ at xs i ∷ drop (i + 1) xs
@@ -139,14 +161,6 @@ passed-test true rest = refl
 passed-test false rest = refl
 
 module _ (f : ℕ → Bool) (xs : List ℕ) (i : ℕ) where
-  -- the place after a run from i on
-  pub past-more : i < length xs → f (at xs i) ≡ true
-      → i + length (takeWhile f (drop i xs)) ≡ i + 1 + length (takeWhile f (drop (i + 1) xs))
-  past-more h e = rw (drop-here xs i h, e) (omega arith)
-
-  pub past-none : takeWhile f (drop i xs) ≡ [] → i + length (takeWhile f (drop i xs)) ≡ i
-  past-none e = rw e (omega arith)
-
   -- no run begins at a byte that fails the test, and none at the end
   pub none-here : i < length xs → f (at xs i) ≡ false → takeWhile f (drop i xs) ≡ []
   none-here h e = rw (drop-here xs i h, e)

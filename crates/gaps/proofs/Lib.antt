@@ -1,0 +1,5 @@
+pub mod Bytes
+pub mod Parsers
+pub mod Gaps
+pub mod Skipping
+pub mod Cursors

@@ -1,0 +1,4 @@
+pub mod Bytes
+pub mod Parsers
+pub mod Gaps
+pub mod Cursors
