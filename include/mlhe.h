@@ -60,7 +60,7 @@ enum mlhe_refusal {
     MLHE_REFUSED_LIMITS = 7,        /* plain: low is above high, or high above 25,500 */
     MLHE_REFUSED_CLIP = 8,          /* limited: k is above 1,000 */
     MLHE_REFUSED_LEVEL = 9,         /* the last level is above 7 */
-    MLHE_REFUSED_HEADER = 10,       /* the header is malformed, or the bytes end in it */
+    MLHE_REFUSED_HEADER = 10,       /* the header is malformed, or the bytes end in it, be it in a comment */
     MLHE_REFUSED_MAXVAL = 11,       /* the header's third number is not 255 */
     MLHE_REFUSED_RASTER = 12,       /* the raster is short */
     MLHE_REFUSED_TRAILING = 13,     /* there are bytes after the raster */
@@ -124,7 +124,9 @@ static inline const char *mlhe_reason(int64_t answer) {
 }
 
 /*
- * Reads the header of a P6 frame and measures the rest.
+ * Reads the header of a P6 frame and measures the rest. Comments are read over: a number sign where whitespace may stand
+ * before one of the three numbers opens one, which goes up to and including the next LF or CR and counts as one
+ * whitespace byte.
  *
  * bytes     the whole file, at most one frame
  * numbers   at least 3 elements: the first three become the width, the height, and the place of the raster's first

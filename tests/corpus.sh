@@ -8,7 +8,7 @@ cd "$(dirname "$0")/.."
 . tests/common.sh
 
 # the manifest's column for the requirements as they stand
-column=expected
+column=expected_after_request_1
 
 out=target/corpus
 mkdir -p "$out"
@@ -70,14 +70,17 @@ done < "$out/entries"
 [ "$((accepted + refused))" -gt 0 ] || fail "$manifest names no file"
 echo "corpus: $accepted files accepted and $refused refused, as the manifest and the second implementation say"
 
-# 65,536 bytes are read, and more are refused whatever they are
-head -c 65536 /dev/zero > "$out/longest"
-answer "$out/longest"
-answered "refused 10" longest
-for length in 65537 65538 1000000; do
-    head -c "$length" /dev/zero > "$out/long"
-    answer "$out/long"
-    answered "refused 13" "$length bytes"
+# 65,536 bytes are read, and more are refused whatever they are: zeros, and a comment that never ends
+{ printf 'P6\n#'; head -c 1000000 /dev/zero; } > "$out/comment"
+for bytes in /dev/zero "$out/comment"; do
+    head -c 65536 "$bytes" > "$out/longest"
+    answer "$out/longest"
+    answered "refused 10" longest
+    for length in 65537 65538 1000000; do
+        head -c "$length" "$bytes" > "$out/long"
+        answer "$out/long"
+        answered "refused 13" "$length bytes"
+    done
 done
 
 # a frame that arrives in pieces is read whole

@@ -1,6 +1,7 @@
 #!/usr/bin/env bash
-# Damaged and hostile input to the program's function, and its stored cases, against the second implementation. Proves and
-# builds the static library first, unless MLHE_FRAMES=path/to/libframes.a names one that is there. Offline.
+# Damaged and hostile input to the program's function, inputs at its limit of length, and its stored cases, against the
+# second implementation. Proves and builds the static library first, unless MLHE_FRAMES=path/to/libframes.a names one
+# that is there. Offline.
 set -euo pipefail
 cd "$(dirname "$0")/.."
 # shellcheck source=tests/common.sh

@@ -46,7 +46,8 @@ make --quiet -C examples/c MLHE_LIBRARY="$MLHE_LIBRARY"
 "${cargo[@]}" build --release -p mlhe --example enhance
 c=examples/c/enhance
 rust=target/cargo/release/examples/enhance
-frames=(tests/corpus/pil.ppm tests/corpus/imagemagick-4096x4.ppm tests/corpus/column-1x1024.ppm)
+frames=(tests/corpus/pil.ppm tests/corpus/imagemagick-4096x4.ppm tests/corpus/column-1x1024.ppm
+    tests/corpus/gimp-raw.ppm)
 # One limited pass on [0, 255], area 1, clip 10.
 printf 'MLP\1\0\1\0\0\377\1\0\1\0\0\0\12\0\0\0' > "$out/limited.mlp"
 for frame in "${frames[@]}"; do

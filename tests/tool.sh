@@ -98,6 +98,9 @@ cp "$corpus/thumb-48.png" shot/left/thumb-f1.ppm
 cp "$corpus/named-ppm-but-jpeg.ppm" shot/left/thumb-f2.ppm
 cp "$corpus/thumb-48.png" shot/left/.thumbnails/f1.ppm
 cp "$corpus/gimp-raw.ppm" shot/left/resaved-comment.ppm
+cp "$corpus/comment-unended.ppm" shot/left/comment-unended.ppm
+cp "$corpus/comment-glued-to-maxval.ppm" shot/left/comment-glued.ppm
+cp "$corpus/comment-before-magic.ppm" shot/left/comment-first.ppm
 cp "$corpus/resaved-comma.ppm" shot/left/resaved-comma.ppm
 cp "$corpus/netpbm-two-frames.ppm" shot/left/two.ppm
 cp "$corpus/opencv-16bit.ppm" shot/left/sixteen.ppm
@@ -109,6 +112,10 @@ cp "$corpus/trailing-newline.ppm" shot/left/newline.ppm
 : > shot/left/empty.ppm
 printf 'P6\n4 4\n255\n' > shot/left/long.ppm
 truncate -s 5G shot/left/long.ppm
+printf 'P6\n#' > shot/left/long-comment.ppm
+truncate -s 5M shot/left/long-comment.ppm
+printf 'P6 1024%2000000s1024 255\n' '' > shot/left/long-header.ppm
+head -c 3145728 rasters >> shot/left/long-header.ppm
 mkfifo shot/left/pipe.ppm
 ln -s nowhere.ppm shot/left/link-to-nothing.ppm
 ln -s f1.ppm shot/left/link-to-f1.ppm
@@ -142,7 +149,7 @@ echo "tool: a folder as people leave it: $(tail -n 1 printed)"
 # Each frame is what the program and the second implementation make of it: small ones here, large ones in cargo's tests.
 cargo build --quiet --release --locked --manifest-path "$repository/Cargo.toml" \
     --target-dir "$repository/target/cargo" -p mlhe_reference
-for name in left/f1 right/f1 "left/f1 copy of (1)" left/read-only; do
+for name in left/f1 right/f1 "left/f1 copy of (1)" left/read-only left/resaved-comment; do
     "$repository/target/cargo/release/program" < "shot/$name.ppm" | cmp - "enhanced/shot/$name.ppm" || fail "$name"
 done
 

@@ -47,20 +47,30 @@ def put(data, target, staging):
         raise
 
 
+def refusal_of(data):
+    """The number of the refusal of a frame's bytes, or 0."""
+    import mlhe
+
+    try:
+        mlhe.read(data)
+    except mlhe.Refused as refusal:
+        return refusal.number
+    return 0
+
+
 def read_frame(source):
-    """The frame in a file."""
+    """The frame in a file. Of a longer one than is read the first bytes are refused as the whole would be, unless its
+    raster goes on after them, or its header, which numbers at its end make whole."""
     import mlhe
 
     with open(source, "rb") as file:
         data = file.read(LONGEST + 1)
     if len(data) <= LONGEST:
         return mlhe.read(data)
-    try:
-        mlhe.read(data)
-    except mlhe.Refused as refusal:
-        if refusal.number != 12:
-            raise
-    raise OSError("it has more bytes than any frame that fits")
+    number = refusal_of(data)
+    if number in (0, 12) or number == 10 and refusal_of(data + b"\n1 1 1 ") != 10:
+        raise OSError("its header is too long: 4 MiB of a file are read")
+    raise mlhe.Refused(number)
 
 
 def enhance_file(source, targets, staging):

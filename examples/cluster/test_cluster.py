@@ -212,6 +212,8 @@ class OnACluster(Folder):
         (self.source / "folder").symlink_to("left")
         os.mkfifo(self.source / "pipe.ppm")
         (self.source / "long.ppm").write_bytes(b"P6 1024" + b" " * 2**21 + b"1024 255\n" + bytes(3 * 2**20))
+        (self.source / "comment.ppm").write_bytes(b"P6 #" + bytes(2**22) + b"\n1 1 255 RGB")
+        (self.source / "malformed.ppm").write_bytes(b"P6 1 1 255#" + bytes(2**22) + b"\nRGB")
         (self.source / "notes.txt").write_text("no frame")
         self.frame(".hidden.ppm", 4, 4, 1)
         self.frame(".hidden/f1.ppm", 4, 4, 1)
@@ -221,9 +223,10 @@ class OnACluster(Folder):
         names = self.strange_folder()
         status, output, errors, all_said = self.said(
             enhance_folder(self.cluster.address, self.source, self.out, "--plane"))
-        self.assertEqual((status, output[-1]), (1, "5 enhanced, 0 refused, 3 failed"), all_said)
-        for name in "link.ppm", "pipe.ppm", "long.ppm":
+        self.assertEqual((status, output[-1]), (1, "5 enhanced, 1 refused, 4 failed"), all_said)
+        for name in "link.ppm", "pipe.ppm", "long.ppm", "comment.ppm":
             self.assertTrue(any(line.startswith(f"{name}: failed: ") for line in errors), all_said)
+        self.assertIn(f"malformed.ppm: {mlhe.Refused(10)}", errors, all_said)
         written = {}
         for name, suffix in names.items():
             enhanced = mlhe.enhance(mlhe.read((self.source / (name + suffix)).read_bytes()))

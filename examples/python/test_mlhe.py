@@ -146,7 +146,8 @@ class Refusals(unittest.TestCase):
 
     def test_files(self):
         for number, data in (10, b""), (10, b"P5 1 1 255"), (1, b"P6 0 1 255\n"), (2, b"P6 4096 257 255\n"), \
-                (11, b"P6 1 1 15 "), (12, b"P6 1 1 255 12"), (13, b"P6 1 1 255 1234"):
+                (11, b"P6 1 1 15 "), (12, b"P6 1 1 255 12"), (13, b"P6 1 1 255 1234"), (10, b"P6 # 1 1 255 123"), \
+                (10, b"P6 1 1 255#\n123"), (10, b"#\nP6 1 1 255 123"), (11, b"P6#\n1 1 15 "), (13, b"P6 1 1 255 #\n12"):
             self.refused(number, mlhe.read, data)
 
     def test_what_cannot_be_said(self):
@@ -171,6 +172,14 @@ class Refusals(unittest.TestCase):
     def test_a_refusal_travels(self):
         refusal = pickle.loads(pickle.dumps(Refused(12)))
         self.assertEqual((refusal.number, refusal.reason), (12, "the raster is short"))
+
+
+class Files(unittest.TestCase):
+    def test_comments(self):
+        frame = grey(10, 20)
+        for head in b"P6\n# made by hand\n2 1 255\n", b"P6#\r\n#\r2# 2\n1 #255\r255 ", b"P6 2 #\x00\xff\n#\n1 255\t":
+            numpy.testing.assert_array_equal(mlhe.read(head + frame.tobytes()), frame)
+        self.assertEqual(mlhe.read((REPOSITORY / "tests/corpus/gimp-raw.ppm").read_bytes()).shape, (64, 96, 3))
 
 
 class Arrays(unittest.TestCase):

@@ -11,7 +11,7 @@ pub struct Frame {
 }
 
 /// Reads one frame of at most so many pixels. The whole header is read before any of its numbers is judged, so what is
-/// malformed or ended gets 10 whatever else is wrong.
+/// malformed or ended gets 10 whatever else is wrong. What follows the third number is whitespace and never a comment.
 pub fn read(bytes: &[u8], limit: usize) -> Result<Frame, Refusal> {
     let mut header = Header { bytes, at: 0 };
     header.magic()?;
@@ -44,6 +44,15 @@ impl Header<'_> {
         matches!(self.next(), Some(32 | 9 | 10 | 11 | 12 | 13))
     }
 
+    fn next_is_number_sign(&self) -> bool {
+        self.next() == Some(35)
+    }
+
+    fn next_is_line_end(&self) -> bool {
+        // LF, CR.
+        matches!(self.next(), Some(10 | 13))
+    }
+
     fn next_is_digit(&self) -> bool {
         matches!(self.next(), Some(48..=57))
     }
@@ -61,12 +70,31 @@ impl Header<'_> {
         Ok(())
     }
 
-    /// One or more whitespace bytes and 1 to 6 digits. What follows the digits is for the next to judge; none of them
-    /// takes a seventh digit.
-    fn number(&mut self) -> Result<usize, Refusal> {
-        self.one_whitespace()?;
-        while self.next_is_whitespace() {
+    /// A number sign and all up to and including the next LF or CR. One that never ends gets 10.
+    fn comment(&mut self) -> Result<(), Refusal> {
+        while !self.next_is_line_end() {
+            refuse_if(self.next().is_none(), 10)?;
             self.at += 1;
+        }
+        self.at += 1;
+        Ok(())
+    }
+
+    /// One whitespace byte, or a comment, which counts as one.
+    fn one_whitespace_or_comment(&mut self) -> Result<(), Refusal> {
+        if self.next_is_number_sign() {
+            self.comment()
+        } else {
+            self.one_whitespace()
+        }
+    }
+
+    /// One or more whitespace bytes or comments and 1 to 6 digits. What follows the digits is for the next to judge;
+    /// none of them takes a seventh digit.
+    fn number(&mut self) -> Result<usize, Refusal> {
+        self.one_whitespace_or_comment()?;
+        while self.next_is_whitespace() || self.next_is_number_sign() {
+            self.one_whitespace_or_comment()?;
         }
         let first = self.at;
         let mut number = 0;

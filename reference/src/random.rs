@@ -1,5 +1,8 @@
 //! A small generator of random numbers, so that every run of a test can be repeated from its seed.
 
+/// What ends a comment of a header, with whitespace after it or not.
+pub const COMMENT_ENDS: [&[u8]; 4] = [b"\n", b"\r", b"\r\n", b"\n\r"];
+
 /// Splitmix64.
 #[derive(Clone, Debug)]
 pub struct Random(u64);
@@ -35,5 +38,22 @@ impl Random {
     /// One of the given things.
     pub fn one_of<T: Copy>(&mut self, things: &[T]) -> T {
         things[self.below(things.len())]
+    }
+
+    /// A comment of a header without its end: a number sign and so many bytes of any kind, none of them LF or CR.
+    pub fn open_comment(&mut self, length: usize) -> Vec<u8> {
+        let mut comment = vec![b'#'];
+        for _ in 0..length {
+            let byte = if self.below(2) == 0 { self.one_of(b"0125 #P6\t\x0b\x0c\x00") } else { self.byte() };
+            comment.push(if matches!(byte, b'\n' | b'\r') { b' ' } else { byte });
+        }
+        comment
+    }
+
+    /// A comment of a header with its end.
+    pub fn comment(&mut self, length: usize) -> Vec<u8> {
+        let mut comment = self.open_comment(length);
+        comment.extend(self.one_of(&COMMENT_ENDS));
+        comment
     }
 }

@@ -1,6 +1,7 @@
 //! The table of refusals, row by row, and the orders of the tests. Each order is shown by all pairs of faults at once:
 //! the earlier one answers. Every refusal leaves the lent bytes as they were.
 
+use mlhe_reference::random::Random;
 use mlhe_reference::{enhance, intensity, list_bytes, pass, program, read, recolour, run_list, run_passes, write};
 use mlhe_reference::{Frame, Pass, Rule, Settings, GREATEST_PIXELS};
 
@@ -405,7 +406,6 @@ fn headers() {
         b"P6 1000000 1 255 RGB",
         b"P6 0000001 1 255 RGB",
         b"P6 1 x 255 RGB",
-        b"P6 # a\n1 1 255 RGB",
         b"P6 1 1 \x08255 RGB",
         b"P6 1 1\x0e255 RGB",
         b"P6 1 1\x00255 RGB",
@@ -415,6 +415,90 @@ fn headers() {
     for bytes in malformed {
         assert_eq!(at(bytes), Err(10), "{}", String::from_utf8_lossy(bytes));
     }
+}
+
+/// A comment counts as one whitespace byte, between P6 and the third number.
+#[test]
+fn comments() {
+    let at = |bytes: &[u8]| read(bytes, GREATEST_PIXELS);
+    let accepted: &[(&[u8], [usize; 3])] = &[
+        (b"P6 # a\n1 1 255 RGB", [1, 1, 15]),
+        (b"P6#\n1 1 255 RGB", [1, 1, 12]),
+        (b"P6 3# x\n2 255 012345678901234567", [3, 2, 14]),
+        (b"P6 1 2#\r255 RGBRGB", [1, 2, 12]),
+        (b"P6#1\n#2\r\n#\n\r1#\n1 # 255\n255 RGB", [1, 1, 27]),
+        (b"P6 #\x00\t\x0b\x0c #P6 1 1 255 \xff\n1 1 255 RGB", [1, 1, 31]),
+        (b"P6 000001#\n000002#\n000255 RGBRGB", [1, 2, 26]),
+        // After the header there is raster.
+        (b"P6 1 1 255 #\n#", [1, 1, 11]),
+    ];
+    for &(bytes, [w, h, offset]) in accepted {
+        assert_eq!(at(bytes), Ok(Frame { w, h, offset }), "{}", String::from_utf8_lossy(bytes));
+    }
+    let refused: &[(&[u8], u8)] = &[
+        // One that never ends, or has no number behind it.
+        (b"P6#", 10),
+        (b"P6 # 1 1 255 RGB", 10),
+        (b"P6 1#1 255 RGB", 10),
+        (b"P6 1 1 #", 10),
+        (b"P6 1 1 #\x0b\x0c\t 255 RGB", 10),
+        (b"P6 #\n", 10),
+        (b"P6 1 1#\n", 10),
+        (b"P6 #\nx1 1 255 RGB", 10),
+        (b"P6 #\n0000001 1 255 RGB", 10),
+        // After the third number, before P6 and in it.
+        (b"P6 1 1 255#", 10),
+        (b"P6 1 1 255# RGB", 10),
+        (b"P6 1 1 255#\nRGB", 10),
+        (b"#\nP6 1 1 255 RGB", 10),
+        (b"P#\n6 1 1 255 RGB", 10),
+        // It ends at the first line end, and stands between two numbers.
+        (b"P6 #\r2 2\n1 1 255 RGB", 11),
+        (b"P6 12#x\n3456 255 RGB", 12),
+        (b"P6 3# x\n2 24 ", 11),
+        // The numbers behind comments are judged as ever.
+        (b"P6#\n0#\n1#\n15 ", 1),
+        (b"P6#\n4096#\n257#\n15 ", 2),
+        (b"P6#\n1#\n1#\n15 RG", 11),
+        (b"P6#\n1#\n1#\n255 RG", 12),
+        (b"P6#\n1#\n1#\n255 RGBB", 13),
+        (b"P6 1 1 255\n#x\nRGB", 13),
+    ];
+    for (bytes, number) in refused {
+        assert_eq!(at(bytes), Err(*number), "{}", String::from_utf8_lossy(bytes));
+    }
+}
+
+/// With a space in place of each comment a file reads alike, whatever is wrong with it.
+#[test]
+fn a_comment_counts_as_one_whitespace_byte() {
+    let mut random = Random::new(7);
+    let mut accepted = 0;
+    for _ in 0..20_000 {
+        let (mut commented, mut plain) = (b"P6".to_vec(), b"P6".to_vec());
+        for usual in ["2", "1", "255"] {
+            for _ in 0..random.one_of(&[0, 1, 1, 1, 2, 2, 3, 3, 4]) {
+                let length = random.below(6);
+                let comment = [random.open_comment(length), vec![random.one_of(b"\n\r")]].concat();
+                let white = [random.one_of(b" \t\n\x0b\x0c\r")];
+                let is_comment = random.below(2) == 0;
+                commented.extend(if is_comment { &comment[..] } else { &white });
+                plain.extend(if is_comment { b" " } else { &white });
+            }
+            let number =
+                random.one_of(&[usual, usual, usual, usual, usual, "0", "256", "4097", "000001", "0000001", "x"]);
+            commented.extend(number.bytes());
+            plain.extend(number.bytes());
+        }
+        let end = random.one_of(&[&b" #aaaaa"[..], b"\n#\n#\n#\n", b"\rRGBRG", b" RGBRGBR", b"", b"x"]);
+        commented.extend(end);
+        plain.extend(end);
+        let longer = commented.len() - plain.len();
+        let expected = read(&plain, GREATEST_PIXELS).map(|frame| Frame { offset: frame.offset + longer, ..frame });
+        assert_eq!(read(&commented, GREATEST_PIXELS), expected, "{}", commented.escape_ascii());
+        accepted += usize::from(expected.is_ok() && longer > 0);
+    }
+    assert!(accepted > 500, "{accepted}");
 }
 
 /// 10, 1, 2, 11, 12, 13: each pair of faults that can meet.
@@ -477,6 +561,22 @@ fn long_input_of_the_program_comes_first() {
     assert_eq!(program(&longest).len(), 15 + 3 * 16_384);
     longest.insert(6, b' ');
     assert_eq!(program(&longest), b"refused 13\n");
+}
+
+#[test]
+fn a_comment_may_fill_the_input_of_the_program() {
+    let mut longest = b"P6 128#".to_vec();
+    longest.resize(65_536 - 3 * 16_384 - 9, b'1');
+    longest.extend(b"\n128 255 ");
+    longest.resize(65_536, 9);
+    assert_eq!(program(&longest).len(), 15 + 3 * 16_384);
+    longest.insert(7, b'1');
+    assert_eq!(program(&longest), b"refused 13\n");
+    let mut unended = b"P6 #".to_vec();
+    unended.resize(65_536, b' ');
+    assert_eq!(program(&unended), b"refused 10\n");
+    unended.push(b'\n');
+    assert_eq!(program(&unended), b"refused 13\n");
 }
 
 /// The small inputs of the table of refusals, in its order.

@@ -1,7 +1,7 @@
 //! The stored test cases are what the generator makes, and they show what they are meant to show.
 
 use mlhe_reference::cases::{answers, cases, encode, Case, Kind};
-use std::collections::BTreeSet;
+use std::collections::{BTreeMap, BTreeSet};
 use std::fs;
 use std::path::PathBuf;
 use std::process::Command;
@@ -158,4 +158,24 @@ fn frames_are_read_and_refused() {
     assert!(cases.iter().zip(&lines).all(|(case, line)| same(case, line)));
     let frames = lines.iter().filter(|line| line.starts_with("5036")).count();
     assert!(frames > 20 && frames < lines.len() - 20);
+}
+
+/// Frames with comments are read, and refused by every number; many a number sign makes a header malformed.
+#[test]
+fn comments_are_read_and_refused() {
+    let (cases, lines) = stored_of(Kind::Read);
+    let mut answers: BTreeMap<&str, usize> = BTreeMap::new();
+    for (case, line) in cases.iter().zip(&lines).filter(|(case, _)| case.bytes.contains(&b'#')) {
+        let offset = line.split(' ').nth(2).map(|offset| offset.parse().expect("a number"));
+        match offset {
+            Some(offset) if case.bytes[..offset].contains(&b'#') => *answers.entry("+").or_default() += 1,
+            Some(_) => *answers.entry("raster").or_default() += 1,
+            None => *answers.entry(line).or_default() += 1,
+        }
+    }
+    for (answer, least) in
+        [("+", 100), ("raster", 3), ("-10", 50), ("-1", 10), ("-2", 10), ("-11", 10), ("-12", 10), ("-13", 10)]
+    {
+        assert!(answers.get(answer).copied().unwrap_or(0) >= least, "{answer}: {answers:?}");
+    }
 }

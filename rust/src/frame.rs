@@ -35,8 +35,9 @@ impl Frame {
         }
     }
 
-    /// The frame of a P6 file. Refusals, in order: [`Refusal::Header`], [`Refusal::Sides`], [`Refusal::Pixels`],
-    /// [`Refusal::Maxval`], [`Refusal::Raster`], [`Refusal::Trailing`].
+    /// The frame of a P6 file. Comments in its header are read over, as by [`lent::read`]. Refusals, in
+    /// order: [`Refusal::Header`], [`Refusal::Sides`], [`Refusal::Pixels`], [`Refusal::Maxval`], [`Refusal::Raster`],
+    /// [`Refusal::Trailing`].
     ///
     /// ```
     /// use mlhe::{Frame, Refusal};
@@ -44,6 +45,7 @@ impl Frame {
     /// let frame = Frame::from_p6(b"P6 2 1 255 abcdef")?;
     /// assert_eq!((frame.width(), frame.height(), frame.bytes()), (2, 1, &b"abcdef"[..]));
     /// assert_eq!(frame.to_p6(), b"P6\n2 1\n255\nabcdef");
+    /// assert_eq!(Frame::from_p6(b"P6\n# a comment\n2 1 255 abcdef")?, frame);
     /// assert_eq!(Frame::from_p6(b"P5 1 1 255 "), Err(Refusal::Header));
     /// # Ok::<(), Refusal>(())
     /// ```

@@ -37,7 +37,9 @@ pub struct Header {
     pub offset: usize,
 }
 
-/// Reads the header of a P6 frame and measures the rest. Refusals, in order: 10, 1, 2, 11, 12, 13.
+/// Reads the header of a P6 frame and measures the rest. Comments are read over: a number sign where whitespace may
+/// stand before one of the three numbers opens one, which goes up to and including the next LF or CR and counts as one
+/// whitespace byte. Refusals, in order: 10, 1, 2, 11, 12, 13.
 pub fn read(bytes: &[u8]) -> Result<Header, Refusal> {
     let mut numbers = [0; 3];
     // SAFETY: each pointer goes with the length of its memory; `numbers` is writable and apart from `bytes`.

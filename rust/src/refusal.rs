@@ -34,7 +34,7 @@ pub enum Refusal {
     Clip = 8,
     /// 9: the last level is above 7.
     Level = 9,
-    /// 10: the header is malformed, or the bytes end in it.
+    /// 10: the header is malformed, or the bytes end in it, be it in a comment.
     Header = 10,
     /// 11: the header's third number is not 255.
     Maxval = 11,

@@ -21,6 +21,19 @@ fn frames_and_planes_have_the_length_of_their_sides() {
     assert_eq!(Plane::new(2, 1, vec![5, 6]).unwrap().values(), [5, 6]);
 }
 
+/// A comment is read over before a number; elsewhere in a header a number sign is refused.
+#[test]
+fn number_signs_in_headers() {
+    let read = |bytes: &[u8]| lent::read(bytes).map(|header| (header.w, header.h, header.offset));
+    assert_eq!(read(b"P6# 3\n2#\r\n#\r1 # 255\n255 #bcdef"), Ok((2, 1, 24)));
+    let file = b"P6\n# made by hand\n2 1\n255\nabcdef";
+    assert_eq!(Frame::from_p6(file).map(|frame| frame.to_p6()), Ok(b"P6\n2 1\n255\nabcdef".to_vec()));
+    for file in [&b"P6 # 2 1 255 abcdef"[..], b"P6 2 1 255#\nabcdef", b"#\nP6 2 1 255 abcdef", b"P#\n6 2 1 255 abcdef"]
+    {
+        assert_eq!(Frame::from_p6(file), Err(Refusal::Header));
+    }
+}
+
 #[test]
 fn a_plane_of_other_sides_does_not_recolour_a_frame() {
     let frame = Frame::new(2, 3, vec![9; 18]).unwrap();

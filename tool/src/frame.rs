@@ -53,8 +53,8 @@ impl Outcome {
     }
 }
 
-/// More bytes than any frame that fits has, with a header of up to a megabyte. So memory is bounded, whatever lies in a
-/// folder.
+/// How many bytes of a file are read: as many as any frame that fits has, with a header of up to a megabyte. So memory
+/// is bounded, whatever lies in a folder.
 const LONGEST: usize = 4 * 1_048_576;
 
 /// Enhances a file to its targets.
@@ -64,9 +64,7 @@ pub fn enhance(item: &Item, work: &Work, memory: &mut Memory) -> Outcome {
         Err(error) => return Outcome::failed(format!("it cannot be read: {error}")),
     };
     let frame = match Frame::from_p6(&bytes) {
-        Ok(_) | Err(Refusal::Raster) if length > LONGEST as u64 => {
-            return Outcome::failed(format!("it has {length} bytes, more than any frame that fits"));
-        }
+        answer if length > LONGEST as u64 && goes_on(&answer, &bytes) => return Outcome::failed(TOO_LONG),
         Ok(frame) => frame,
         Err(refusal) => return refused(refusal, &bytes, length),
     };
@@ -79,6 +77,19 @@ pub fn enhance(item: &Item, work: &Work, memory: &mut Memory) -> Outcome {
     match write(item, &recoloured, &plane) {
         Ok(()) => Outcome { answer: Answer::Enhanced(count), size, reason: String::new() },
         Err(error) => Outcome { size, ..Outcome::failed(format!("it cannot be written: {error}")) },
+    }
+}
+
+/// Why a frame is not read whose header, with white space and comments, is longer than a megabyte.
+const TOO_LONG: &str =
+    "its header is too long (4 MiB of a file are read): save it with less white space and shorter comments";
+
+/// Whether the first bytes of a longer file are the beginning of a frame, or of a header, that goes on.
+fn goes_on(answer: &Result<Frame, Refusal>, bytes: &[u8]) -> bool {
+    match answer {
+        Ok(_) | Err(Refusal::Raster) => true,
+        Err(Refusal::Header) => reasons::ends_in_header(bytes),
+        Err(_) => false,
     }
 }
 

@@ -28,9 +28,11 @@ const KINDS: [(&[u8], &str); 16] = [
 pub enum Header {
     /// Width, height, the third number, and the place of the first byte after it.
     Whole { w: usize, h: usize, maxval: usize, offset: usize },
-    /// A comment begins here.
-    Comment,
-    /// The bytes end.
+    /// The bytes end in the comment that begins here.
+    Unended(usize),
+    /// A number sign stands here, right after the third number.
+    Comment(usize),
+    /// The bytes end, and not in a comment.
     Ends,
     /// A byte that a header does not have here.
     Odd(usize),
@@ -42,11 +44,13 @@ pub fn header(bytes: &[u8]) -> Header {
     let mut numbers = [0; 3];
     for number in &mut numbers {
         let after_number = at;
-        at += count(&bytes[at..], is_white);
+        at = match after_gap(bytes, at) {
+            Ok(place) => place,
+            Err(comment) => return Header::Unended(comment),
+        };
         let digits = count(&bytes[at..], |byte| byte.is_ascii_digit());
         match bytes.get(at) {
             None => return Header::Ends,
-            Some(b'#') => return Header::Comment,
             _ if at == after_number || digits == 0 || digits > 6 => return Header::Odd(at),
             _ => *number = bytes[at..at + digits].iter().fold(0, |sum, digit| 10 * sum + usize::from(digit - b'0')),
         }
@@ -55,10 +59,32 @@ pub fn header(bytes: &[u8]) -> Header {
     let [w, h, maxval] = numbers;
     match bytes.get(at) {
         None => Header::Ends,
-        Some(b'#') => Header::Comment,
+        Some(b'#') => Header::Comment(at),
         Some(&byte) if is_white(byte) => Header::Whole { w, h, maxval, offset: at + 1 },
         _ => Header::Odd(at),
     }
+}
+
+/// Whether the bytes begin with P6 and end in the header.
+pub fn ends_in_header(bytes: &[u8]) -> bool {
+    bytes.starts_with(b"P6") && matches!(header(bytes), Header::Ends | Header::Unended(_))
+}
+
+/// The place after whitespace and comments, or that of a comment that does not end.
+fn after_gap(bytes: &[u8], mut at: usize) -> Result<usize, usize> {
+    loop {
+        at += count(&bytes[at..], is_white);
+        if bytes.get(at) != Some(&b'#') {
+            return Ok(at);
+        }
+        at += comment(&bytes[at..]).ok_or(at)?;
+    }
+}
+
+/// The length of the comment that the bytes begin with, up to and including its LF or CR.
+fn comment(bytes: &[u8]) -> Option<usize> {
+    let rest = bytes.strip_prefix(b"#")?;
+    rest.iter().position(|&byte| matches!(byte, b'\n' | b'\r')).map(|end| end + 2)
 }
 
 fn count(bytes: &[u8], holds: impl Fn(u8) -> bool) -> usize {
@@ -94,7 +120,12 @@ pub fn reason(refusal: Refusal, bytes: &[u8], length: u64) -> String {
             grouped(3 * w * h + offset)
         ),
         (Refusal::Trailing, Some(Header::Whole { w, h, offset, .. })) => {
-            trailing(&bytes[3 * w * h + offset..], length as usize - (3 * w * h + offset))
+            let rest = length as usize - (3 * w * h + offset);
+            if comment(&bytes[offset..]) == Some(rest) {
+                let words = "a comment (#) after the third number, where the raster begins";
+                return format!("{words}: save it without that comment");
+            }
+            trailing(&bytes[3 * w * h + offset..], rest)
         }
         (refusal, _) => refusal.reason().to_owned(),
     }
@@ -106,11 +137,18 @@ fn no_header(bytes: &[u8], known: Option<Header>) -> String {
         return "the file is empty: copy it again".to_owned();
     }
     match known {
-        Some(Header::Comment) => return "a comment (#) in the header: save it without comments".to_owned(),
+        Some(Header::Unended(at)) => {
+            let words = format!("the comment (#) at byte {} never ends", grouped(at + 1));
+            return format!("{words}: copy it again, or save it with an end of line (LF or CR) after the comment");
+        }
+        Some(Header::Comment(at)) => {
+            let words = format!("a comment (#) at byte {}, right after the third number", grouped(at + 1));
+            return format!("{words}, where one whitespace byte is due: save it without that comment");
+        }
         Some(Header::Ends) => return "the file ends in its header: copy it again".to_owned(),
         Some(Header::Odd(at)) => {
             let byte = bytes[at].escape_ascii();
-            return format!("malformed header, '{byte}' at byte {}: {saving}", at + 1);
+            return format!("malformed header, '{byte}' at byte {}: {saving}", grouped(at + 1));
         }
         _ => {}
     }
@@ -118,10 +156,17 @@ fn no_header(bytes: &[u8], known: Option<Header>) -> String {
     match kind {
         Some("compressed by gzip") => "no P6 frame but compressed by gzip: unpack it".to_owned(),
         Some(kind) => format!("no P6 frame but {kind}: {saving}"),
+        None if is_behind_comment(bytes) => {
+            "a comment (#) before P6, with which a file has to begin: save it without that comment".to_owned()
+        }
         None if is_text(bytes) => "no P6 frame but text".to_owned(),
-        None if bytes.starts_with(b"#") => "a comment (#) before the header: save it without comments".to_owned(),
         None => format!("no P6 frame, of an unknown kind: {saving}"),
     }
+}
+
+/// Whether comments stand before P6, with whitespace or without.
+fn is_behind_comment(bytes: &[u8]) -> bool {
+    bytes.starts_with(b"#") && after_gap(bytes, 0).is_ok_and(|at| bytes[at..].starts_with(b"P6"))
 }
 
 /// Whether the first bytes are text: no control codes but white space, and characters as UTF-8 has them.
@@ -164,8 +209,14 @@ mod tests {
         assert_eq!(header(b"P6 2 3 255 "), Header::Whole { w: 2, h: 3, maxval: 255, offset: 11 });
         assert_eq!(header(b"P6 2 3 255"), Header::Ends);
         assert_eq!(header(b"P6"), Header::Ends);
-        assert_eq!(header(b"P6\n# made\n2 3 255 "), Header::Comment);
-        assert_eq!(header(b"P6 2#x\n3 255 "), Header::Comment);
+        assert_eq!(header(b"P6\n# made\n2 3 255 "), Header::Whole { w: 2, h: 3, maxval: 255, offset: 18 });
+        assert_eq!(header(b"P6#\r\n#\n2#x\r3#3 255 \n15 #"), Header::Whole { w: 2, h: 3, maxval: 15, offset: 23 });
+        assert_eq!(header(b"P6#\n"), Header::Ends);
+        assert_eq!(header(b"P6#\n2 "), Header::Ends);
+        assert_eq!(header(b"P6#"), Header::Unended(2));
+        assert_eq!(header(b"P6 #\n2 # 3 255 "), Header::Unended(7));
+        assert_eq!(header(b"P6 2 3 255#\n"), Header::Comment(10));
+        assert_eq!(header(b"P6 #\n,2 3 255 "), Header::Odd(5));
         assert_eq!(header(b"P62 3 255 "), Header::Odd(2));
         assert_eq!(header(b"P6 2,3 255 "), Header::Odd(4));
         assert_eq!(header(b"P6 1234567 3 255 "), Header::Odd(3));
@@ -181,7 +232,17 @@ mod tests {
             (b"P5 1 1 255 a", "a grey PGM picture (P5)"),
             (b"notes on the shot\n", "but text"),
             (b"\x00\x01\x02", "of an unknown kind"),
-            (b"P6\n# made by hand\n1 1 255 abc", "a comment (#) in the header"),
+            (b"P6\n# made by hand 1 1 255 abc", "the comment (#) at byte 4 never ends: copy it again"),
+            (b"P6 1 1 #", "the comment (#) at byte 8 never ends"),
+            (b"P6 1 1 255# made\nabc", "a comment (#) at byte 11, right after the third number, where one whitespace"),
+            (b"P6 1 1 255\n# made\nabc", "a comment (#) after the third number, where the raster begins"),
+            (b"P6 1 1 255\n# made\nabcd", "8 bytes stand after the raster"),
+            (b"# made\n# by hand\r\nP6 1 1 255 abc", "a comment (#) before P6"),
+            (b"# P6 1 1 255 abc", "but text"),
+            (b"P6 # made\n1 1 25", "the file ends in its header"),
+            (b"P6 # made\n1;1 255 abc", "malformed header, ';' at byte 12"),
+            (b"P6 # made\n1 1 65535 abcdef", "16-bit: save with 8 bits"),
+            (b"P6 # made\n2 1 255 abc", "cut: 21 of 24 bytes are there"),
             (b"P6 1 1 25", "the file ends in its header"),
             (b"P6 1;1 255 abc", "malformed header, ';' at byte 5"),
             (b"P6 1 1 65535 abcdef", "16-bit: save with 8 bits"),

@@ -10,8 +10,9 @@ use std::process::Command;
 type Answer = (Vec<u8>, Vec<u8>, u64);
 
 /// Frames of the corpus that are accepted.
-const FRAMES: [&str; 6] = [
+const FRAMES: [&str; 7] = [
     "pil.ppm",
+    "gimp-raw.ppm",
     "imagemagick-gray.ppm",
     "imagemagick-4096x4.ppm",
     "column-1x1024.ppm",

@@ -216,7 +216,7 @@ pub fn damage(random: &mut Random, bytes: &mut Vec<u8>) {
     }
 }
 
-/// A P6 file of a frame, often with something wrong in it.
+/// A P6 file of a frame, often with comments, often with something wrong in it.
 pub fn p6_bytes(random: &mut Random) -> Vec<u8> {
     let (w, h) = (random.between(1, 9), random.between(1, 9));
     let (mut said_w, mut said_h, mut maxval) = (w, h, 255);
@@ -231,15 +231,45 @@ pub fn p6_bytes(random: &mut Random) -> Vec<u8> {
     let mut bytes = b"P6".to_vec();
     for number in [said_w, said_h, maxval] {
         for _ in 0..random.one_of(&[1, 1, 1, 2, 5]) {
-            bytes.push(random.one_of(b" \t\n\x0b\x0c\r"));
+            match random.below(60) {
+                0 => bytes.extend(random.open_comment(3)),
+                1 => bytes.extend(random.comment(2_000)),
+                2..=19 => {
+                    let length = random.below(9);
+                    bytes.extend(random.comment(length));
+                }
+                _ => bytes.push(random.one_of(b" \t\n\x0b\x0c\r")),
+            }
         }
         let zeros = random.one_of(&[0, 0, 0, 2, 5]);
         bytes.extend(format!("{}{number}", "0".repeat(zeros)).bytes());
     }
-    bytes.push(random.one_of(b" \t\n\x0b\x0c\r"));
+    bytes.push(random.one_of(b" \t\n\x0b\x0c\r \t\n\x0b\x0c\r#"));
     bytes.extend(frame_bytes(random, w, 3 * w * h));
     if one_in(random, 3) {
         damage(random, &mut bytes);
     }
     bytes
+}
+
+#[cfg(test)]
+mod tests {
+    use super::*;
+    use mlhe_reference::{read, GREATEST_PIXELS};
+
+    /// Many files have comments that are read over, and many are malformed with number signs in them.
+    #[test]
+    fn comments_are_common() {
+        let mut random = Random::new(1);
+        let (mut read_over, mut malformed) = (0, 0);
+        for _ in 0..2_000 {
+            let bytes = p6_bytes(&mut random);
+            match read(&bytes, GREATEST_PIXELS) {
+                Ok(frame) => read_over += usize::from(bytes[..frame.offset].contains(&b'#')),
+                Err(10) => malformed += usize::from(bytes.contains(&b'#')),
+                Err(_) => {}
+            }
+        }
+        assert!(read_over > 200 && malformed > 100, "{read_over} and {malformed} of 2,000");
+    }
 }

@@ -1,5 +1,5 @@
-//! Damaged input: frames and headers, well-formed or nearly so, and then changed at random places. Every run can be
-//! repeated from its seed.
+//! Damaged input: frames and headers, well-formed or nearly so, many of them with comments, and then changed at random
+//! places. Every run can be repeated from its seed.
 
 use mlhe_reference::random::Random;
 
@@ -48,11 +48,13 @@ impl Inputs {
         Inputs { random: Random::new(seed) }
     }
 
-    /// The next input: a frame, a header of odd parts, or noise; two in three of them changed afterwards.
+    /// The next input: a frame, a header of odd parts or one that ends in a comment, or noise; two in three of them
+    /// changed afterwards.
     pub fn input(&mut self) -> Vec<u8> {
         let mut input = match self.random.below(20) {
             0..=11 => self.frame(),
-            12..=17 => self.odd_header(),
+            12..=16 => self.odd_header(),
+            17 => self.unended(),
             18 => self.two_frames(),
             _ => self.noise(),
         };
@@ -67,12 +69,75 @@ impl Inputs {
         input
     }
 
-    /// A frame that is well-formed.
+    /// A frame that is well-formed, every other one with comments.
     fn frame(&mut self) -> Vec<u8> {
         let sides = if self.random.below(100) == 0 { self.random.one_of(&LARGE) } else { self.random.one_of(&SIDES) };
-        let mut frame = format!("P6\n{} {}\n255\n", sides.0, sides.1).into_bytes();
+        let comments = self.random.below(2) == 0;
+        let mut frame = b"P6".to_vec();
+        for (number, white) in [(sides.0, b"\n"), (sides.1, b" "), (255, b"\n")] {
+            if comments {
+                frame.extend(self.gap());
+            } else {
+                frame.extend(white);
+            }
+            frame.extend(number.to_string().bytes());
+        }
+        frame.push(b'\n');
         frame.extend(self.raster(sides.0 * sides.1));
         frame
+    }
+
+    /// The length of a comment: mostly none or few bytes, seldom thousands.
+    fn comment_length(&mut self) -> usize {
+        match self.random.below(200) {
+            0 => self.random.between(1_000, 9_000),
+            1..=9 => self.random.between(20, 300),
+            10..=59 => 0,
+            _ => self.random.between(1, 8),
+        }
+    }
+
+    /// Whitespace and comments as they may stand before a number: few, seldom hundreds of them.
+    fn gap(&mut self) -> Vec<u8> {
+        let mut gap = Vec::new();
+        let parts = if self.random.below(300) == 0 { 300 } else { self.random.between(1, 3) };
+        for _ in 0..parts {
+            if self.random.below(2) == 0 {
+                gap.push(self.random.one_of(b" \n\t\r\x0b\x0c"));
+            } else {
+                let length = self.comment_length();
+                gap.extend(self.random.comment(length));
+            }
+        }
+        gap
+    }
+
+    /// What may be taken for the whitespace before or after a number: a gap, a comment that is open at its end, or any
+    /// of the usual or unusual kinds.
+    fn odd_gap(&mut self) -> Vec<u8> {
+        match self.random.below(12) {
+            0..=2 => self.gap(),
+            3 => {
+                let length = self.comment_length();
+                self.random.open_comment(length)
+            }
+            _ => self.random.one_of(&WHITESPACE).to_vec(),
+        }
+    }
+
+    /// The beginning of a header, and a comment up to the end, which holds the rest.
+    fn unended(&mut self) -> Vec<u8> {
+        let mut input = b"P6".to_vec();
+        for number in [b"3", b"2"] {
+            if self.random.below(3) != 0 {
+                input.extend(self.gap());
+                input.extend(number);
+            }
+        }
+        let length = self.comment_length();
+        input.extend(self.random.open_comment(length));
+        input.extend(self.random.one_of(&[&b""[..], b" ", b" 3 2 255 ", b"255 RGBRGBRGBRGBRGBRGB"]));
+        input
     }
 
     /// The channels of so many pixels: one colour, a ramp, a few greys in patches, few colours, or noise.
@@ -95,19 +160,23 @@ impl Inputs {
         raster
     }
 
-    /// A header of numbers at the limits and whitespace of every kind, before a raster that may fit it.
+    /// A header of numbers at the limits, whitespace and comments of every kind, before a raster that may fit it.
     fn odd_header(&mut self) -> Vec<u8> {
         let sides = self.random.one_of(&SIDES);
         let mut header = b"P6".to_vec();
         for usual in [sides.0.to_string(), sides.1.to_string(), "255".to_string()] {
-            header.extend(self.random.one_of(&WHITESPACE));
+            header.extend(self.odd_gap());
             if self.random.below(2) == 0 {
                 header.extend(usual.bytes());
             } else {
                 header.extend(self.random.one_of(&NUMBERS));
             }
         }
-        header.extend(self.random.one_of(&WHITESPACE));
+        if self.random.below(4) == 0 {
+            header.extend(self.odd_gap());
+        } else {
+            header.extend(self.random.one_of(&WHITESPACE));
+        }
         header.extend(self.raster(sides.0 * sides.1));
         header
     }
@@ -131,9 +200,9 @@ impl Inputs {
         }
     }
 
-    /// A place in the input, more often than not in its first 24 bytes, where the header is.
+    /// A place in the input, more often than not in its first bytes, where the header is.
     fn place(&mut self, length: usize) -> usize {
-        let near = length.min(24);
+        let near = length.min(self.random.one_of(&[16, 24, 48]));
         if self.random.below(3) == 0 {
             self.random.below(length)
         } else {
@@ -168,11 +237,17 @@ impl Inputs {
         }
     }
 
-    /// Lengthens the input to about 65,536 bytes, by whitespace in the header or by bytes after the raster.
+    /// Lengthens the input to about 65,536 bytes, by whitespace or a comment in the header or by bytes at its end.
     fn lengthen(&mut self, input: &mut Vec<u8>) {
         let length = self.random.one_of(&[65_535, 65_536, 65_537, 65_600, 80_000]);
-        let more = length.max(input.len()) - input.len();
-        let at = if self.random.below(2) == 0 { input.len().min(2) } else { input.len() };
-        input.splice(at..at, std::iter::repeat_n(b' ', more));
+        let mut more = vec![b' '; length.max(input.len()) - input.len()];
+        let at = if self.random.below(4) == 0 { input.len() } else { input.len().min(2) };
+        if let [first, .., last] = &mut more[..] {
+            if self.random.below(2) == 0 {
+                *first = b'#';
+                *last = self.random.one_of(b"\n\r ");
+            }
+        }
+        input.splice(at..at, more);
     }
 }

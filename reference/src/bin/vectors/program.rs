@@ -1,6 +1,6 @@
 //! Cases of the program.
 
-use crate::read::{random_frame, HEADERS};
+use crate::read::{long_comments, random_frame, COMMENTS, HEADERS};
 use crate::sound::sound;
 use mlhe_reference::cases::{Case, Kind};
 use mlhe_reference::random::Random;
@@ -15,7 +15,7 @@ pub fn cases() -> Vec<Case> {
         run(input.into_bytes())
     }));
     let mut random = Random::new(100);
-    cases.extend((0..120).map(|_| run(random_frame(&mut random))));
+    cases.extend((0..120).map(|_| run(random_frame(&mut random, false))));
     // Pictures that tell the house setting from those next to it. No picture tells L 6, since level 7 changes none with
     // the house setting, nor high 301, since 100 × t is in steps of 100.
     let house = Settings::HOUSE;
@@ -32,6 +32,19 @@ pub fn cases() -> Vec<Case> {
     for other in others {
         let (w, h, raster) = picture_telling(&mut random, &house, &other);
         cases.push(run([header(w, h), raster].concat()));
+    }
+    cases.extend(COMMENTS.iter().map(|bytes| run(bytes.to_vec())));
+    cases.extend(long_comments().map(run));
+    for end in ["129 128#\n254 ", "129#\n128 255 RGB", "128#\n128 254 ", "128 128#\n255 RGB", "129 128 254#\n"] {
+        cases.push(run(format!("P6#\n{end}").into_bytes()));
+    }
+    let mut random = Random::new(101);
+    cases.extend((0..80).map(|_| run(random_frame(&mut random, true))));
+    // Pictures that the house setting changes, behind comments.
+    for _ in 0..2 {
+        let (w, h, raster) = picture_telling(&mut random, &house, &Settings { last_level: 0, ..house });
+        let commented = format!("P6# {w} {h}\n{w}#\r\n#\n{h} # 255\r255\n").into_bytes();
+        cases.push(run([commented, raster].concat()));
     }
     cases
 }
