@@ -1,5 +1,5 @@
-//! Enhances one P6 frame of any allowed size. Comments in its header are read over, and not written. The tool in `tool/`
-//! does folders, and more.
+//! Enhances one P6 frame of any allowed size. Comments in its header are read over, and not written. The tool in
+//! `tool/` does folders, and more.
 //!
 //!     cargo run --release --example enhance -- [LIST.mlp] IN.ppm OUT.ppm
 //!

@@ -14,7 +14,7 @@ Says input output = programOutput (ascii input) ≡ ascii output
 pub record ProgramRefusals : Type 0 where
   pub empty : Says "" "refused 10\n"
   pub wrong-mark : Says "P5 1 1 255" "refused 10\n"
-  -- a comment that never ends, one in place of the whitespace byte after the third number, and what stands behind others
+  -- a comment that never ends, one in place of the whitespace byte after the third number, and a number behind others
   pub comment-unended : Says "P6 1 1 #255 abc" "refused 10\n"
   pub comment-for-separator : Says "P6 1 1 255#\nabc" "refused 10\n"
   pub behind-comments : Says "P6#\n1 #1\r1# 255\n15 " "refused 11\n"

@@ -1,139 +1,197 @@
--- Skipping a gap byte by byte. `piecesFrom commented` is what is left to do at a place that is within a comment or not.
--- Each move of the reader is a step of the parsers; a digit, any byte that begins no piece, and the end, end the gap.
--- Assumes nothing.
+-- Skipping comments and gaps, step by step: at each place what is left to do is what is to do from the beginning on.
+-- Each move of the reader is a step of the parsers. Assumes nothing.
+--
+--   Within     the invariant within a comment
+--   Skipping   the invariant in a gap
 use Prim.Native.Nat.{ℕ, _+_, _-_, _≤_, _<_}
 use mathlib.Core.Path.{_≡_, refl, sym, ap, _∙_}
-use mathlib.Core.Bool.{Bool, true, false, cond}
+use mathlib.Core.Bool.{Bool, true, false}
 use mathlib.Core.List.{List, [], _∷_}
 use native.Mathlib.Omega.{arith}
 use lib.ListN.{length, drop, drop-of-length-le, length-drop}
 use Rattle.planes.specs.Lists.{at}
-use Rattle.gaps.specs.Bytes.{endsComment, commentMove, gapMove}
-use Rattle.gaps.specs.Parsers.{parsed}
+use Rattle.gaps.specs.Bytes.{endsComment, moveFor}
+use Rattle.gaps.specs.Parsers.{Parsed, failed, parsed, next}
 use Rattle.gaps.specs.Gaps.{pieces, commentThen}
-use Rattle.gaps.specs.Cursors.{piecesFrom, gapEndAt, endedGap}
+use Rattle.gaps.specs.Cursors.{restOfComment, gapEndAt}
 use Rattle.gaps.specs.declared.Move.the-variants.{Take, Skip, Comment, Stop}
-use Rattle.gaps.specs.declared.GapEnd.the-variants.{At}
+use Rattle.gaps.specs.declared.GapEnd.the-variants.{At, Unended}
 use Rattle.gaps.proofs.Bytes.{taken, skipped, opened, stopped}
-use Rattle.gaps.proofs.Parsers.{drop-here}
-use Rattle.gaps.proofs.Gaps.{pieces-white, pieces-sign, pieces-stop, comment-end, comment-text}
-use Rattle.gaps.proofs.Gaps.{no-pieces, pieces-none, comment-unended}
+use Rattle.gaps.proofs.Parsers.{drop-here, Suffix, suffix-of-suffix, suffix-place}
+use Rattle.gaps.proofs.Gaps.{pieces-white, pieces-sign, pieces-stop, pieces-none, no-pieces}
+use Rattle.gaps.proofs.Gaps.{comment-end, comment-text, comment-unended}
 
--- ## What a move within a comment tells
+-- ## The rest of a comment
 
-module _ (b : ℕ) where
-  comment-skipped : commentMove b ≡ Skip → endsComment b ≡ true
-  unfolding commentMove
-  comment-skipped e = go (endsComment b) e
+module _ (b : ℕ) (bytes : List ℕ) where
+  rest-end : endsComment b ≡ true → restOfComment (b ∷ bytes) ≡ parsed tt bytes
+  unfolding restOfComment
+  rest-end e = rw e
+
+  rest-text : endsComment b ≡ false → restOfComment (b ∷ bytes) ≡ restOfComment bytes
+  unfolding restOfComment
+  rest-text e = rw e
+
+rest-none : restOfComment [] ≡ failed
+unfolding restOfComment
+rest-none = refl
+
+-- after it the parsers go on with pieces
+rest-then : (bytes : List ℕ) → commentThen bytes ≡ next (restOfComment bytes) (λ (u : Unit {0}). pieces)
+rest-then [] = rw (comment-unended, rest-none)
+rest-then (b ∷ bytes) = go (endsComment b) refl (rest-then bytes)
+  where
+    go : (t : Bool) → endsComment b ≡ t → commentThen bytes ≡ next (restOfComment bytes) (λ (u : Unit {0}). pieces)
+        → commentThen (b ∷ bytes) ≡ next (restOfComment (b ∷ bytes)) (λ (u : Unit {0}). pieces)
+    go true e h = rw (comment-end b bytes e, rest-end b bytes e)
+    go false e h = rw (comment-text b bytes e, rest-text b bytes e) h
+
+-- it leaves less than all
+record Left (bytes rest : List ℕ) : Type 0 where
+  suffix : Suffix rest bytes
+  less : length rest < length bytes
+
+rest-left : (bytes rest : List ℕ) → restOfComment bytes ≡ parsed tt rest → Left bytes rest
+rest-left [] rest e =
+    let none = sym rest-none ∙ e in
+    let clash : _≡_ {A = ℕ} 0 1 = cc in
+    absurd (omega arith)
+rest-left (b ∷ bytes) rest e = go (endsComment b) refl (λ h. rest-left bytes rest h)
+  where
+    go : (t : Bool) → endsComment b ≡ t → (restOfComment bytes ≡ parsed tt rest → Left bytes rest)
+        → Left (b ∷ bytes) rest
+    go true d after =
+        let same : rest ≡ bytes = cc (sym (rest-end b bytes d) ∙ e) in
+        record { suffix = record { place = 1; is = same }; less = rw same (omega arith) }
+    go false d after =
+        let left = after (sym (rest-text b bytes d) ∙ e) in
+        let less = left .less in
+        let whole : Suffix bytes (b ∷ bytes) = record { place = 1; is = refl } in
+        record { suffix = suffix-of-suffix (left .suffix) whole; less = omega arith }
+
+-- ## Places
+
+-- where a parser leaves all from i on, the place is i
+ends-at : (bytes : List ℕ) (p : Parsed (Unit {0})) (i : ℕ) → i ≤ length bytes → p ≡ parsed tt (drop i bytes)
+    → At i ≡ gapEndAt (length bytes) p
+ends-at bytes p i within e =
+    let place : i ≡ length bytes - length (drop i bytes) = rw length-drop (omega arith) in
+    rw e (ap (λ (n : ℕ). At n) place)
+
+-- the place after a comment
+pub record AfterComment (bytes : List ℕ) (from n : ℕ) : Type 0 where
+  pub left : restOfComment (drop from bytes) ≡ parsed tt (drop n bytes)
+  pub further : from < n
+  pub within : n ≤ length bytes
+
+module _ (bytes : List ℕ) (from : ℕ) where
+  pub comment-lost : gapEndAt (length bytes) (restOfComment (drop from bytes)) ≡ Unended
+      → restOfComment (drop from bytes) ≡ failed
+  comment-lost e = go (restOfComment (drop from bytes)) e
     where
-      go : (t : Bool) → cond t Skip Comment ≡ Skip → t ≡ true
-      go true h = refl
-      go false h = let clash : _≡_ {A = ℕ} 0 1 = cc in absurd (omega arith)
+      go : (p : Parsed (Unit {0})) → gapEndAt (length bytes) p ≡ Unended → p ≡ failed
+      go failed h = refl
+      go (parsed u rest) h = let clash : _≡_ {A = ℕ} 0 1 = cc in absurd (omega arith)
 
-  comment-stays : commentMove b ≡ Comment → endsComment b ≡ false
-  unfolding commentMove
-  comment-stays e = go (endsComment b) e
+  pub comment-passed : (n : ℕ) → gapEndAt (length bytes) (restOfComment (drop from bytes)) ≡ At n
+      → from ≤ length bytes → AfterComment bytes from n
+  comment-passed n e within = go (restOfComment (drop from bytes)) refl e
     where
-      go : (t : Bool) → cond t Skip Comment ≡ Comment → t ≡ false
-      go true h = let clash : _≡_ {A = ℕ} 0 1 = cc in absurd (omega arith)
-      go false h = refl
+      go : (p : Parsed (Unit {0})) → restOfComment (drop from bytes) ≡ p → gapEndAt (length bytes) p ≡ At n
+          → AfterComment bytes from n
+      go failed d h = let clash : _≡_ {A = ℕ} 0 1 = cc in absurd (omega arith)
+      go (parsed u rest) d h =
+          let place : n ≡ length bytes - length rest = cc in
+          let left = rest-left (drop from bytes) rest d in
+          let less = left .less in
+          let counted = length-drop from bytes in
+          let suffix = suffix-of-suffix (left .suffix) (record { place = from; is = refl }) in
+          let there : rest ≡ drop n bytes = suffix-place suffix ∙ ap (λ (i : ℕ). drop i bytes) (sym place) in
+          record { left = d ∙ ap (parsed tt) there; further = omega arith; within = omega arith }
 
-  comment-not-taken : (digit : ℕ) → commentMove b ≡ Take digit → ⊥
-  unfolding commentMove
-  comment-not-taken digit e = go (endsComment b) e
-    where
-      go : (t : Bool) → cond t Skip Comment ≡ Take digit → ⊥
-      go true h = let clash : _≡_ {A = ℕ} 0 1 = cc in omega arith
-      go false h = let clash : _≡_ {A = ℕ} 0 1 = cc in omega arith
+-- ## Within a comment
 
-  comment-not-stopped : commentMove b ≡ Stop → ⊥
-  unfolding commentMove
-  comment-not-stopped e = go (endsComment b) e
-    where
-      go : (t : Bool) → cond t Skip Comment ≡ Stop → ⊥
-      go true h = let clash : _≡_ {A = ℕ} 0 1 = cc in omega arith
-      go false h = let clash : _≡_ {A = ℕ} 0 1 = cc in omega arith
-
--- ## Each move is a step of the parsers
-
-module _ (b : ℕ) (rest : List ℕ) where
-  step-skip : (commented : Bool) → gapMove commented b ≡ Skip → piecesFrom commented (b ∷ rest) ≡ pieces rest
-  unfolding gapMove
-  step-skip true e = comment-end b rest (comment-skipped b e)
-  step-skip false e = pieces-white b rest (skipped b e)
-
-  step-comment : (commented : Bool) → gapMove commented b ≡ Comment
-      → piecesFrom commented (b ∷ rest) ≡ commentThen rest
-  unfolding gapMove
-  step-comment true e = comment-text b rest (comment-stays b e)
-  step-comment false e = let sign = opened b e in pieces-sign b rest (sign .0) (sign .1)
-
-  step-take : (commented : Bool) (digit : ℕ) → gapMove commented b ≡ Take digit
-      → piecesFrom commented (b ∷ rest) ≡ parsed tt (b ∷ rest)
-  unfolding gapMove
-  step-take true digit e = absurd (comment-not-taken b digit e)
-  step-take false digit e = no-pieces b rest (taken b digit e .digit-is)
-
-  step-stop : (commented : Bool) → gapMove commented b ≡ Stop
-      → piecesFrom commented (b ∷ rest) ≡ parsed tt (b ∷ rest)
-  unfolding gapMove
-  step-stop true e = absurd (comment-not-stopped b e)
-  step-stop false e = let none = stopped b e in pieces-stop b rest (none .no-white) (none .no-sign)
-
--- ## The invariant
-
--- what is left to do at i is what is to do from the beginning on
-pub record Skipping (bytes : List ℕ) (from i : ℕ) (commented : Bool) : Type 0 where
+-- what is left of the comment at i is what is left of it at the beginning
+pub record Within (bytes : List ℕ) (from i : ℕ) : Type 0 where
   pub within : i ≤ length bytes
-  pub left : pieces (drop from bytes) ≡ piecesFrom commented (drop i bytes)
+  pub left : restOfComment (drop from bytes) ≡ restOfComment (drop i bytes)
 
-pub skipping-begins : (bytes : List ℕ) (from : ℕ) → from ≤ length bytes → Skipping bytes from from false
+pub within-begins : (bytes : List ℕ) (from : ℕ) → from ≤ length bytes → Within bytes from from
+within-begins bytes from h = record { within = h; left = refl }
+
+module _ {bytes : List ℕ} {from i : ℕ} (s : Within bytes from i) where
+  in-text : i < length bytes → restOfComment (drop from bytes) ≡ restOfComment (at bytes i ∷ drop (i + 1) bytes)
+  in-text h = s .left ∙ ap restOfComment (drop-here bytes i h)
+
+  pub within-more : i < length bytes → endsComment (at bytes i) ≡ false → Within bytes from (i + 1)
+  within-more h e =
+      record { within = omega arith; left = in-text h ∙ rest-text (at bytes i) (drop (i + 1) bytes) e }
+
+  pub within-ends : i < length bytes → endsComment (at bytes i) ≡ true
+      → At (i + 1) ≡ gapEndAt (length bytes) (restOfComment (drop from bytes))
+  within-ends h e =
+      ends-at bytes (restOfComment (drop from bytes)) (i + 1) (omega arith)
+      (in-text h ∙ rest-end (at bytes i) (drop (i + 1) bytes) e)
+
+  pub within-unended : length bytes ≤ i → Unended ≡ gapEndAt (length bytes) (restOfComment (drop from bytes))
+  within-unended h =
+      let none : drop i bytes ≡ [] = drop-of-length-le bytes h in
+      rw (s .left, none, rest-none)
+
+-- ## In a gap
+
+-- what is left of the gap at i is what is left of it at the beginning
+pub record Skipping (bytes : List ℕ) (from i : ℕ) : Type 0 where
+  pub within : i ≤ length bytes
+  pub left : pieces (drop from bytes) ≡ pieces (drop i bytes)
+
+pub skipping-begins : (bytes : List ℕ) (from : ℕ) → from ≤ length bytes → Skipping bytes from from
 skipping-begins bytes from h = record { within = h; left = refl }
 
-module _ {bytes : List ℕ} {from i : ℕ} {commented : Bool} (s : Skipping bytes from i commented) where
-  here : i < length bytes → pieces (drop from bytes) ≡ piecesFrom commented (at bytes i ∷ drop (i + 1) bytes)
-  here h = s .left ∙ ap (piecesFrom commented) (drop-here bytes i h)
+module _ {bytes : List ℕ} {from i : ℕ} (s : Skipping bytes from i) where
+  here : i < length bytes → pieces (drop from bytes) ≡ pieces (at bytes i ∷ drop (i + 1) bytes)
+  here h = s .left ∙ ap pieces (drop-here bytes i h)
 
-  pub skipping-skip : i < length bytes → gapMove commented (at bytes i) ≡ Skip → Skipping bytes from (i + 1) false
-  skipping-skip h e = record {
-    within = omega arith;
-    left = here h ∙ step-skip (at bytes i) (drop (i + 1) bytes) commented e;
-  }
+  pub skipping-white : i < length bytes → moveFor (at bytes i) ≡ Skip → Skipping bytes from (i + 1)
+  skipping-white h e =
+      let white = skipped (at bytes i) e in
+      record { within = omega arith; left = here h ∙ pieces-white (at bytes i) (drop (i + 1) bytes) white }
 
-  pub skipping-comment : i < length bytes → gapMove commented (at bytes i) ≡ Comment → Skipping bytes from (i + 1) true
-  skipping-comment h e = record {
-    within = omega arith;
-    left = here h ∙ step-comment (at bytes i) (drop (i + 1) bytes) commented e;
-  }
+  -- a comment is what is left of it after its number sign, and then pieces
+  in-comment : i < length bytes → moveFor (at bytes i) ≡ Comment
+      → pieces (drop from bytes) ≡ next (restOfComment (drop (i + 1) bytes)) (λ (u : Unit {0}). pieces)
+  in-comment h e =
+      let sign = opened (at bytes i) e in
+      here h ∙ pieces-sign (at bytes i) (drop (i + 1) bytes) (sign .0) (sign .1) ∙ rest-then (drop (i + 1) bytes)
+
+  pub skipping-comment : (n : ℕ) → i < length bytes → moveFor (at bytes i) ≡ Comment
+      → AfterComment bytes (i + 1) n → Skipping bytes from n
+  skipping-comment n h e after =
+      let left = ap (λ (p : Parsed (Unit {0})). next p (λ (u : Unit {0}). pieces)) (after .left) in
+      record { within = after .within; left = in-comment h e ∙ left }
+
+  pub skipping-unended : i < length bytes → moveFor (at bytes i) ≡ Comment
+      → restOfComment (drop (i + 1) bytes) ≡ failed
+      → Unended ≡ gapEndAt (length bytes) (pieces (drop from bytes))
+  skipping-unended h e lost = rw (in-comment h e, lost)
 
   -- the place i, where the parser leaves all from i on
-  ends-here : pieces (drop from bytes) ≡ parsed tt (drop i bytes)
+  ends-here : pieces (drop i bytes) ≡ parsed tt (drop i bytes)
       → At i ≡ gapEndAt (length bytes) (pieces (drop from bytes))
-  ends-here e =
-      let within = s .within in
-      let place : i ≡ length bytes - length (drop i bytes) = rw length-drop (omega arith) in
-      rw e (ap (λ (n : ℕ). At n) place)
+  ends-here e = ends-at bytes (pieces (drop from bytes)) i (s .within) (s .left ∙ e)
 
-  pub skipping-take : (digit : ℕ) → i < length bytes → gapMove commented (at bytes i) ≡ Take digit
+  pub skipping-take : (digit : ℕ) → i < length bytes → moveFor (at bytes i) ≡ Take digit
       → At i ≡ gapEndAt (length bytes) (pieces (drop from bytes))
   skipping-take digit h e =
-      ends-here (here h ∙ step-take (at bytes i) (drop (i + 1) bytes) commented digit e
-      ∙ ap (parsed tt) (sym (drop-here bytes i h)))
+      let is-digit = taken (at bytes i) digit e .digit-is in
+      ends-here (rw (drop-here bytes i h) (no-pieces (at bytes i) (drop (i + 1) bytes) is-digit))
 
-  pub skipping-stop : i < length bytes → gapMove commented (at bytes i) ≡ Stop
+  pub skipping-stop : i < length bytes → moveFor (at bytes i) ≡ Stop
       → At i ≡ gapEndAt (length bytes) (pieces (drop from bytes))
   skipping-stop h e =
-      ends-here (here h ∙ step-stop (at bytes i) (drop (i + 1) bytes) commented e
-      ∙ ap (parsed tt) (sym (drop-here bytes i h)))
+      let none = stopped (at bytes i) e in
+      ends-here
+      (rw (drop-here bytes i h) (pieces-stop (at bytes i) (drop (i + 1) bytes) (none .no-white) (none .no-sign)))
 
-  pub skipping-ends : length bytes ≤ i → endedGap commented i ≡ gapEndAt (length bytes) (pieces (drop from bytes))
-  skipping-ends h =
-      let none : drop i bytes ≡ [] = drop-of-length-le bytes h in
-      rw (s .left, none) (go commented)
-    where
-      go : (t : Bool) → endedGap t i ≡ gapEndAt (length bytes) (piecesFrom t [])
-      go true = rw comment-unended
-      go false =
-          let within = s .within in
-          let place : i ≡ length bytes - 0 = omega arith in
-          rw pieces-none (ap (λ (n : ℕ). At n) place)
+  pub skipping-ends : length bytes ≤ i → At i ≡ gapEndAt (length bytes) (pieces (drop from bytes))
+  skipping-ends h = ends-here (rw (drop-of-length-le bytes h) pieces-none)

@@ -5,8 +5,6 @@
 --   notSign       a byte is another
 --   endsComment   a byte is LF or CR, which ends one
 --   moveFor       the header reader's next move, by the byte at its place
---   commentMove   the same within a comment
---   gapMove       the same in a gap, by whether the place is within a comment
 use Prim.Native.Nat.{ℕ, _-_}
 use mathlib.Core.Bool.{Bool, not, _&&_, _||_, cond}
 use lib.Dec.{eqb, leb}
@@ -28,9 +26,3 @@ endsComment b = eqb b 10 || eqb b 13
 
 unfoldable pub moveFor : ℕ → Move
 moveFor b = cond (isDigit b) (Take (b - 48)) (cond (isWhite b) Skip (cond (isSign b) Comment Stop))
-
-unfoldable pub commentMove : ℕ → Move
-commentMove b = cond (endsComment b) Skip Comment
-
-unfoldable pub gapMove : Bool → ℕ → Move
-gapMove commented b = cond commented (commentMove b) (moveFor b)

@@ -14,7 +14,8 @@ use Rattle.gaps.proofs.Parsers.{suffix-of-suffix, suffix-place}
 use Rattle.headers.proofs.Grammar.{field-suffix, header-passed, header-suffix}
 
 module _ (bytes : List ℕ) (from : ℕ) where
-  pub field-lost : numberAt (length bytes) (field gap (drop from bytes)) ≡ Malformed → field gap (drop from bytes) ≡ failed
+  pub field-lost : numberAt (length bytes) (field gap (drop from bytes)) ≡ Malformed
+      → field gap (drop from bytes) ≡ failed
   field-lost e = go (field gap (drop from bytes)) e
     where
       go : (p : Parsed ℕ) → numberAt (length bytes) p ≡ Malformed → p ≡ failed

@@ -139,7 +139,8 @@ plain-run : {f : ℕ → Bool} {bytes taken rest : List ℕ} → ((b : ℕ) → 
     → Run f bytes taken rest → Plain bytes rest
 plain-run {f} {taken = taken} apart r =
     let split = run-splits r in
-    record { part = taken; is = split .0; plain = every-both f f notSign (λ b e _. rw (apart b e)) taken (split .1) (split .1) }
+    let plain = every-both f f notSign (λ b e _. rw (apart b e)) taken (split .1) (split .1) in
+    record { part = taken; is = split .0; plain = plain }
 
 plain-spaces : (bytes rest : List ℕ) → spaces bytes ≡ parsed tt rest → Plain bytes rest
 unfolding spaces

@@ -37,7 +37,8 @@ pub record NetpbmExamples : Type 0 where
   pub comment : read "P6 #1\n1 1 255 abc" ≡ Frame 1 1 14
   pub comment-after-mark : read "P6#x\n1 1 255 abc" ≡ Frame 1 1 13
   pub comment-after-digit : header (ascii "P6 3# x\n2 24 ") ≡ parsed (record { width = 3; height = 2; maxval = 24 }) []
-  pub comment-in-number : header (ascii "P6 12#x\n3456 1 ") ≡ parsed (record { width = 12; height = 3456; maxval = 1 }) []
+  pub comment-in-number : header (ascii "P6 12#x\n3456 1 ")
+      ≡ parsed (record { width = 12; height = 3456; maxval = 1 }) []
   -- it may be empty, follow another, and hold any byte but LF and CR
   pub empty-comments : read "P6#\n#\n1#\n#\n 1#\n255 abc" ≡ Frame 1 1 19
   pub comment-bytes : read "P6 # P6 9 9#\0þ#\n1 1 255 abc" ≡ Frame 1 1 24

@@ -35,7 +35,8 @@ bytes c = now (start c .args .bytes)
 abbrev place : tie.After-at → ℕ
 place c = c .at .given .0 .0
 
-gap-ends : (c : tie.After-at) → gapEndAt (length (bytes c)) (pieces (drop (start c .args .from) (bytes c))) ≡ At (place c)
+gap-ends : (c : tie.After-at)
+    → gapEndAt (length (bytes c)) (pieces (drop (start c .args .from) (bytes c))) ≡ At (place c)
 gap-ends c = sym (c .before .before .skip-gap .ensures) ∙ c .at .given .1
 
 -- a gap was there: what it leaves, and that the place after it is within the bytes
