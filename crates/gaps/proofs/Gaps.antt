@@ -1,6 +1,7 @@
 -- Gaps, by their parts and by their parsers.
 --
---   gap-accepts   of a gap before a digit the parser takes all, and leaves the digit and what follows
+--   gap-accepts   the parser takes a whole gap, and goes on behind it
+--   no-pieces     before a digit it goes no further
 --   gap-splits    where the parser passes, a gap begins the bytes, and what it leaves follows it
 --   gap-spaces    a gap with no number sign is whitespace
 --

@@ -58,7 +58,7 @@ before-header bytes n raster e = header-parts-with spaces spaces-splits (header-
 
 -- ## A header with no number sign
 
-before-rest : (s t : List ℕ) → take (length (s ++ t) - length t) (s ++ t) ≡ s
+pub before-rest : (s t : List ℕ) → take (length (s ++ t) - length t) (s ++ t) ≡ s
 before-rest s t =
     let counted = length-append s t in
     let place : length (s ++ t) - length t ≡ length s = omega arith in
