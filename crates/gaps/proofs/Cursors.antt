@@ -14,11 +14,12 @@ use lib.ListN.{length, drop, length-drop, length-append}
 use lib.Seq.{drop-append-seam}
 use Rattle.planes.proofs.Tests.{or-none}
 use Rattle.gaps.specs.Bytes.{isWhite, isSign}
-use Rattle.gaps.specs.Parsers.{Parsed, failed, parsed}
+use Rattle.gaps.specs.Parsers.{failed, parsed}
 use Rattle.gaps.specs.Gaps.{Gap, pieces, begun, gap}
 use Rattle.gaps.specs.Cursors.{gapEndAt}
 use Rattle.gaps.specs.declared.GapEnd.the-variants.{At, Unended}
 use Rattle.gaps.proofs.Parsers.{Suffix, suffix-of-suffix, suffix-place}
+use Rattle.gaps.proofs.Ends.{unended-failed, at-passed}
 use Rattle.gaps.proofs.Gaps.{pieces-none, pieces-stop, gap-begins, gap-splits}
 
 -- where no piece begins the bytes, the parsers leave them all, or fail
@@ -62,23 +63,9 @@ module _ (bytes : List ℕ) (from : ℕ) where
   pub gap-unended : gapEndAt (length bytes) (pieces here) ≡ Unended → gap here ≡ failed
   gap-unended e = go (begun here) refl
     where
-      lost : (p : Parsed (Unit {0})) → gapEndAt (length bytes) p ≡ Unended → p ≡ failed
-      lost failed h = refl
-      lost (parsed u rest) h = let clash : _≡_ {A = ℕ} 0 1 = cc in absurd (omega arith)
-
       go : (t : Bool) → begun here ≡ t → gap here ≡ failed
-      go true d = begun-gap here d ∙ lost (pieces here) e
+      go true d = begun-gap here d ∙ unended-failed (length bytes) (pieces here) e
       go false d = unbegun-gap here d
-
-  -- where the pieces end at n
-  ends : (n : ℕ) → gapEndAt (length bytes) (pieces here) ≡ At n
-      → (rest : List ℕ) × ((pieces here ≡ parsed tt rest) × (n ≡ length bytes - length rest))
-  ends n e = go (pieces here) refl e
-    where
-      go : (p : Parsed (Unit {0})) → pieces here ≡ p → gapEndAt (length bytes) p ≡ At n
-          → (rest : List ℕ) × ((pieces here ≡ parsed tt rest) × (n ≡ length bytes - length rest))
-      go failed d h = let clash : _≡_ {A = ℕ} 0 1 = cc in absurd (omega arith)
-      go (parsed u rest) d h = (rest, (d, cc))
 
   module _ (n : ℕ) (within : from ≤ length bytes) (e : gapEndAt (length bytes) (pieces here) ≡ At n) where
     pub gap-absent : n ≡ from → gap here ≡ failed
@@ -86,8 +73,9 @@ module _ (bytes : List ℕ) (from : ℕ) where
       where
         go : (t : Bool) → begun here ≡ t → gap here ≡ failed
         go true d =
-            let (rest, (left, place)) = ends n e in
-            let less = gap-less here rest (begun-gap here d ∙ left) in
+            let p = at-passed (length bytes) (pieces here) n e in
+            let place = p .place in
+            let less = gap-less here (p .rest) (begun-gap here d ∙ p .is) in
             let counted = length-drop from bytes in
             absurd (omega arith)
         go false d = unbegun-gap here d
@@ -97,14 +85,16 @@ module _ (bytes : List ℕ) (from : ℕ) where
       where
         go : (t : Bool) → begun here ≡ t → (gap here ≡ parsed tt (drop n bytes)) × (n ≤ length bytes)
         go true d =
-            let (rest, (left, place)) = ends n e in
-            let passed = begun-gap here d ∙ left in
-            let suffix = suffix-of-suffix (gap-suffix here rest passed) (record { place = from; is = refl }) in
-            let there : rest ≡ drop n bytes = suffix-place suffix ∙ ap (λ (i : ℕ). drop i bytes) (sym place) in
+            let p = at-passed (length bytes) (pieces here) n e in
+            let place = p .place in
+            let passed = begun-gap here d ∙ p .is in
+            let suffix = suffix-of-suffix (gap-suffix here (p .rest) passed) (record { place = from; is = refl }) in
+            let there : p .rest ≡ drop n bytes = suffix-place suffix ∙ ap (λ (i : ℕ). drop i bytes) (sym place) in
             (passed ∙ ap (parsed tt) there, omega arith)
         go false d =
-            let (rest, (left, place)) = ends n e in
-            let all : here ≡ rest = cc (sym (unbegun-pieces here d) ∙ left) in
+            let p = at-passed (length bytes) (pieces here) n e in
+            let place = p .place in
+            let all : here ≡ p .rest = cc (sym (unbegun-pieces here d) ∙ p .is) in
             let counted = length-drop from bytes in
             let size = ap length all in
             absurd (other (omega arith))

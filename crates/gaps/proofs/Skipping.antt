@@ -18,6 +18,7 @@ use Rattle.gaps.specs.declared.Move.the-variants.{Take, Skip, Comment, S
 use Rattle.gaps.specs.declared.GapEnd.the-variants.{At, Unended}
 use Rattle.gaps.proofs.Bytes.{taken, skipped, opened, stopped}
 use Rattle.gaps.proofs.Parsers.{drop-here, Suffix, suffix-of-suffix, suffix-place}
+use Rattle.gaps.proofs.Ends.{unended-failed, at-passed, ends-at}
 use Rattle.gaps.proofs.Gaps.{pieces-white, pieces-sign, pieces-stop, pieces-none, no-pieces}
 use Rattle.gaps.proofs.Gaps.{comment-end, comment-text, comment-unended}
 
@@ -69,16 +70,8 @@ rest-left (b ∷ bytes) rest e = go (endsComment b) refl (λ h. rest-left bytes 
         let whole : Suffix bytes (b ∷ bytes) = record { place = 1; is = refl } in
         record { suffix = suffix-of-suffix (left .suffix) whole; less = omega arith }
 
--- ## Places
+-- ## The place after a comment
 
--- where a parser leaves all from i on, the place is i
-ends-at : (bytes : List ℕ) (p : Parsed (Unit {0})) (i : ℕ) → i ≤ length bytes → p ≡ parsed tt (drop i bytes)
-    → At i ≡ gapEndAt (length bytes) p
-ends-at bytes p i within e =
-    let place : i ≡ length bytes - length (drop i bytes) = rw length-drop (omega arith) in
-    rw e (ap (λ (n : ℕ). At n) place)
-
--- the place after a comment
 pub record AfterComment (bytes : List ℕ) (from n : ℕ) : Type 0 where
   pub left : restOfComment (drop from bytes) ≡ parsed tt (drop n bytes)
   pub further : from < n
@@ -87,27 +80,19 @@ pub record AfterComment (bytes : List ℕ) (from n : ℕ) : Type 0 where
 module _ (bytes : List ℕ) (from : ℕ) where
   pub comment-lost : gapEndAt (length bytes) (restOfComment (drop from bytes)) ≡ Unended
       → restOfComment (drop from bytes) ≡ failed
-  comment-lost e = go (restOfComment (drop from bytes)) e
-    where
-      go : (p : Parsed (Unit {0})) → gapEndAt (length bytes) p ≡ Unended → p ≡ failed
-      go failed h = refl
-      go (parsed u rest) h = let clash : _≡_ {A = ℕ} 0 1 = cc in absurd (omega arith)
+  comment-lost e = unended-failed (length bytes) (restOfComment (drop from bytes)) e
 
   pub comment-passed : (n : ℕ) → gapEndAt (length bytes) (restOfComment (drop from bytes)) ≡ At n
       → from ≤ length bytes → AfterComment bytes from n
-  comment-passed n e within = go (restOfComment (drop from bytes)) refl e
-    where
-      go : (p : Parsed (Unit {0})) → restOfComment (drop from bytes) ≡ p → gapEndAt (length bytes) p ≡ At n
-          → AfterComment bytes from n
-      go failed d h = let clash : _≡_ {A = ℕ} 0 1 = cc in absurd (omega arith)
-      go (parsed u rest) d h =
-          let place : n ≡ length bytes - length rest = cc in
-          let left = rest-left (drop from bytes) rest d in
-          let less = left .less in
-          let counted = length-drop from bytes in
-          let suffix = suffix-of-suffix (left .suffix) (record { place = from; is = refl }) in
-          let there : rest ≡ drop n bytes = suffix-place suffix ∙ ap (λ (i : ℕ). drop i bytes) (sym place) in
-          record { left = d ∙ ap (parsed tt) there; further = omega arith; within = omega arith }
+  comment-passed n e within =
+      let p = at-passed (length bytes) (restOfComment (drop from bytes)) n e in
+      let place = p .place in
+      let left = rest-left (drop from bytes) (p .rest) (p .is) in
+      let less = left .less in
+      let counted = length-drop from bytes in
+      let suffix = suffix-of-suffix (left .suffix) (record { place = from; is = refl }) in
+      let there : p .rest ≡ drop n bytes = suffix-place suffix ∙ ap (λ (i : ℕ). drop i bytes) (sym place) in
+      record { left = p .is ∙ ap (parsed tt) there; further = omega arith; within = omega arith }
 
 -- ## Within a comment
 
