@@ -124,7 +124,7 @@ static inline const char *mlhe_reason(int64_t answer) {
 }
 
 /*
- * Reads the header of a P6 frame and measures the rest. Comments are read over: a number sign where whitespace may
+ * Reads the header of a P6 frame and measures the rest. Comments are skipped: a number sign where whitespace may
  * stand before one of the three numbers opens one, which goes up to and including the next LF or CR and counts as one
  * whitespace byte.
  *

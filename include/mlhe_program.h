@@ -24,7 +24,7 @@ enum {
 };
 
 /*
- * Enhances a P6 frame with the house setting, or tells why not. Comments in the header are read over, as by mlhe_read,
+ * Enhances a P6 frame with the house setting, or tells why not. Comments in the header are skipped, as by mlhe_read,
  * and not written.
  *
  * input     the whole input, of any length; a longer one than MLHE_PROGRAM_INPUT bytes is refused with 13

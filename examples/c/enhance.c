@@ -1,5 +1,5 @@
 /*
- * Enhances a P6 frame of any allowed size. Comments in its header are read over, and not written.
+ * Enhances a P6 frame of any allowed size. Comments in its header are skipped, and not written.
  *
  *   enhance IN.ppm OUT.ppm          with the house setting
  *   enhance LIST.mlp IN.ppm OUT.ppm with the passes of a list

@@ -6,7 +6,7 @@
     run_list(plane, data)                the same after the passes of a list, in the bytes of a file
     pass_list([Pass(...), ...])          the bytes of a list
     enhance(frame, last=, area=, rule=)  the recoloured frame, the plane and the number; the house setting by default
-    read(data), write(frame)             a frame from the bytes of a P6 file, comments read over, and back
+    read(data), write(frame)             a frame from the bytes of a P6 file, comments skipped, and back
 
 A frame is a numpy array (h, w, 3) of uint8, red, green and blue; a plane is one (h, w) of uint8. Sides are 1 to 4,096,
 and there are at most 1,048,576 pixels.
@@ -315,7 +315,7 @@ def enhance(frame, *, last=HOUSE.last, area=HOUSE.area, rule=HOUSE.rule):
 
 
 def read(data):
-    """The frame in the bytes of a P6 file. Comments in its header are read over: a number sign where whitespace may
+    """The frame in the bytes of a P6 file. Comments in its header are skipped: a number sign where whitespace may
     stand before a number opens one, up to and including the next LF or CR. Refusals, in order: 10, 1, 2, 11, 12, 13."""
     data = _bytes(data)
     numbers = _new(3, type=numpy.uintp)

@@ -1,4 +1,4 @@
-//! Enhances one P6 frame of any allowed size. Comments in its header are read over, and not written. The tool in
+//! Enhances one P6 frame of any allowed size. Comments in its header are skipped, and not written. The tool in
 //! `tool/` does folders, and more.
 //!
 //!     cargo run --release --example enhance -- [LIST.mlp] IN.ppm OUT.ppm

@@ -35,7 +35,7 @@ impl Frame {
         }
     }
 
-    /// The frame of a P6 file. Comments in its header are read over, as by [`lent::read`]. Refusals, in
+    /// The frame of a P6 file. Comments in its header are skipped, as by [`lent::read`]. Refusals, in
     /// order: [`Refusal::Header`], [`Refusal::Sides`], [`Refusal::Pixels`], [`Refusal::Maxval`], [`Refusal::Raster`],
     /// [`Refusal::Trailing`].
     ///

@@ -37,7 +37,7 @@ pub struct Header {
     pub offset: usize,
 }
 
-/// Reads the header of a P6 frame and measures the rest. Comments are read over: a number sign where whitespace may
+/// Reads the header of a P6 frame and measures the rest. Comments are skipped: a number sign where whitespace may
 /// stand before one of the three numbers opens one, which goes up to and including the next LF or CR and counts as one
 /// whitespace byte. Refusals, in order: 10, 1, 2, 11, 12, 13.
 pub fn read(bytes: &[u8]) -> Result<Header, Refusal> {

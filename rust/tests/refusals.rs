@@ -21,7 +21,7 @@ fn frames_and_planes_have_the_length_of_their_sides() {
     assert_eq!(Plane::new(2, 1, vec![5, 6]).unwrap().values(), [5, 6]);
 }
 
-/// A comment is read over before a number; elsewhere in a header a number sign is refused.
+/// A comment is skipped before a number; elsewhere in a header a number sign is refused.
 #[test]
 fn number_signs_in_headers() {
     let read = |bytes: &[u8]| lent::read(bytes).map(|header| (header.w, header.h, header.offset));

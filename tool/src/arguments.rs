@@ -28,7 +28,7 @@ pub enum Command {
 /// is never there in part.
 ///
 /// Frames have sides of at most 4,096 and at most 1,048,576 pixels; for larger ones nothing is done. Comments in their
-/// headers are read over, and not written.
+/// headers are skipped, and not written.
 ///
 /// Exit status: 0, all were enhanced; 1, something was refused or failed; 2, bad usage, and nothing was done.
 #[derive(Args)]

@@ -245,7 +245,7 @@ pub record ListsAreChains : Type 0 where
 
 -- ## What is as it was before
 
--- frames without comments are read as before comments were read; a header with a comment was refused with 10
+-- frames without comments are read as before comments were read; a header with a number sign was refused with 10
 pub record AsBefore : Type 0 where
   pub of-read : (bytes : List ℕ) (limit : ℕ) → Uncommented bytes
       → readReply bytes limit ≡ uncommentedReply bytes limit

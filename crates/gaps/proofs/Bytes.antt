@@ -4,7 +4,7 @@ use mathlib.Core.Path.{_≡_, refl, sym, _∙_}
 use mathlib.Core.Bool.{Bool, true, false, false≢true, cond}
 use mathlib.Mathlib.Data.Bool.Basic.{and-elim-left, and-elim-right}
 use native.Mathlib.Omega.{arith}
-use lib.Dec.{eqb, leb}
+use lib.Dec.{leb}
 use borrow.Author.Tests.{leb-true, eqb-true, le-leb, lt-leb, ne-eqb}
 use Rattle.texts.specs.Ascii.{isDigit}
 use Rattle.gaps.specs.Bytes.{isWhite, isSign, moveFor}
@@ -25,12 +25,13 @@ digit-not-white b e =
     let least : 48 ≤ b = range .0 in
     simp (le-leb 9 b (omega arith), lt-leb b 13 (omega arith), ne-eqb b 32 (omega arith))
 
+-- tests that never both pass, the other way round
+turned : (s t : Bool) → (s ≡ true → t ≡ false) → t ≡ true → s ≡ false
+turned true t apart e = absurd (false≢true (sym (apart refl) ∙ e))
+turned false t apart e = refl
+
 pub white-not-digit : (b : ℕ) → isWhite b ≡ true → isDigit b ≡ false
-white-not-digit b e = go (isDigit b) refl
-  where
-    go : (t : Bool) → isDigit b ≡ t → isDigit b ≡ false
-    go true d = let clash : true ≡ false = sym e ∙ digit-not-white b d in d ∙ clash
-    go false d = d
+white-not-digit b = turned (isDigit b) (isWhite b) (digit-not-white b)
 
 -- a byte that is taken for a digit
 pub record Taken (b digit : ℕ) : Type 0 where
@@ -43,12 +44,6 @@ pub sign-is : (b : ℕ) → isSign b ≡ true → b ≡ 35
 unfolding isSign
 sign-is b e = eqb-true b 35 e
 
-pub sign-not-digit : (b : ℕ) → isSign b ≡ true → isDigit b ≡ false
-unfolding isDigit
-sign-not-digit b e =
-    let is : b ≡ 35 = sign-is b e in
-    simp (lt-leb 48 b (omega arith))
-
 pub digit-not-sign : (b : ℕ) → isDigit b ≡ true → isSign b ≡ false
 unfolding isSign
 digit-not-sign b e =
@@ -56,13 +51,15 @@ digit-not-sign b e =
     let least : 48 ≤ b = range .0 in
     ne-eqb b 35 (omega arith)
 
+pub sign-not-digit : (b : ℕ) → isSign b ≡ true → isDigit b ≡ false
+sign-not-digit b = turned (isDigit b) (isSign b) (digit-not-sign b)
+
+sign-not-white : (b : ℕ) → isSign b ≡ true → isWhite b ≡ false
+unfolding isWhite
+sign-not-white b e = rw (sign-is b e)
+
 pub white-not-sign : (b : ℕ) → isWhite b ≡ true → isSign b ≡ false
-unfolding isSign isWhite
-white-not-sign b e = go (eqb b 35) refl
-  where
-    go : (t : Bool) → eqb b 35 ≡ t → eqb b 35 ≡ false
-    go true d = let is : b ≡ 35 = eqb-true b 35 d in absurd (false≢true (rw is at e))
-    go false d = d
+white-not-sign b = turned (isSign b) (isWhite b) (sign-not-white b)
 
 -- ## Moves
 

@@ -99,7 +99,7 @@ some-present [] rest h = absurd (omega arith)
 some-present (b ∷ taken) rest h = refl
 
 -- a list is the longest beginning that passes the test, and what follows it
-pub while-split : (f : ℕ → Bool) (xs : List ℕ) → takeWhile f xs ++ dropWhile f xs ≡ xs
+while-split : (f : ℕ → Bool) (xs : List ℕ) → takeWhile f xs ++ dropWhile f xs ≡ xs
 while-split f [] = refl
 while-split f (x ∷ xs) = go (f x) (while-split f xs)
   where
@@ -111,7 +111,7 @@ while-split f (x ∷ xs) = go (f x) (while-split f xs)
 pub while-none : (f : ℕ → Bool) (xs : List ℕ) → takeWhile f xs ≡ [] → dropWhile f xs ≡ xs
 while-none f xs e = sym (ap (λ (l : List ℕ). l ++ dropWhile f xs) e) ∙ while-split f xs
 
-pub while-rest : (f : ℕ → Bool) (xs : List ℕ) → dropWhile f xs ≡ drop (length (takeWhile f xs)) xs
+while-rest : (f : ℕ → Bool) (xs : List ℕ) → dropWhile f xs ≡ drop (length (takeWhile f xs)) xs
 while-rest f xs =
     sym (drop-append-seam (takeWhile f xs) (dropWhile f xs)) ∙ ap (drop (length (takeWhile f xs))) (while-split f xs)
 

@@ -99,12 +99,12 @@ field-passed before bytes v rest e =
     let first = next-passed (before bytes) _ v rest e in
     record { left = first .left; taken = first .first; then = number-passed (first .left) v rest (first .second) }
 
-pub spaced-suffix : {bytes : List ℕ} {v : ℕ} {rest : List ℕ} → Field gap bytes v rest → Suffix rest bytes
-spaced-suffix {bytes} parts =
+pub gapped-suffix : {bytes : List ℕ} {v : ℕ} {rest : List ℕ} → Field gap bytes v rest → Suffix rest bytes
+gapped-suffix {bytes} parts =
     suffix-of-suffix (run-suffix (parts .then .taken)) (gap-suffix bytes (parts .left) (parts .taken))
 
 pub field-suffix : (bytes : List ℕ) (v : ℕ) (rest : List ℕ) → field gap bytes ≡ parsed v rest → Suffix rest bytes
-field-suffix bytes v rest e = spaced-suffix (field-passed gap bytes v rest e)
+field-suffix bytes v rest e = gapped-suffix (field-passed gap bytes v rest e)
 
 pub mark-passed : (bytes : List ℕ) (u : Unit {0}) (rest : List ℕ) → mark bytes ≡ parsed u rest → bytes ≡ 80 ∷ 54 ∷ rest
 unfolding mark
@@ -167,5 +167,5 @@ header-suffix parts =
     let mark : Suffix (parts .after-mark) _ = record { place = 2; is = sym (ap (drop 2) (parts .marked)) } in
     let one = parts .separator .is in
     let separator : Suffix _ (parts .after-maxval) = record { place = 1; is = sym (ap (drop 1) one) } in
-    suffix-of-suffix separator (suffix-of-suffix (spaced-suffix (parts .maxval-is))
-    (suffix-of-suffix (spaced-suffix (parts .height-is)) (suffix-of-suffix (spaced-suffix (parts .width-is)) mark)))
+    suffix-of-suffix separator (suffix-of-suffix (gapped-suffix (parts .maxval-is))
+    (suffix-of-suffix (gapped-suffix (parts .height-is)) (suffix-of-suffix (gapped-suffix (parts .width-is)) mark)))

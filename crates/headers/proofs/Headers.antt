@@ -42,7 +42,7 @@ number-accepts {x} {s} n t none =
 abbrev pub Takes : Parser (Unit {0}) → List ℕ → Type 0
 Takes before s = (b : ℕ) (t : List ℕ) → isDigit b ≡ true → before (s ++ (b ∷ t)) ≡ parsed tt (b ∷ t)
 
-pub gap-taken : {s : List ℕ} → Gap s → Takes gap s
+gap-taken : {s : List ℕ} → Gap s → Takes gap s
 gap-taken g b t e = gap-accepts g (b ∷ t) ∙ no-pieces b t e
 
 module _ (before : Parser (Unit {0})) where

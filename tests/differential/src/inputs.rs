@@ -257,7 +257,7 @@ mod tests {
     use super::*;
     use mlhe_reference::{read, GREATEST_PIXELS};
 
-    /// Many files have comments that are read over, and many are malformed with number signs in them.
+    /// Many files have comments that are skipped, and many are malformed with number signs in them.
     #[test]
     fn comments_are_common() {
         let mut random = Random::new(1);
