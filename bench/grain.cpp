@@ -18,6 +18,8 @@
 
 namespace {
 
+using published::Counts;
+
 constexpr int side = 512;
 constexpr std::uint32_t greatest_area = 1048576;
 
@@ -34,24 +36,24 @@ struct Level {
     library::Rule rule;
 };
 
-std::uint64_t by_library(planes::Plane &plane, const Level &level, library::Memory &memory) {
-    std::uint64_t count = 0;
+Counts by_library(planes::Plane &plane, const Level &level, library::Memory &memory) {
+    Counts counts{0, 0};
     for (int a = 0; a < 256; a += level.width) {
         const int b = a + level.width - 1;
-        count += library::pass(plane.values.data(), plane.w, plane.h, a, b, level.area, level.rule, memory);
+        counts = counts + library::pass(plane.values.data(), plane.w, plane.h, a, b, level.area, level.rule, memory);
     }
-    return count;
+    return counts;
 }
 
-std::uint64_t by_checker(planes::Plane &plane, const Level &level) {
-    std::uint64_t count = 0;
+Counts by_checker(planes::Plane &plane, const Level &level) {
+    Counts counts{0, 0};
     for (int a = 0; a < 256; a += level.width) {
         const int b = a + level.width - 1;
-        count += checker_pass(plane.values.data(), plane.w, plane.h, static_cast<std::uint8_t>(a),
-                              static_cast<std::uint8_t>(b), level.area, level.rule.code, level.rule.first,
-                              level.rule.second);
+        counts = counts + checker_pass(plane.values.data(), plane.w, plane.h, static_cast<std::uint8_t>(a),
+                                       static_cast<std::uint8_t>(b), level.area, level.rule.code, level.rule.first,
+                                       level.rule.second);
     }
-    return count;
+    return counts;
 }
 
 // How many components of at least an area the sections of one width have, and how many pixels these have together.
@@ -103,21 +105,23 @@ LevelTimes time_level(const planes::Plane &plane, const Level &level, int rounds
     const Level untreated{level.width, greatest_area, level.rule};
     library::Memory memory(plane.values.size());
     planes::Plane expected = plane, result = plane;
-    const std::uint64_t count = by_checker(expected, level);
+    const Counts counts = by_checker(expected, level);
+    require(counts.retoned + counts.kept == components_of(plane, level.width, level.area).number,
+            "components of sufficient area, " + plane.name);
     double finding = 1e9;
     std::vector<double> shares;
     for (int round = 0; round < 3 * rounds; round++) {
-        std::uint64_t answer = 0;
+        Counts answer{0, 0};
         const double found = time_of([&] {
             result.values = plane.values;
             answer = by_library(result, untreated, memory);
         });
-        require(answer == 0 && result.values == plane.values, "passes that treat nothing, " + plane.name);
+        require(answer == Counts{0, 0} && result.values == plane.values, "passes that treat nothing, " + plane.name);
         const double all = time_of([&] {
             result.values = plane.values;
             answer = by_library(result, level, memory);
         });
-        require(answer == count && result.values == expected.values, "passes of one width, " + plane.name);
+        require(answer == counts && result.values == expected.values, "passes of one width, " + plane.name);
         finding = std::min(finding, found);
         shares.push_back((all - found) / found);
     }

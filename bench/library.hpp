@@ -24,8 +24,8 @@ struct Memory {
 };
 
 // As published::enhance.
-std::uint64_t enhance(const std::uint8_t *frame, int w, int h, const published::Parameters &parameters,
-                      std::uint8_t *plane, Memory &memory, std::uint8_t *output);
+published::Counts enhance(const std::uint8_t *frame, int w, int h, const published::Parameters &parameters,
+                          std::uint8_t *plane, Memory &memory, std::uint8_t *output);
 
 // A tone rule by its numbers: 0, low and high for the plain rule; 1, the clip k and 0 for the limited rule.
 struct Rule {
@@ -41,7 +41,7 @@ constexpr Rule plain(int low, int high) {
 constexpr Rule limited(int k) { return {1, static_cast<std::uint16_t>(k), 0}; }
 
 // As published::pass, with either rule.
-std::uint64_t pass(std::uint8_t *plane, int w, int h, int min, int max, std::size_t area, const Rule &rule,
-                   Memory &memory);
+published::Counts pass(std::uint8_t *plane, int w, int h, int min, int max, std::size_t area, const Rule &rule,
+                       Memory &memory);
 
 } // namespace library

@@ -19,6 +19,7 @@
 
 namespace {
 
+using published::Counts;
 using published::Parameters;
 
 int rounds = 7;
@@ -26,18 +27,18 @@ std::vector<double> ratios;
 
 // What a call left behind. Before a call all of it is blank, so that nothing of the call before counts for it.
 struct Result {
-    std::uint64_t count;
+    Counts counts;
     std::vector<std::uint8_t> plane;
     std::vector<std::uint8_t> output;
 
     explicit Result(std::size_t n) : plane(n), output(3 * n) { blank(); }
     void blank() {
-        count = ~std::uint64_t{0};
+        counts = {~std::uint64_t{0}, ~std::uint64_t{0}};
         std::fill(plane.begin(), plane.end(), 238);
         std::fill(output.begin(), output.end(), 238);
     }
     bool operator==(const Result &other) const {
-        return count == other.count && plane == other.plane && output == other.output;
+        return counts == other.counts && plane == other.plane && output == other.output;
     }
 };
 
@@ -70,17 +71,17 @@ Times time_enhance(const planes::Plane &plane, const Parameters &parameters) {
     const std::vector<std::uint8_t> frame = planes::coloured(plane);
     library::Memory memory(n);
     Result expected(n);
-    expected.count = checker_enhance(frame.data(), plane.w, plane.h, parameters.last_level,
-                                     static_cast<std::uint32_t>(parameters.area), parameters.low, parameters.high,
-                                     expected.plane.data(), expected.output.data());
+    expected.counts = checker_enhance(frame.data(), plane.w, plane.h, parameters.last_level,
+                                      static_cast<std::uint32_t>(parameters.area), parameters.low, parameters.high,
+                                      expected.plane.data(), expected.output.data());
     return compare(
         plane.name, expected,
         [&](Result &r) {
-            r.count = published::enhance(frame.data(), plane.w, plane.h, parameters, r.plane.data(), r.output.data());
+            r.counts = published::enhance(frame.data(), plane.w, plane.h, parameters, r.plane.data(), r.output.data());
         },
         [&](Result &r) {
-            r.count = library::enhance(frame.data(), plane.w, plane.h, parameters, r.plane.data(), memory,
-                                       r.output.data());
+            r.counts = library::enhance(frame.data(), plane.w, plane.h, parameters, r.plane.data(), memory,
+                                        r.output.data());
         });
 }
 
@@ -91,18 +92,18 @@ Times time_pass(const planes::Plane &plane, int min, int max, const Parameters &
     library::Memory memory(n);
     Result expected(n);
     expected.plane = plane.values;
-    expected.count = checker_pass(expected.plane.data(), plane.w, plane.h, static_cast<std::uint8_t>(min),
-                                  static_cast<std::uint8_t>(max), static_cast<std::uint32_t>(parameters.area),
-                                  rule.code, rule.first, rule.second);
+    expected.counts = checker_pass(expected.plane.data(), plane.w, plane.h, static_cast<std::uint8_t>(min),
+                                   static_cast<std::uint8_t>(max), static_cast<std::uint32_t>(parameters.area),
+                                   rule.code, rule.first, rule.second);
     return compare(
         plane.name, expected,
         [&](Result &r) {
             r.plane = plane.values;
-            r.count = published::pass(r.plane.data(), plane.w, plane.h, min, max, parameters);
+            r.counts = published::pass(r.plane.data(), plane.w, plane.h, min, max, parameters);
         },
         [&](Result &r) {
             r.plane = plane.values;
-            r.count = library::pass(r.plane.data(), plane.w, plane.h, min, max, parameters.area, rule, memory);
+            r.counts = library::pass(r.plane.data(), plane.w, plane.h, min, max, parameters.area, rule, memory);
         });
 }
 

@@ -65,7 +65,7 @@ class Image {
         return domain;
     }
 
-    std::uint64_t Retoned() const { return retoned; }
+    Counts Counted() const { return counts; }
 
   private:
     Set LevelSet(const Set &S, int min, int max) const {
@@ -132,12 +132,13 @@ class Image {
         const int range = greatest - least;
         const int new_range = tone[greatest] - tone[least];
         if (range == 0 || 100 * new_range > parameters.high * range || 100 * new_range < parameters.low * range) {
+            counts.kept++;
             return;
         }
         for (const int p : S) {
             I[p] = tone[I[p]];
         }
-        retoned++;
+        counts.retoned++;
     }
 
     std::uint8_t *I;
@@ -145,7 +146,7 @@ class Image {
     int h;
     Parameters parameters;
     std::vector<std::uint8_t> member;
-    std::uint64_t retoned = 0;
+    Counts counts{0, 0};
 };
 
 // Line 1 of Algorithm 1.
@@ -170,8 +171,8 @@ void GetColorImage(const std::uint8_t *frame, std::size_t n, const std::uint8_t 
 
 } // namespace
 
-std::uint64_t enhance(const std::uint8_t *frame, int w, int h, const Parameters &parameters, std::uint8_t *plane,
-                      std::uint8_t *output) {
+Counts enhance(const std::uint8_t *frame, int w, int h, const Parameters &parameters, std::uint8_t *plane,
+               std::uint8_t *output) {
     const std::size_t n = static_cast<std::size_t>(w) * h;
     for (std::size_t p = 0; p < n; p++) {
         plane[p] = Intensity(frame + 3 * p);
@@ -179,13 +180,13 @@ std::uint64_t enhance(const std::uint8_t *frame, int w, int h, const Parameters 
     Image image(plane, w, h, parameters);
     image.RecursiveHistogramEqualization(image.Domain(), 0, 255);
     GetColorImage(frame, n, plane, output);
-    return image.Retoned();
+    return image.Counted();
 }
 
-std::uint64_t pass(std::uint8_t *plane, int w, int h, int min, int max, const Parameters &parameters) {
+Counts pass(std::uint8_t *plane, int w, int h, int min, int max, const Parameters &parameters) {
     Image image(plane, w, h, parameters);
     image.EqualizeLevelSet(image.Domain(), min, max);
-    return image.Retoned();
+    return image.Counted();
 }
 
 } // namespace published

@@ -20,12 +20,27 @@ struct Parameters {
 // The house setting.
 constexpr Parameters house{7, 20, 80, 300};
 
-// Algorithm 1: enhances a frame of w by h pixels with three bytes each. Leaves the new intensities in the plane (w * h
-// bytes) and the colours in the output (3 * w * h bytes). Answers how often a component was retoned.
-std::uint64_t enhance(const std::uint8_t *frame, int w, int h, const Parameters &parameters, std::uint8_t *plane,
-                      std::uint8_t *output);
+// How many components with at least the least area were retoned, and how many were kept back.
+struct Counts {
+    std::uint64_t retoned;
+    std::uint64_t kept;
+};
 
-// Algorithm 3 without the recursion: retones the components of [min, max] in the plane. Answers how many were retoned.
-std::uint64_t pass(std::uint8_t *plane, int w, int h, int min, int max, const Parameters &parameters);
+inline bool operator==(const Counts &one, const Counts &other) {
+    return one.retoned == other.retoned && one.kept == other.kept;
+}
+
+inline Counts operator+(const Counts &one, const Counts &other) {
+    return {one.retoned + other.retoned, one.kept + other.kept};
+}
+
+// Algorithm 1: enhances a frame of w by h pixels with three bytes each. Leaves the new intensities in the plane (w * h
+// bytes) and the colours in the output (3 * w * h bytes). Answers how often a component was retoned or kept back.
+Counts enhance(const std::uint8_t *frame, int w, int h, const Parameters &parameters, std::uint8_t *plane,
+               std::uint8_t *output);
+
+// Algorithm 3 without the recursion: retones the components of [min, max] in the plane. Answers how many were retoned
+// and kept back.
+Counts pass(std::uint8_t *plane, int w, int h, int min, int max, const Parameters &parameters);
 
 } // namespace published

@@ -38,6 +38,11 @@ std::string hex(const Bytes &bytes) {
     return text;
 }
 
+// The counts as a line begins with them.
+std::string begun(const published::Counts &counts) {
+    return "+" + std::to_string(counts.retoned) + " " + std::to_string(counts.kept);
+}
+
 // The line that answers the case at a place.
 std::string answer(const Bytes &file, std::size_t at, std::size_t bytes_end, std::size_t plane_end) {
     const int kind = file[at];
@@ -47,12 +52,12 @@ std::string answer(const Bytes &file, std::size_t at, std::size_t bytes_end, std
                                            static_cast<int>(number(file, at + 6, 2))};
     Bytes plane(file.begin() + bytes_end, file.begin() + plane_end);
     if (kind == 1) {
-        const std::uint64_t count = published::pass(plane.data(), w, h, file[at + 1], file[at + 2], parameters);
-        return "+" + std::to_string(count) + " " + hex(plane) + " 0";
+        const published::Counts counts = published::pass(plane.data(), w, h, file[at + 1], file[at + 2], parameters);
+        return begun(counts) + " " + hex(plane) + " 0";
     }
     Bytes output(number(file, at + 18, 2), 170);
-    const std::uint64_t count = published::enhance(&file[at + 36], w, h, parameters, plane.data(), output.data());
-    return "+" + std::to_string(count) + " " + hex(plane) + " " + hex(output) + " 0";
+    const published::Counts counts = published::enhance(&file[at + 36], w, h, parameters, plane.data(), output.data());
+    return begun(counts) + " " + hex(plane) + " " + hex(output) + " 0";
 }
 
 } // namespace

@@ -17,8 +17,13 @@
  * byte each, row by row, left to right. A frame has the bytes red, green, blue for each pixel: 3 * n bytes.
  *
  * Answers. Every function answers one number. A negative answer -k is refusal k of enum mlhe_refusal: the first that
- * applies, in the order that is given with the function. A refused call changes no lent byte. An answer of 0 or more is
- * the function's own.
+ * applies, in the order that is given with the function. A refused call changes no lent byte. Any other answer is the
+ * function's own: a function that has one number to tell answers it (mlhe_write); one that has several puts them into
+ * lent numbers and answers 0 (mlhe_read, mlhe_pass, mlhe_run_list, mlhe_enhance), as does one that has none.
+ *
+ * Counts. A component is of sufficient area if it has at least the least area of its pass. Each of these is retoned or
+ * kept back, so that both numbers together are the components of sufficient area, in the plane as the pass finds it. A
+ * component that gets the rule and comes out as it was is retoned. The limited rule keeps none back.
  *
  * Lent memory. Each pointer is followed by the number of its elements, and that many elements have to be readable (and
  * writable, where the pointer is not to const), at an address that fits their type. A null pointer is allowed only with
@@ -41,9 +46,9 @@
 
 /* The version of this header and of the library that it was made with. The library itself does not tell its version. */
 #define MLHE_VERSION_MAJOR 0
-#define MLHE_VERSION_MINOR 1
+#define MLHE_VERSION_MINOR 2
 #define MLHE_VERSION_PATCH 0
-#define MLHE_VERSION "0.1.0"
+#define MLHE_VERSION "0.2.0"
 
 #ifdef __cplusplus
 extern "C" {
@@ -64,7 +69,7 @@ enum mlhe_refusal {
     MLHE_REFUSED_MAXVAL = 11,       /* the header's third number is not 255 */
     MLHE_REFUSED_RASTER = 12,       /* the raster is short */
     MLHE_REFUSED_TRAILING = 13,     /* there are bytes after the raster */
-    MLHE_REFUSED_OUTPUT = 14,       /* the output is shorter than needed */
+    MLHE_REFUSED_OUTPUT = 14,       /* the output, or the lent numbers or counts, are shorter than needed */
     MLHE_REFUSED_LIST_MARK = 15,    /* a pass list's mark or version is wrong */
     MLHE_REFUSED_LIST_LENGTH = 16,  /* a pass list's count or length is wrong */
     MLHE_REFUSED_RULE = 17          /* no such rule, limited with second != 0, or a set zero byte in a pass list */
@@ -76,9 +81,17 @@ enum mlhe_rule {
     MLHE_LIMITED = 1 /* first is the clip k in thousandths, 0 to 1,000; second is 0 */
 };
 
+/* The places of the counts of mlhe_pass, mlhe_run_list and mlhe_enhance. */
+enum mlhe_count {
+    MLHE_RETONED = 0, /* components of sufficient area that got the rule */
+    MLHE_KEPT = 1     /* components of sufficient area that were kept back: of one value, or outside low and high */
+};
+
 enum {
     MLHE_GREATEST_SIDE = 4096,
     MLHE_GREATEST_PIXELS = 1048576,
+    /* The elements of counts: one for each of enum mlhe_count. */
+    MLHE_COUNTS = 2,
     /* The most bytes that mlhe_write puts before the raster: P6, LF, width, space, height, LF, 255, LF. */
     MLHE_GREATEST_HEADER = 17,
     /* The most passes of a list, the greatest last level, the greatest numbers of the two rules. */
@@ -167,13 +180,16 @@ int64_t mlhe_intensity(const uint8_t *frame, size_t frame_length, size_t w, size
  * marks     working memory, at least n elements
  * queue     working memory, at least n elements
  * rule, first, second   as in enum mlhe_rule
+ * counts    at least MLHE_COUNTS elements: counts[MLHE_RETONED] becomes the number of components that were retoned and
+ *           counts[MLHE_KEPT] the number of those that were kept back; elements beyond stay
  *
- * Answers the number of components that were retoned. Refusals, in order: 1, 2, 3, 4, 17, 5, 6, 7, 8. As in a record of
- * a pass list, 17 (a rule other than 0 and 1, or limited with second not 0) is tested before the other numbers.
+ * Answers 0. Refusals, in order: 1, 2, 3, 4, 17, 5, 6, 7, 8, and 14 where counts has fewer than 2 elements. As in a
+ * record of a pass list, 17 (a rule other than 0 and 1, or limited with second not 0) is tested before the other
+ * numbers.
  */
 int64_t mlhe_pass(uint8_t *plane, size_t plane_length, uint8_t *marks, size_t marks_length, uint32_t *queue,
                   size_t queue_length, size_t w, size_t h, uint8_t a, uint8_t b, uint32_t area, uint8_t rule,
-                  uint16_t first, uint16_t second);
+                  uint16_t first, uint16_t second, size_t *counts, size_t counts_length);
 
 /*
  * The passes of a list, one after the other. All records are checked before the first pass runs.
@@ -181,12 +197,14 @@ int64_t mlhe_pass(uint8_t *plane, size_t plane_length, uint8_t *marks, size_t ma
  * list      the bytes MLP, version 1 and the count of passes (0 to 1,024), both 16-bit, then 12 bytes for each pass:
  *           a, b, rule, 0, area (32-bit), first and second (16-bit); of each number the low byte first
  * plane, marks, queue   as for mlhe_pass
+ * counts    as for mlhe_pass: the sums of the passes' counts, 0 and 0 for a list of no passes
  *
- * Answers the sum of the passes' counts. Refusals, in order: 1, 2, 3, 4, 16 (fewer than 7 bytes), 15, 16, then for each
- * record 17, 5, 6, 7, 8.
+ * Answers 0. Refusals, in order: 1, 2, 3, 4, 16 (fewer than 7 bytes), 15, 16, then for each record 17, 5, 6, 7, 8, and
+ * 14 where counts has fewer than 2 elements.
  */
 int64_t mlhe_run_list(const uint8_t *list, size_t list_length, uint8_t *plane, size_t plane_length, uint8_t *marks,
-                      size_t marks_length, uint32_t *queue, size_t queue_length, size_t w, size_t h);
+                      size_t marks_length, uint32_t *queue, size_t queue_length, size_t w, size_t h, size_t *counts,
+                      size_t counts_length);
 
 /*
  * Recolours a frame from new intensities, such as passes leave them in the plane that mlhe_intensity filled. The three
@@ -214,14 +232,16 @@ int64_t mlhe_recolour(const uint8_t *frame, size_t frame_length, size_t w, size_
  * marks     working memory, at least n elements
  * queue     working memory, at least n elements
  * output    at least 3 * n bytes, of which the first 3 * n become the recoloured frame
+ * counts    as for mlhe_pass: the sums of the counts of all passes, section by section on all levels. So a component of
+ *           one value is kept once at every level that has it
  *
- * Answers the number of components that were retoned, on all levels. Refusals, in order: 1, 2, 3, 4, 14, 17, 9, 6, 7,
- * 8. 17 (a rule other than 0 and 1, or limited with second not 0) is tested before the other numbers of the setting.
+ * Answers 0. Refusals, in order: 1, 2, 3, 4, 14, 17, 9, 6, 7, 8, and 14 where counts has fewer than 2 elements. 17 (a
+ * rule other than 0 and 1, or limited with second not 0) is tested before the other numbers of the setting.
  */
 int64_t mlhe_enhance(const uint8_t *frame, size_t frame_length, size_t w, size_t h, uint8_t last, uint32_t area,
                      uint8_t rule, uint16_t first, uint16_t second, uint8_t *plane, size_t plane_length,
                      uint8_t *marks, size_t marks_length, uint32_t *queue, size_t queue_length, uint8_t *output,
-                     size_t output_length);
+                     size_t output_length, size_t *counts, size_t counts_length);
 
 #ifdef __cplusplus
 }

@@ -1,6 +1,6 @@
 #!/usr/bin/env bash
-# The headers in C and C++, the library under the name to link it by, the stack that a call takes, and what the example
-# in C does to files, devices and links. Stops at the first error. Offline.
+# The headers in C and C++, the library under the name to link it by, the counts and the stack of a call, and what the
+# example in C does to files, devices and links. Stops at the first error. Offline.
 #
 # Proves and builds the library first, unless MLHE_LIBRARY=path/to/libcapi.a names one that is there.
 set -euo pipefail
@@ -42,6 +42,8 @@ printf '%s\n' "$version, $version" 'refused 10: the P6 header is malformed, or t
 "$out/linked++" | diff "$out/expected" - || fail "a program in C++ with the installed library"
 echo "c: headers and installed library are in order"
 
+gcc -std=c99 "${strict[@]}" -o "$out/counts" tests/c/counts.c "${flags[@]}"
+"$out/counts" || fail "the counts that a call is lent. Next: tests/c/counts.c, with what is printed above"
 gcc -std=c99 -O2 "${strict[@]}" -o "$out/stack" tests/c/stack.c "${flags[@]}"
 "$out/stack" || fail "a call takes more stack than MLHE_STACK of include/mlhe.h"
 
@@ -56,7 +58,8 @@ mkdir "$out"
 example=$work/enhance
 frame=$work/pil.ppm
 "$example" "$frame" "$out/good.ppm" > "$work/line"
-echo "$frame: 96 x 64, 119 components retoned, $out/good.ppm" | diff - "$work/line" || fail "the line on what was done"
+echo "$frame: 96 x 64, 119 components retoned, 21 kept, $out/good.ppm" | diff - "$work/line" ||
+    fail "the line on what was done"
 cp "$out/good.ppm" "$work/enhanced.ppm"
 
 # The folder has these files, whose content is that of the good one unless said otherwise, and no others.

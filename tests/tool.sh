@@ -135,7 +135,7 @@ diff "$repository/tests/tool/report.tsv" report.tsv ||
     fail "the report is not the stored one. Next: if it is right, cp target/tool-test/report.tsv tests/tool/report.tsv"
 tail -n 1 printed | diff "$repository/tests/tool/last-line.txt" - || fail "the last line"
 [ "$(wc -l < printed)" = 1 ] || fail "more than the last line is printed: $(head -n 3 printed)"
-awk -F '\t' 'NR > 1 && $3 != "enhanced" { print "zopykue: " $1 ": " $3 ": " $5 }' report.tsv | LC_ALL=C sort > expected
+awk -F '\t' 'NR > 1 && $3 != "enhanced" { print "zopykue: " $1 ": " $3 ": " $6 }' report.tsv | LC_ALL=C sort > expected
 grep -v '^zopykue: passed over: 5 ' told | LC_ALL=C sort | diff expected - ||
     fail "what is told is not what is reported"
 tr -d '\n\t[:print:]' < told | cmp - /dev/null || fail "a log has a progress line in it"

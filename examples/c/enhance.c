@@ -178,23 +178,23 @@ static void save(struct target *target, const uint8_t *bytes, size_t length) {
     free(target->path);
 }
 
-/* Enhances a frame, with a list if there is one, and answers the number of components that were retoned. */
-static int64_t enhance(const char *in_name, const char *list_name, const uint8_t *frame, size_t w, size_t h,
-                       uint8_t *output) {
-    /* What is lent beside frame and output: the plane, and working memory. */
+/* Enhances a frame, with a list if there is one, and counts the components that were retoned and kept back. */
+static void enhance(const char *in_name, const char *list_name, const uint8_t *frame, size_t w, size_t h,
+                    uint8_t *output, size_t counts[MLHE_COUNTS]) {
+    /* What is lent beside frame, output and counts: the plane, and working memory. */
     const size_t n = w * h;
     uint8_t *plane = room(in_name, n, 1);
     uint8_t *marks = room(in_name, n, 1);
     uint32_t *queue = room(in_name, n, sizeof *queue);
-    int64_t retoned;
     if (list_name == NULL) {
-        retoned = accepted(in_name, mlhe_enhance(frame, 3 * n, w, h, MLHE_HOUSE_LAST, MLHE_HOUSE_AREA, MLHE_HOUSE_RULE,
-                                                 MLHE_HOUSE_LOW, MLHE_HOUSE_HIGH, plane, n, marks, n, queue, n, output,
-                                                 3 * n));
+        accepted(in_name, mlhe_enhance(frame, 3 * n, w, h, MLHE_HOUSE_LAST, MLHE_HOUSE_AREA, MLHE_HOUSE_RULE,
+                                       MLHE_HOUSE_LOW, MLHE_HOUSE_HIGH, plane, n, marks, n, queue, n, output, 3 * n,
+                                       counts, MLHE_COUNTS));
     } else {
         struct file list = contents(list_name);
         accepted(in_name, mlhe_intensity(frame, 3 * n, w, h, plane, n));
-        retoned = accepted(list_name, mlhe_run_list(list.bytes, list.length, plane, n, marks, n, queue, n, w, h));
+        accepted(list_name, mlhe_run_list(list.bytes, list.length, plane, n, marks, n, queue, n, w, h, counts,
+                                          MLHE_COUNTS));
         accepted(in_name, mlhe_recolour(frame, 3 * n, w, h, plane, n, output, 3 * n));
         free(list.bytes);
     }
@@ -202,7 +202,6 @@ static int64_t enhance(const char *in_name, const char *list_name, const uint8_t
     free(queue);
     free(marks);
     free(plane);
-    return retoned;
 }
 
 int main(int argc, char **argv) {
@@ -226,13 +225,15 @@ int main(int argc, char **argv) {
     const size_t w = numbers[0], h = numbers[1], n = w * h;
     struct target target = target_of(out_name);
     uint8_t *output = room(in_name, 3 * n, 1);
-    const int64_t retoned = enhance(in_name, list_name, in.bytes + numbers[2], w, h, output);
+    size_t counts[MLHE_COUNTS];
+    enhance(in_name, list_name, in.bytes + numbers[2], w, h, output, counts);
 
     uint8_t *file = room(out_name, 3 * n + MLHE_GREATEST_HEADER, 1);
     const int64_t length = accepted(out_name, mlhe_write(output, 3 * n, w, h, file, 3 * n + MLHE_GREATEST_HEADER));
     FILE *report = target.path != NULL ? stdout : stderr;
     save(&target, file, (size_t)length);
-    fprintf(report, "%s: %zu x %zu, %lld components retoned, %s\n", in_name, w, h, (long long)retoned, out_name);
+    fprintf(report, "%s: %zu x %zu, %zu components retoned, %zu kept, %s\n", in_name, w, h, counts[MLHE_RETONED],
+            counts[MLHE_KEPT], out_name);
     if (fflush(report) != 0) {
         fail("the line on what was done", strerror(errno));
     }

@@ -87,7 +87,8 @@ def enhance_file(source, targets, staging):
     # The frame is put last: where it is there, the plane is there too.
     for data, target in reversed(list(zip(files, targets))):
         put(data, target, staging)
-    return "enhanced", f"enhanced, {w} x {h}, {enhanced.count} components retoned"
+    retoned, kept = enhanced.counts
+    return "enhanced", f"enhanced, {w} x {h}, {retoned} components retoned, {kept} kept"
 
 
 def frames(folder):

@@ -239,6 +239,8 @@ class OnACluster(Folder):
         status, output, _, all_said = self.said(
             enhance_folder(self.cluster.address, self.source / "left", self.out / "left"))
         self.assertEqual((status, output[-1]), (0, "1 enhanced, 0 refused, 0 failed"), all_said)
+        retoned, kept = mlhe.enhance(mlhe.read((self.source / "left/f1.ppm").read_bytes())).counts
+        self.assertEqual(output[0], f"f1.ppm: enhanced, 40 x 30, {retoned} components retoned, {kept} kept")
         self.assertEqual(files(self.out), written)
 
 

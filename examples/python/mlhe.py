@@ -2,10 +2,10 @@
 
     intensity(frame)                     the plane of a frame's intensities
     recolour(frame, plane)               the frame, coloured anew from a plane of new intensities
-    run_pass(plane, Pass(...))           the plane after a pass, and the number of retoned components
+    run_pass(plane, Pass(...))           the plane after a pass, and the numbers of retoned and kept components
     run_list(plane, data)                the same after the passes of a list, in the bytes of a file
     pass_list([Pass(...), ...])          the bytes of a list
-    enhance(frame, last=, area=, rule=)  the recoloured frame, the plane and the number; the house setting by default
+    enhance(frame, last=, area=, rule=)  the recoloured frame, the plane and the numbers; the house setting by default
     read(data), write(frame)             a frame from the bytes of a P6 file, comments skipped, and back
 
 A frame is a numpy array (h, w, 3) of uint8, red, green and blue; a plane is one (h, w) of uint8. Sides are 1 to 4,096,
@@ -105,20 +105,29 @@ class Settings(NamedTuple):
 HOUSE = Settings(last=7, area=20, rule=Plain(low=80, high=300))
 
 
+class Counts(NamedTuple):
+    """How many components of sufficient area were retoned, and how many were kept back: those with at least the least
+    area of their pass, in the plane as it finds them, summed over the passes. The plain rule keeps back a component of
+    one value, and one for which the ratio is outside low to high; the limited rule keeps none."""
+
+    retoned: int
+    kept: int
+
+
 class Retoned(NamedTuple):
-    """What passes leave: the new plane, and the number of retoned components."""
+    """What passes leave: the new plane, and the counts."""
 
     plane: numpy.ndarray
-    count: int
+    counts: Counts
 
 
 class Enhanced(NamedTuple):
-    """What an enhancement leaves: the recoloured frame, the plane, which the guarantee is of, and the number of retoned
-    components."""
+    """What an enhancement leaves: the recoloured frame, the plane, which the guarantee is of, and the counts of all its
+    levels."""
 
     frame: numpy.ndarray
     plane: numpy.ndarray
-    count: int
+    counts: Counts
 
 
 # What C reads is a bytes object, and what it writes an array that was made for the call: of the right type, contiguous
@@ -131,17 +140,18 @@ _SIZE = ctypes.c_size_t
 _SIDES = (_SIZE, _SIZE)
 _RULE = (ctypes.c_uint8, ctypes.c_uint16, ctypes.c_uint16)
 _MEMORY = (_OUTPUT, _SIZE, _QUEUE, _SIZE)
+_COUNTS = (_NUMBERS, _SIZE)
 
 # The arguments of the functions, as include/mlhe.h has them.
 _ARGUMENTS = {
     "mlhe_read": (_BYTES, _SIZE, _NUMBERS, _SIZE),
     "mlhe_write": (_BYTES, _SIZE, *_SIDES, _OUTPUT, _SIZE),
     "mlhe_intensity": (_BYTES, _SIZE, *_SIDES, _OUTPUT, _SIZE),
-    "mlhe_pass": (_OUTPUT, _SIZE, *_MEMORY, *_SIDES, ctypes.c_uint8, ctypes.c_uint8, ctypes.c_uint32, *_RULE),
-    "mlhe_run_list": (_BYTES, _SIZE, _OUTPUT, _SIZE, *_MEMORY, *_SIDES),
+    "mlhe_pass": (_OUTPUT, _SIZE, *_MEMORY, *_SIDES, ctypes.c_uint8, ctypes.c_uint8, ctypes.c_uint32, *_RULE, *_COUNTS),
+    "mlhe_run_list": (_BYTES, _SIZE, _OUTPUT, _SIZE, *_MEMORY, *_SIDES, *_COUNTS),
     "mlhe_recolour": (_BYTES, _SIZE, *_SIDES, _BYTES, _SIZE, _OUTPUT, _SIZE),
     "mlhe_enhance": (_BYTES, _SIZE, *_SIDES, ctypes.c_uint8, ctypes.c_uint32, *_RULE, _OUTPUT, _SIZE, *_MEMORY,
-                     _OUTPUT, _SIZE),
+                     _OUTPUT, _SIZE, *_COUNTS),
 }
 _GREATEST_HEADER = 17
 
@@ -184,6 +194,13 @@ def _new(*shape, type=numpy.uint8):
 def _memory(n):
     """Working memory for n pixels: marks and queue."""
     return _lent(_new(n), _new(n, type=numpy.uint32))
+
+
+def _counted(function, *arguments):
+    """Calls a function whose last arguments are the counts that it is lent, and answers them."""
+    counts = _new(len(Counts._fields), type=numpy.uintp)
+    function(*arguments, *_lent(counts))
+    return Counts(*map(int, counts))
 
 
 def _sides(array, what, channels):
@@ -273,20 +290,20 @@ def recolour(frame, plane):
 
 
 def run_pass(plane, one):
-    """The plane after a pass, and the number of retoned components. Refusals, in order: 1, 2, 5, 6, 7, 8."""
+    """The plane after a pass, and its counts. Refusals, in order: 1, 2, 5, 6, 7, 8."""
     h, w = _plane_sides(plane)
     new = _copy(plane)
-    count = _library.mlhe_pass(*_lent(new), *_memory(w * h), w, h, *_pass(one))
-    return Retoned(new, count)
+    counts = _counted(_library.mlhe_pass, *_lent(new), *_memory(w * h), w, h, *_pass(one))
+    return Retoned(new, counts)
 
 
 def run_list(plane, data):
-    """The plane after the passes of a list, in the bytes of a file, and the sum of their counts. Refusals, in order: 1,
-    2, 16, 15, 16, then for each pass 17, 5, 6, 7, 8."""
+    """The plane after the passes of a list, in the bytes of a file, and the sums of their counts. Refusals, in order:
+    1, 2, 16, 15, 16, then for each pass 17, 5, 6, 7, 8."""
     h, w = _plane_sides(plane)
     new = _copy(plane)
-    count = _library.mlhe_run_list(*_lent(_bytes(data), new), *_memory(w * h), w, h)
-    return Retoned(new, count)
+    counts = _counted(_library.mlhe_run_list, *_lent(_bytes(data), new), *_memory(w * h), w, h)
+    return Retoned(new, counts)
 
 
 def pass_list(passes):
@@ -305,13 +322,13 @@ def pass_list(passes):
 
 def enhance(frame, *, last=HOUSE.last, area=HOUSE.area, rule=HOUSE.rule):
     """Enhances a frame: intensity, the passes of the levels 0 to `last`, and recolouring. Answers the recoloured frame,
-    the plane and the number of retoned components. Refusals, in order: 1, 2, 9, 6, 7, 8."""
+    the plane and the sums of the passes' counts. Refusals, in order: 1, 2, 9, 6, 7, 8."""
     h, w = _frame_sides(frame)
     plane, output = _new(h, w), _new(h, w, 3)
     settings = _number("last", last, 8), _number("area", area, 32), *_rule(rule)
-    count = _library.mlhe_enhance(*_lent(frame.tobytes()), w, h, *settings, *_lent(plane), *_memory(w * h),
-                                  *_lent(output))
-    return Enhanced(output, plane, count)
+    counts = _counted(_library.mlhe_enhance, *_lent(frame.tobytes()), w, h, *settings, *_lent(plane), *_memory(w * h),
+                      *_lent(output))
+    return Enhanced(output, plane, counts)
 
 
 def read(data):

@@ -17,7 +17,7 @@ from pathlib import Path
 import numpy
 
 import mlhe
-from mlhe import Limited, Pass, Plain, Refused
+from mlhe import Counts, Limited, Pass, Plain, Refused
 
 REPOSITORY = Path(__file__).resolve().parents[2]
 ANY = Plain(0, 25_500)
@@ -38,40 +38,47 @@ def colour(*channels):
 class Examples(unittest.TestCase):
     """The examples to hold it against, by their letters."""
 
-    def after_pass(self, plane, a, b, expected, count, area=1, rule=ANY):
+    def after_pass(self, plane, a, b, expected, retoned, kept, area=1, rule=ANY):
         before = plane.copy()
-        retoned = mlhe.run_pass(plane, Pass(a, b, area, rule))
-        numpy.testing.assert_array_equal(retoned.plane, expected)
-        self.assertEqual(retoned.count, count)
+        left = mlhe.run_pass(plane, Pass(a, b, area, rule))
+        numpy.testing.assert_array_equal(left.plane, expected)
+        self.assertEqual(left.counts, Counts(retoned, kept))
         numpy.testing.assert_array_equal(plane, before)
 
     def test_a_to_d(self):
-        self.after_pass(row(10, 10, 20, 30), 0, 255, row(128, 128, 191, 255), 1)
-        self.after_pass(row(10, 10, 20, 30), 0, 255, row(10, 10, 20, 30), 0, rule=Plain(0, 300))
-        self.after_pass(row(0, 1), 0, 1, row(1, 1), 1)
-        self.after_pass(row(0, 1), 0, 1, row(0, 1), 0, rule=Plain(80, 25_500))
+        self.after_pass(row(10, 10, 20, 30), 0, 255, row(128, 128, 191, 255), 1, 0)
+        self.after_pass(row(10, 10, 20, 30), 0, 255, row(10, 10, 20, 30), 0, 1, rule=Plain(0, 300))
+        self.after_pass(row(0, 1), 0, 1, row(1, 1), 1, 0)
+        self.after_pass(row(0, 1), 0, 1, row(0, 1), 0, 1, rule=Plain(80, 25_500))
 
     def test_e_and_f(self):
-        self.after_pass(row(10, 20, 200, 10, 10), 0, 127, row(64, 127, 200, 10, 10), 1)
-        self.after_pass(row(10, 20, 200, 10, 10), 0, 127, row(10, 20, 200, 10, 10), 0, area=3)
+        self.after_pass(row(10, 20, 200, 10, 10), 0, 127, row(64, 127, 200, 10, 10), 1, 1)
+        self.after_pass(row(10, 20, 200, 10, 10), 0, 127, row(10, 20, 200, 10, 10), 0, 0, area=3)
 
     def test_g_to_i(self):
-        self.after_pass(row(10, 10, 20, 30), 0, 255, row(13, 13, 25, 38), 1, rule=Limited(10))
-        self.after_pass(row(10, 10, 20, 30), 0, 255, row(128, 128, 191, 255), 1, rule=Limited(1_000))
-        self.after_pass(row(10, 10, 20, 30), 0, 255, row(11, 11, 21, 31), 1, rule=Limited(0))
+        self.after_pass(row(10, 10, 20, 30), 0, 255, row(13, 13, 25, 38), 1, 0, rule=Limited(10))
+        self.after_pass(row(10, 10, 20, 30), 0, 255, row(128, 128, 191, 255), 1, 0, rule=Limited(1_000))
+        self.after_pass(row(10, 10, 20, 30), 0, 255, row(11, 11, 21, 31), 1, 0, rule=Limited(0))
 
     def test_j(self):
         plane = numpy.array([[10, 200], [200, 20]], numpy.uint8)
-        self.after_pass(plane, 0, 127, plane, 0)
+        self.after_pass(plane, 0, 127, plane, 0, 2)
 
     def test_k_to_m(self):
-        for last, area, new, count in (0, 20, (128, 255), 1), (1, 1, (192, 255), 2), (7, 1, (255, 255), 8):
+        for last, area, new, retoned in (0, 20, (128, 255), 1), (1, 1, (192, 255), 2), (7, 1, (255, 255), 8):
             frame = grey(10, 20)
             enhanced = mlhe.enhance(frame, last=last, area=area, rule=ANY)
             numpy.testing.assert_array_equal(enhanced.plane, row(*new))
             numpy.testing.assert_array_equal(enhanced.frame, grey(*new))
-            self.assertEqual(enhanced.count, count)
+            self.assertEqual(enhanced.counts, Counts(retoned, 0))
             numpy.testing.assert_array_equal(frame, grey(10, 20))
+
+    def test_a_plane_of_one_value(self):
+        """It is kept once at every level, but below the least area at level 0 alone."""
+        frame = numpy.full((8, 8, 3), 100, numpy.uint8)
+        self.assertEqual(mlhe.enhance(frame).counts, Counts(retoned=0, kept=8))
+        self.assertEqual(mlhe.enhance(frame, area=65).counts, Counts(retoned=0, kept=1))
+        self.assertEqual(mlhe.enhance(frame, rule=Limited(300)).counts, Counts(retoned=8, kept=0))
 
     def test_n_and_o(self):
         for new, expected in (120, (240, 120, 0)), (150, (255, 128, 0)):
@@ -90,7 +97,7 @@ class Examples(unittest.TestCase):
         for given in data, bytearray(data), memoryview(data):
             retoned = mlhe.run_list(row(10, 20, 200, 10, 10), given)
             numpy.testing.assert_array_equal(retoned.plane, row(64, 127, 200, 10, 10))
-            self.assertEqual(retoned.count, 1)
+            self.assertEqual(retoned.counts, Counts(1, 1))
 
 
 class Refusals(unittest.TestCase):
@@ -140,7 +147,7 @@ class Refusals(unittest.TestCase):
         for number, data in (16, b""), (16, b"MLP"), (15, b"MLQ\1\0\0\0"), (15, b"MLP\2\0\0\0"), (16, good + b"\0"), \
                 (16, b"MLP\1\0\1\4" + good[7:] * 1_025), (17, good[:9] + b"\2" + good[10:]):
             self.refused(number, mlhe.run_list, plane, data)
-        self.assertEqual(mlhe.run_list(plane, mlhe.pass_list([Pass(0, 127, 1, ANY)] * 1_024)).count, 1_024)
+        self.assertEqual(mlhe.run_list(plane, mlhe.pass_list([Pass(0, 127, 1, ANY)] * 1_024)).counts, Counts(1_024, 0))
         for count in 1_025, 2**16 - 1, 2**16:
             self.refused(16, mlhe.pass_list, [Pass(0, 127, 1, ANY)] * count)
 
@@ -311,12 +318,16 @@ class Case:
         if self.kind in ("enhance", "house"):
             names = {} if self.kind == "house" else {"last": self.last, "area": self.area, "rule": self.rule}
             enhanced = mlhe.enhance(self.frame(), **names)
-            return f"+{enhanced.count}", enhanced.plane.tobytes(), self.filled(enhanced.frame.tobytes())
+            return self.line(enhanced.counts), enhanced.plane.tobytes(), self.filled(enhanced.frame.tobytes())
         if self.kind == "pass":
             retoned = mlhe.run_pass(self.values(), Pass(self.a, self.b, self.area, self.rule))
         else:
             retoned = mlhe.run_list(self.values(), self.bytes if self.kind == "list" else mlhe.pass_list(self.passes()))
-        return f"+{retoned.count}", retoned.plane.tobytes()
+        return self.line(retoned.counts), retoned.plane.tobytes()
+
+    @staticmethod
+    def line(counts):
+        return f"+{counts.retoned} {counts.kept}"
 
     def filled(self, data):
         """An output that was 170 in every byte."""
@@ -337,7 +348,8 @@ class StoredCases(unittest.TestCase):
             if case.same:
                 case.plane = left
             if case.kind in ("intensity", "pass", "enhance", "list", "passes", "house"):
-                left = bytes.fromhex(words[1])
+                two_counts = case.kind != "intensity" and line.startswith("+")
+                left = bytes.fromhex(words[2 if two_counts else 1])
             if not case.is_array():
                 continue
             with self.subTest(kind=case.kind, at=start, line=line):
@@ -390,6 +402,9 @@ class Header(unittest.TestCase):
         refusals = sorted(value for name, value in numbers.items() if name.startswith("MLHE_REFUSED_"))
         self.assertEqual(refusals, sorted(mlhe.REASONS))
         self.assertEqual(mlhe._GREATEST_HEADER, numbers["MLHE_GREATEST_HEADER"])
+        self.assertEqual(len(Counts._fields), numbers["MLHE_COUNTS"])
+        for place, name in enumerate(Counts._fields):
+            self.assertEqual(numbers[f"MLHE_{name.upper()}"], place)
         house = mlhe.Settings(numbers["MLHE_HOUSE_LAST"], numbers["MLHE_HOUSE_AREA"],
                               Plain(numbers["MLHE_HOUSE_LOW"], numbers["MLHE_HOUSE_HIGH"]))
         self.assertEqual(mlhe.HOUSE, house)

@@ -47,21 +47,22 @@
 //! | Kind | Line after acceptance | Line after refusal N |
 //! |---|---|---|
 //! | 0 intensity | `+0 PLANE` | `-N PLANE` |
-//! | 1 pass, 4 list, 5 passes | `+COUNT PLANE STRAYS` | `-N PLANE STRAYS` |
+//! | 1 pass, 4 list, 5 passes | `+RETONED KEPT PLANE STRAYS` | `-N PLANE STRAYS` |
 //! | 2 recolour | `+0 OUTPUT` | `-N OUTPUT` |
-//! | 3 enhance | `+COUNT PLANE OUTPUT STRAYS` | `-N PLANE OUTPUT STRAYS` |
+//! | 3 enhance | `+RETONED KEPT PLANE OUTPUT STRAYS` | `-N PLANE OUTPUT STRAYS` |
 //! | 6 read | `+W H OFFSET` | `-N` |
 //! | 7 write | `+LENGTH OUTPUT` | `-N OUTPUT` |
 //! | 8 program | `OUTPUT` | `OUTPUT` |
-//! | 9 house | `+COUNT PLANE OUTPUT STRAYS L AREA LOW HIGH` | `-N PLANE OUTPUT STRAYS L AREA LOW HIGH` |
+//! | 9 house | `+RETONED KEPT PLANE OUTPUT STRAYS L AREA LOW HIGH` | `-N PLANE OUTPUT STRAYS L AREA LOW HIGH` |
 //!
-//! One space stands between the parts, also where a part is empty. Numbers are decimal. PLANE and OUTPUT are all bytes
-//! of the lent plane and of the lent output after the call, as two lower-case hexadecimal digits each; the program's
+//! One space stands between the parts, also where a part is empty. Numbers are decimal. RETONED and KEPT are the two
+//! counts of the components of sufficient area: those retoned, and those kept back. PLANE and OUTPUT are all bytes of
+//! the lent plane and of the lent output after the call, as two lower-case hexadecimal digits each; the program's
 //! OUTPUT is what it would print, be it a frame or `refused N` and LF. STRAYS is the number of entries of marks and
 //! queue that had to stay and did not: after acceptance those from w × h on, after refusal all of them. It is 0.
 
 use crate::{enhance, intensity, pass, program, read, recolour, run_list, run_passes, write};
-use crate::{Pass, Rule, Settings};
+use crate::{Counts, Pass, Rule, Settings};
 
 /// The length of a case's head.
 pub const HEAD: usize = 36;
@@ -213,8 +214,8 @@ fn answer(case: &Case, plane: &mut Vec<u8>) -> String {
         }
         Kind::Pass => {
             let settings = Pass { a: case.a, b: case.b, area: case.area, rule };
-            let count = pass(plane, marks, queue, w, h, &settings);
-            format!("{} {} {strays}", number(count), hex(plane))
+            let answer = pass(plane, marks, queue, w, h, &settings);
+            format!("{} {} {strays}", counts(answer), hex(plane))
         }
         Kind::Recolour => {
             let done = recolour(&case.bytes, w, h, plane, &mut output).map(|()| 0);
@@ -222,17 +223,17 @@ fn answer(case: &Case, plane: &mut Vec<u8>) -> String {
         }
         Kind::Enhance => {
             let settings = Settings { last_level: u32::from(case.last_level), area: case.area, rule };
-            let count = enhance(&case.bytes, w, h, &settings, plane, marks, queue, &mut output);
-            format!("{} {} {} {strays}", number(count), hex(plane), hex(&output))
+            let answer = enhance(&case.bytes, w, h, &settings, plane, marks, queue, &mut output);
+            format!("{} {} {} {strays}", counts(answer), hex(plane), hex(&output))
         }
         Kind::List => {
-            let count = run_list(&case.bytes, plane, marks, queue, w, h);
-            format!("{} {} {strays}", number(count), hex(plane))
+            let answer = run_list(&case.bytes, plane, marks, queue, w, h);
+            format!("{} {} {strays}", counts(answer), hex(plane))
         }
         Kind::Passes => {
             let passes: Vec<Pass> = case.bytes.chunks(12).map(pass_of).collect();
-            let count = run_passes(&passes, plane, marks, queue, w, h);
-            format!("{} {} {strays}", number(count), hex(plane))
+            let answer = run_passes(&passes, plane, marks, queue, w, h);
+            format!("{} {} {strays}", counts(answer), hex(plane))
         }
         Kind::Read => match read(&case.bytes, case.limit as usize) {
             Ok(frame) => format!("+{} {} {}", frame.w, frame.h, frame.offset),
@@ -244,8 +245,8 @@ fn answer(case: &Case, plane: &mut Vec<u8>) -> String {
         }
         Kind::Program => hex(&program(&case.bytes)),
         Kind::House => {
-            let count = enhance(&case.bytes, w, h, &Settings::HOUSE, plane, marks, queue, &mut output);
-            format!("{} {} {} {strays} {}", number(count), hex(plane), hex(&output), numbers(&Settings::HOUSE))
+            let answer = enhance(&case.bytes, w, h, &Settings::HOUSE, plane, marks, queue, &mut output);
+            format!("{} {} {} {strays} {}", counts(answer), hex(plane), hex(&output), numbers(&Settings::HOUSE))
         }
     }
 }
@@ -275,10 +276,18 @@ fn numbers(settings: &Settings) -> String {
     }
 }
 
+/// The two counts of an answer, or its refusal, with a sign.
+fn counts(answer: Result<Counts, u8>) -> String {
+    match answer {
+        Ok(Counts { retoned, kept }) => format!("+{retoned} {kept}"),
+        Err(refusal) => format!("-{refusal}"),
+    }
+}
+
 /// The number of an answer, with its sign.
 fn number(answer: Result<u64, u8>) -> String {
     match answer {
-        Ok(count) => format!("+{count}"),
+        Ok(number) => format!("+{number}"),
         Err(refusal) => format!("-{refusal}"),
     }
 }

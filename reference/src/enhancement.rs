@@ -2,6 +2,7 @@
 
 use crate::colours::{intensity, recolour};
 use crate::components::Components;
+use crate::counts::Counts;
 use crate::passes::{retone, Pass};
 use crate::refusals::{self, refuse_if, Refusal, GREATEST_PIXELS};
 use crate::tones::Rule;
@@ -20,7 +21,7 @@ impl Settings {
 }
 
 /// Leaves the new intensities in the plane and the recoloured frame in the output. Answers how often a component was
-/// retoned.
+/// retoned and how often one was kept back.
 #[allow(clippy::too_many_arguments)]
 pub fn enhance(
     frame: &[u8],
@@ -31,7 +32,7 @@ pub fn enhance(
     marks_len: usize,
     queue_len: usize,
     output: &mut [u8],
-) -> Result<u64, Refusal> {
+) -> Result<Counts, Refusal> {
     let n = refusals::size(w, h, GREATEST_PIXELS)?;
     refuse_if(plane.len() != n || frame.len() != 3 * n, 3)?;
     refusals::memory(marks_len, queue_len, n)?;
@@ -41,29 +42,27 @@ pub fn enhance(
     refusals::rule(&settings.rule)?;
 
     intensity(frame, w, h, plane)?;
-    let mut recursion = Recursion { plane, settings, components: Components::new(w, h), count: 0 };
+    let mut recursion = Recursion { plane, settings, components: Components::new(w, h), counts: Counts::default() };
     let whole_plane: Vec<usize> = (0..n).collect();
     recursion.equalise(&whole_plane, 0, 255);
-    let count = recursion.count;
+    let counts = recursion.counts;
     recolour(frame, w, h, plane, output)?;
-    Ok(count)
+    Ok(counts)
 }
 
-/// The plane as the recursion has it, and the components retoned so far.
+/// The plane as the recursion has it, and the components equalised so far.
 struct Recursion<'a> {
     plane: &'a mut [u8],
     settings: &'a Settings,
     components: Components,
-    count: u64,
+    counts: Counts,
 }
 
 impl Recursion<'_> {
     /// Algorithm 2: equalises one component of [a, b], then has the halves of the interval processed inside it, on
     /// the tones that it has now. A component that was kept back is split all the same.
     fn equalise(&mut self, component: &[usize], a: u8, b: u8) {
-        if retone(self.plane, component, a, b, &self.settings.rule) {
-            self.count += 1;
-        }
+        self.counts.count(retone(self.plane, component, a, b, &self.settings.rule));
         let width = u32::from(b) - u32::from(a) + 1;
         let level = 8 - width.ilog2();
         if level + 1 > self.settings.last_level {

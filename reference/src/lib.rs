@@ -17,12 +17,15 @@
 //! | [`write`] | writes a P6 frame | 1, 2, 3, 14 |
 //! | [`program`] | standard input to standard output | 13 (long input), then as above |
 //!
-//! A call that is turned down answers the number of its refusal and changes no lent byte. Of the marks and the queue
-//! only the lengths matter here, so the calls take the lengths alone.
+//! A pass, a list and an enhancement answer [`Counts`]: the components of sufficient area that were retoned, and those
+//! that were kept back. [`sufficient`] counts both together, from the definition. A call that is turned down answers
+//! the number of its refusal and changes no lent byte. Of the marks and the queue only the lengths matter here, so the
+//! calls take the lengths alone.
 
 pub mod cases;
 mod colours;
 mod components;
+mod counts;
 mod enhancement;
 pub mod extrema;
 mod lists;
@@ -31,14 +34,17 @@ mod passes;
 mod program;
 pub mod random;
 mod refusals;
+mod sufficient;
 mod tones;
 
 pub use colours::{intensity, recolour};
 pub use components::Components;
+pub use counts::Counts;
 pub use enhancement::{enhance, level_by_level, Settings};
-pub use lists::{list_bytes, run_list, run_passes, GREATEST_COUNT};
+pub use lists::{list_bytes, list_passes, run_list, run_passes, GREATEST_COUNT};
 pub use netpbm::{header, read, write, Frame};
 pub use passes::{pass, Pass};
 pub use program::{program, PROGRAM_BYTES, PROGRAM_PIXELS};
 pub use refusals::{Refusal, GREATEST_PIXELS, GREATEST_SIDE};
+pub use sufficient::{sufficient, sufficient_in_all};
 pub use tones::{retoned, Rule};

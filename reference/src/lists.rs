@@ -1,5 +1,6 @@
 //! Lists of passes, as bytes and in memory.
 
+use crate::counts::Counts;
 use crate::passes::{lent_plane, run, sound, Pass};
 use crate::refusals::{refuse_if, Refusal};
 use crate::tones::Rule;
@@ -13,7 +14,7 @@ const HEAD: usize = 7;
 /// The bytes of a record.
 const RECORD: usize = 12;
 
-/// Runs the passes of a list in its file format. All records are checked before the first pass runs. Answers the sum
+/// Runs the passes of a list in its file format. All records are checked before the first pass runs. Answers the sums
 /// of the passes' counts.
 pub fn run_list(
     bytes: &[u8],
@@ -22,8 +23,14 @@ pub fn run_list(
     queue_len: usize,
     w: usize,
     h: usize,
-) -> Result<u64, Refusal> {
+) -> Result<Counts, Refusal> {
     lent_plane(plane, marks_len, queue_len, w, h)?;
+    Ok(run_all(&list_passes(bytes)?, plane, w, h))
+}
+
+/// The passes of a list in its file format, all of them sound. Refusals: 16 (under 7 bytes), 15, 16, then for each
+/// record 17, 5, 6, 7, 8.
+pub fn list_passes(bytes: &[u8]) -> Result<Vec<Pass>, Refusal> {
     refuse_if(bytes.len() < HEAD, 16)?;
     refuse_if(&bytes[..3] != b"MLP" || number16(bytes, 3) != 1, 15)?;
     let count = number16(bytes, 5) as usize;
@@ -34,7 +41,7 @@ pub fn run_list(
         sound(&pass)?;
         passes.push(pass);
     }
-    Ok(run_all(&passes, plane, w, h))
+    Ok(passes)
 }
 
 /// Runs the passes of a list in memory, with the same outcome.
@@ -45,7 +52,7 @@ pub fn run_passes(
     queue_len: usize,
     w: usize,
     h: usize,
-) -> Result<u64, Refusal> {
+) -> Result<Counts, Refusal> {
     lent_plane(plane, marks_len, queue_len, w, h)?;
     refuse_if(passes.len() > GREATEST_COUNT, 16)?;
     for pass in passes {
@@ -54,7 +61,7 @@ pub fn run_passes(
     Ok(run_all(passes, plane, w, h))
 }
 
-fn run_all(passes: &[Pass], plane: &mut [u8], w: usize, h: usize) -> u64 {
+fn run_all(passes: &[Pass], plane: &mut [u8], w: usize, h: usize) -> Counts {
     passes.iter().map(|pass| run(plane, w, h, pass)).sum()
 }
 

@@ -1,6 +1,7 @@
 //! One pass over one section.
 
 use crate::components::Components;
+use crate::counts::Counts;
 use crate::refusals::{self, refuse_if, Refusal, GREATEST_PIXELS};
 use crate::tones::{retoned, Rule};
 
@@ -13,7 +14,8 @@ pub struct Pass {
     pub rule: Rule,
 }
 
-/// Retones every component of [a, b] that has the least area and isn't kept back. Answers how many were retoned.
+/// Retones every component of [a, b] that has the least area and isn't kept back. Answers how many were retoned and how
+/// many kept back.
 pub fn pass(
     plane: &mut [u8],
     marks_len: usize,
@@ -21,7 +23,7 @@ pub fn pass(
     w: usize,
     h: usize,
     pass: &Pass,
-) -> Result<u64, Refusal> {
+) -> Result<Counts, Refusal> {
     lent_plane(plane, marks_len, queue_len, w, h)?;
     sound(pass)?;
     Ok(run(plane, w, h, pass))
@@ -42,15 +44,15 @@ pub(crate) fn sound(pass: &Pass) -> Result<(), Refusal> {
 }
 
 /// The pass itself. All components are found before the first one is retoned.
-pub(crate) fn run(plane: &mut [u8], w: usize, h: usize, pass: &Pass) -> u64 {
+pub(crate) fn run(plane: &mut [u8], w: usize, h: usize, pass: &Pass) -> Counts {
     let components = Components::new(w, h).of_section(plane, pass.a, pass.b);
-    let mut count = 0;
+    let mut counts = Counts::default();
     for component in components {
-        if component.len() >= pass.area as usize && retone(plane, &component, pass.a, pass.b, &pass.rule) {
-            count += 1;
+        if component.len() >= pass.area as usize {
+            counts.count(retone(plane, &component, pass.a, pass.b, &pass.rule));
         }
     }
-    count
+    counts
 }
 
 /// Gives the pixels of one component their new values. Answers no if the rule keeps it back.

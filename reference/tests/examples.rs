@@ -1,102 +1,110 @@
 //! The examples A to Q of the requirements (docs/REQUIREMENTS.md).
 
 use mlhe_reference::{enhance, intensity, level_by_level, pass, program, recolour, run_list, run_passes};
-use mlhe_reference::{list_bytes, Pass, Rule, Settings};
+use mlhe_reference::{list_bytes, Counts, Pass, Rule, Settings};
 
 const FREE: Rule = Rule::Plain { low: 0, high: 25_500 };
 
-/// Runs one pass on a plane of w columns. Answers the plane and the count.
-fn run(plane: &[u8], w: usize, a: u8, b: u8, area: u32, rule: Rule) -> (Vec<u8>, u64) {
-    let (n, h) = (plane.len(), plane.len() / w);
-    let mut plane = plane.to_vec();
-    let count = pass(&mut plane, n, n, w, h, &Pass { a, b, area, rule }).expect("accepted");
-    (plane, count)
+/// Both counts: of the retoned and of the kept components.
+fn both(retoned: u64, kept: u64) -> Counts {
+    Counts { retoned, kept }
 }
 
-/// Enhances a row of grey pixels. Answers the new intensities, the count and the output.
-fn enhanced(greys: &[u8], last_level: u32, area: u32, rule: Rule) -> (Vec<u8>, u64, Vec<u8>) {
+/// Runs one pass on a plane of w columns. Answers the plane and both counts.
+fn run(plane: &[u8], w: usize, a: u8, b: u8, area: u32, rule: Rule) -> (Vec<u8>, Counts) {
+    let (n, h) = (plane.len(), plane.len() / w);
+    let mut plane = plane.to_vec();
+    let counts = pass(&mut plane, n, n, w, h, &Pass { a, b, area, rule }).expect("accepted");
+    (plane, counts)
+}
+
+/// Enhances a row of grey pixels. Answers the new intensities, both counts and the output.
+fn enhanced(greys: &[u8], last_level: u32, area: u32, rule: Rule) -> (Vec<u8>, Counts, Vec<u8>) {
     let n = greys.len();
     let frame: Vec<u8> = greys.iter().flat_map(|&v| [v, v, v]).collect();
     let (mut plane, mut output) = (vec![0; n], vec![0; 3 * n]);
     let settings = Settings { last_level, area, rule };
-    let count = enhance(&frame, n, 1, &settings, &mut plane, n, n, &mut output).expect("accepted");
-    (plane, count, output)
+    let counts = enhance(&frame, n, 1, &settings, &mut plane, n, n, &mut output).expect("accepted");
+    (plane, counts, output)
 }
 
 #[test]
 fn a_and_b_plain() {
     let a = [10, 10, 20, 30];
-    assert_eq!(run(&a, 4, 0, 255, 1, FREE), (vec![128, 128, 191, 255], 1));
-    assert_eq!(run(&a, 4, 0, 255, 1, Rule::Plain { low: 0, high: 300 }), (a.to_vec(), 0));
+    assert_eq!(run(&a, 4, 0, 255, 1, FREE), (vec![128, 128, 191, 255], both(1, 0)));
+    assert_eq!(run(&a, 4, 0, 255, 1, Rule::Plain { low: 0, high: 300 }), (a.to_vec(), both(0, 1)));
 }
 
 #[test]
 fn c_and_d_two_values() {
-    assert_eq!(run(&[0, 1], 2, 0, 1, 1, FREE), (vec![1, 1], 1));
-    assert_eq!(run(&[0, 1], 2, 0, 1, 1, Rule::Plain { low: 80, high: 25_500 }), (vec![0, 1], 0));
+    assert_eq!(run(&[0, 1], 2, 0, 1, 1, FREE), (vec![1, 1], both(1, 0)));
+    assert_eq!(run(&[0, 1], 2, 0, 1, 1, Rule::Plain { low: 80, high: 25_500 }), (vec![0, 1], both(0, 1)));
 }
 
 #[test]
 fn e_and_f_components_and_area() {
     let plane = [10, 20, 200, 10, 10];
-    assert_eq!(run(&plane, 5, 0, 127, 1, FREE), (vec![64, 127, 200, 10, 10], 1));
-    assert_eq!(run(&plane, 5, 0, 127, 3, FREE), (plane.to_vec(), 0));
+    assert_eq!(run(&plane, 5, 0, 127, 1, FREE), (vec![64, 127, 200, 10, 10], both(1, 1)));
+    assert_eq!(run(&plane, 5, 0, 127, 3, FREE), (plane.to_vec(), both(0, 0)));
 }
 
 /// No example has a component exactly as large as the least area.
 #[test]
 fn a_component_of_the_least_area_is_retoned() {
-    assert_eq!(run(&[10, 20, 200, 10, 10], 5, 0, 127, 2, FREE), (vec![64, 127, 200, 10, 10], 1));
+    assert_eq!(run(&[10, 20, 200, 10, 10], 5, 0, 127, 2, FREE), (vec![64, 127, 200, 10, 10], both(1, 1)));
 }
 
 #[test]
 fn g_h_and_i_limited() {
     let a = [10, 10, 20, 30];
-    assert_eq!(run(&a, 4, 0, 255, 1, Rule::Limited { k: 10 }), (vec![13, 13, 25, 38], 1));
-    assert_eq!(run(&a, 4, 0, 255, 1, Rule::Limited { k: 1_000 }), (vec![128, 128, 191, 255], 1));
-    assert_eq!(run(&a, 4, 0, 255, 1, Rule::Limited { k: 0 }), (vec![11, 11, 21, 31], 1));
+    assert_eq!(run(&a, 4, 0, 255, 1, Rule::Limited { k: 10 }), (vec![13, 13, 25, 38], both(1, 0)));
+    assert_eq!(run(&a, 4, 0, 255, 1, Rule::Limited { k: 1_000 }), (vec![128, 128, 191, 255], both(1, 0)));
+    assert_eq!(run(&a, 4, 0, 255, 1, Rule::Limited { k: 0 }), (vec![11, 11, 21, 31], both(1, 0)));
 }
 
-/// A component of one value has the limited rule like any other, and counts.
+/// A component of one value has the limited rule like any other, and is retoned; the plain rule keeps it back.
 #[test]
-fn a_limited_component_always_counts() {
-    assert_eq!(run(&[9, 9, 9], 3, 9, 9, 1, Rule::Limited { k: 10 }), (vec![9, 9, 9], 1));
-    assert_eq!(run(&[9, 9, 9], 3, 9, 9, 1, FREE), (vec![9, 9, 9], 0));
+fn a_limited_component_is_never_kept() {
+    assert_eq!(run(&[9, 9, 9], 3, 9, 9, 1, Rule::Limited { k: 10 }), (vec![9, 9, 9], both(1, 0)));
+    assert_eq!(run(&[9, 9, 9], 3, 9, 9, 1, FREE), (vec![9, 9, 9], both(0, 1)));
 }
 
 #[test]
 fn j_diagonals_are_apart() {
-    assert_eq!(run(&[10, 200, 200, 20], 2, 0, 127, 1, FREE), (vec![10, 200, 200, 20], 0));
+    assert_eq!(run(&[10, 200, 200, 20], 2, 0, 127, 1, FREE), (vec![10, 200, 200, 20], both(0, 2)));
 }
 
 #[test]
 fn k_l_and_m_enhancement() {
-    let (plane, count, output) = enhanced(&[10, 20], 0, 20, FREE);
-    assert_eq!((plane, count), (vec![128, 255], 1));
+    let (plane, counts, output) = enhanced(&[10, 20], 0, 20, FREE);
+    assert_eq!((plane, counts), (vec![128, 255], both(1, 0)));
     assert_eq!(output, [128, 128, 128, 255, 255, 255]);
-    let (plane, count, _) = enhanced(&[10, 20], 1, 1, FREE);
-    assert_eq!((plane, count), (vec![192, 255], 2));
-    let (plane, count, _) = enhanced(&[10, 20], 7, 1, FREE);
-    assert_eq!((plane, count), (vec![255, 255], 8));
+    let (plane, counts, _) = enhanced(&[10, 20], 1, 1, FREE);
+    assert_eq!((plane, counts), (vec![192, 255], both(2, 0)));
+    let (plane, counts, _) = enhanced(&[10, 20], 7, 1, FREE);
+    assert_eq!((plane, counts), (vec![255, 255], both(8, 0)));
 }
 
-/// At level 0 the range would fall from 215 to 170, so the plane is kept back; its dark half is retoned.
+/// At level 0 the range would fall from 215 to 170, so the plane is kept back; its dark half is retoned, and its bright
+/// pixel kept back again.
 #[test]
 fn a_kept_component_is_split_all_the_same() {
     let rule = Rule::Plain { low: 80, high: 300 };
-    let (plane, count, _) = enhanced(&[40, 100, 255], 0, 1, rule);
-    assert_eq!((plane, count), (vec![40, 100, 255], 0));
-    let (plane, count, _) = enhanced(&[40, 100, 255], 1, 1, rule);
-    assert_eq!((plane, count), (vec![64, 127, 255], 1));
+    let (plane, counts, _) = enhanced(&[40, 100, 255], 0, 1, rule);
+    assert_eq!((plane, counts), (vec![40, 100, 255], both(0, 1)));
+    let (plane, counts, _) = enhanced(&[40, 100, 255], 1, 1, rule);
+    assert_eq!((plane, counts), (vec![64, 127, 255], both(1, 2)));
+    let (plane, counts, _) = enhanced(&[40, 100, 255], 1, 2, rule);
+    assert_eq!((plane, counts), (vec![64, 127, 255], both(1, 1)));
 }
 
 /// After level 0, which asks for no area, the bright half has three pixels.
 #[test]
 fn small_components_are_not_entered() {
-    let (plane, count, _) = enhanced(&[10, 20, 30, 40], 1, 5, FREE);
-    assert_eq!((plane, count), (vec![64, 128, 191, 255], 1));
-    let (plane, count, _) = enhanced(&[10, 20, 30, 40], 1, 3, FREE);
-    assert_eq!((plane, count), (vec![64, 170, 213, 255], 2));
+    let (plane, counts, _) = enhanced(&[10, 20, 30, 40], 1, 5, FREE);
+    assert_eq!((plane, counts), (vec![64, 128, 191, 255], both(1, 0)));
+    let (plane, counts, _) = enhanced(&[10, 20, 30, 40], 1, 3, FREE);
+    assert_eq!((plane, counts), (vec![64, 170, 213, 255], both(2, 0)));
 }
 
 #[test]
@@ -128,13 +136,13 @@ fn q_list() {
         0x63,
     ];
     let mut plane = [10, 20, 200, 10, 10];
-    assert_eq!(run_list(&list, &mut plane, 5, 5, 5, 1), Ok(1));
+    assert_eq!(run_list(&list, &mut plane, 5, 5, 5, 1), Ok(both(1, 1)));
     assert_eq!(plane, [64, 127, 200, 10, 10]);
 
     let passes = [Pass { a: 0, b: 127, area: 1, rule: FREE }];
     assert_eq!(list_bytes(&passes), list);
     let mut plane = [10, 20, 200, 10, 10];
-    assert_eq!(run_passes(&passes, &mut plane, 5, 5, 5, 1), Ok(1));
+    assert_eq!(run_passes(&passes, &mut plane, 5, 5, 5, 1), Ok(both(1, 1)));
     assert_eq!(plane, [64, 127, 200, 10, 10]);
 }
 
@@ -144,7 +152,7 @@ fn the_recursion_as_a_list() {
     let passes = level_by_level(&Settings { last_level: 7, area: 1, rule: FREE });
     assert_eq!(passes.len(), 255);
     let mut plane = [10, 20];
-    assert_eq!(run_list(&list_bytes(&passes), &mut plane, 2, 2, 2, 1), Ok(8));
+    assert_eq!(run_list(&list_bytes(&passes), &mut plane, 2, 2, 2, 1), Ok(both(8, 0)));
     assert_eq!(plane, [255, 255]);
 }
 

@@ -1,9 +1,10 @@
-//! The recursion over components equals the list of passes level by level, in the plane and in the count, and no
-//! chain disturbs the shapes of a plane.
+//! The recursion over components equals the list of passes level by level, in the plane and in both counts, which
+//! together are the components of sufficient area; and no chain disturbs the shapes of a plane.
 
 use mlhe_reference::extrema::{keeps_shapes, reversed_channels};
 use mlhe_reference::random::Random;
-use mlhe_reference::{enhance, intensity, level_by_level, pass, recolour, run_passes, Pass, Rule, Settings};
+use mlhe_reference::{enhance, intensity, level_by_level, pass, recolour, run_passes, sufficient, sufficient_in_all};
+use mlhe_reference::{Pass, Rule, Settings};
 
 const RULES: [Rule; 7] = [
     Rule::Plain { low: 0, high: 25_500 },
@@ -20,11 +21,14 @@ fn compare(greys: &[u8], w: usize, settings: &Settings) {
     let (n, h) = (greys.len(), greys.len() / w);
     let frame: Vec<u8> = greys.iter().flat_map(|&v| [v, v, v]).collect();
     let (mut plane, mut output) = (vec![0; n], vec![0; 3 * n]);
-    let count = enhance(&frame, w, h, settings, &mut plane, n, n, &mut output).expect("accepted");
+    let counts = enhance(&frame, w, h, settings, &mut plane, n, n, &mut output).expect("accepted");
 
     let mut last = greys.to_vec();
-    let sum = run_passes(&level_by_level(settings), &mut last, n, n, w, h).expect("accepted");
-    assert_eq!((&plane, count), (&last, sum), "{greys:?}, {w} columns, {settings:?}");
+    let passes = level_by_level(settings);
+    let sums = run_passes(&passes, &mut last, n, n, w, h).expect("accepted");
+    assert_eq!((&plane, counts), (&last, sums), "{greys:?}, {w} columns, {settings:?}");
+    let all = sufficient_in_all(&passes, greys, w, h);
+    assert_eq!(counts.together(), all, "{greys:?}, {w} columns, {settings:?}");
     assert!(keeps_shapes(greys, &plane, w, h), "{greys:?}, {w} columns, {settings:?}");
 }
 
@@ -136,7 +140,10 @@ fn chains_at_random() {
             let answer = pass(&mut plane, n, n + random.below(3), w, h, &call);
             let expected = if a > b { Some(5) } else { (call.area == 0).then_some(6) };
             assert_eq!(answer.err(), expected);
-            assert!(answer.is_ok() || plane == before);
+            match answer {
+                Ok(counts) => assert_eq!(counts.together(), sufficient(&before, w, h, &call)),
+                Err(_) => assert_eq!(plane, before),
+            }
         }
         assert!(keeps_shapes(&first, &plane, w, h));
         let mut output = vec![0; 3 * n];

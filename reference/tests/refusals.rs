@@ -3,7 +3,7 @@
 
 use mlhe_reference::random::Random;
 use mlhe_reference::{enhance, intensity, list_bytes, pass, program, read, recolour, run_list, run_passes, write};
-use mlhe_reference::{Frame, Pass, Rule, Settings, GREATEST_PIXELS};
+use mlhe_reference::{Counts, Frame, Pass, Rule, Settings, GREATEST_PIXELS};
 
 const FREE: Rule = Rule::Plain { low: 0, high: 25_500 };
 const SOUND: Pass = Pass { a: 0, b: 255, area: 1, rule: FREE };
@@ -88,7 +88,7 @@ fn run_intensity(call: &Call) -> Result<u64, u8> {
 }
 
 fn run_pass(call: &Call) -> Result<u64, u8> {
-    guarded(call, |plane, _| pass(plane, call.marks, call.queue, call.w, call.h, &call.pass))
+    guarded(call, |plane, _| pass(plane, call.marks, call.queue, call.w, call.h, &call.pass).map(Counts::together))
 }
 
 fn run_recolour(call: &Call) -> Result<u64, u8> {
@@ -99,12 +99,12 @@ fn run_recolour(call: &Call) -> Result<u64, u8> {
 fn run_enhance(call: &Call) -> Result<u64, u8> {
     guarded(call, |plane, output| {
         let frame = bytes(call.frame);
-        enhance(&frame, call.w, call.h, &call.settings, plane, call.marks, call.queue, output)
+        enhance(&frame, call.w, call.h, &call.settings, plane, call.marks, call.queue, output).map(Counts::together)
     })
 }
 
 fn run_list_call(call: &Call) -> Result<u64, u8> {
-    guarded(call, |plane, _| run_list(&call.list, plane, call.marks, call.queue, call.w, call.h))
+    guarded(call, |plane, _| run_list(&call.list, plane, call.marks, call.queue, call.w, call.h).map(Counts::together))
 }
 
 fn run_write(call: &Call) -> Result<u64, u8> {
@@ -288,7 +288,7 @@ fn lists_of_1024_and_1025_passes() {
         let mut call = sound_call();
         call.list = list_bytes(&passes);
         assert_eq!(run_list_call(&call), expected);
-        assert_eq!(run_passes(&passes, &mut bytes(4), 4, 4, 2, 2), expected);
+        assert_eq!(run_passes(&passes, &mut bytes(4), 4, 4, 2, 2).map(Counts::together), expected);
     }
 }
 
@@ -297,7 +297,7 @@ fn lists_of_1024_and_1025_passes() {
 fn passes_in_memory() {
     let run = |passes: &[Pass], plane: usize, marks: usize, w: usize| {
         let mut lent = bytes(plane);
-        let answer = run_passes(passes, &mut lent, marks, 4, w, 2);
+        let answer = run_passes(passes, &mut lent, marks, 4, w, 2).map(Counts::together);
         assert!(answer.is_ok() || lent == bytes(plane));
         answer
     };
@@ -351,12 +351,13 @@ fn the_largest_sizes_are_accepted() {
         assert_eq!(intensity(&frame, w, h, &mut plane), Ok(()));
         assert!(plane.iter().all(|&v| v == 9));
         let greatest = Pass { area: 1_048_576, rule: Rule::Limited { k: 1_000 }, ..SOUND };
-        assert_eq!(pass(&mut plane, w * h, w * h, w, h, &greatest), Ok(1));
+        assert_eq!(pass(&mut plane, w * h, w * h, w, h, &greatest), Ok(Counts { retoned: 1, kept: 0 }));
         assert!(plane.iter().all(|&v| v == 255));
     }
     let mut plane = [1, 2];
-    assert_eq!(pass(&mut plane, 9, 2, 2, 1, &Pass { area: 1_048_576, ..SOUND }), Ok(0));
-    assert_eq!(pass(&mut plane, 9, 2, 2, 1, &Pass { rule: Rule::Plain { low: 25_500, high: 25_500 }, ..SOUND }), Ok(0));
+    assert_eq!(pass(&mut plane, 9, 2, 2, 1, &Pass { area: 1_048_576, ..SOUND }), Ok(Counts::default()));
+    let greatest = Pass { rule: Rule::Plain { low: 25_500, high: 25_500 }, ..SOUND };
+    assert_eq!(pass(&mut plane, 9, 2, 2, 1, &greatest), Ok(Counts { retoned: 0, kept: 1 }));
 }
 
 /// Bytes beyond the needed ones stay.
@@ -369,7 +370,7 @@ fn longer_outputs_keep_their_ends() {
     assert_eq!(write(&[1, 2, 3], 1, 1, &mut output), Ok(14));
     assert_eq!(&output, b"P6\n1 1\n255\n\x01\x02\x03\x07\x07");
     let (mut plane, mut output) = ([0], [7; 4]);
-    assert_eq!(enhance(&[1, 2, 3], 1, 1, &Settings::HOUSE, &mut plane, 1, 1, &mut output), Ok(0));
+    enhance(&[1, 2, 3], 1, 1, &Settings::HOUSE, &mut plane, 1, 1, &mut output).expect("accepted");
     assert_eq!((plane, output), ([2], [1, 2, 3, 7]));
 }
 

@@ -1,6 +1,7 @@
 //! The stored test cases are what the generator makes, and they show what they are meant to show.
 
 use mlhe_reference::cases::{answers, cases, encode, Case, Kind};
+use mlhe_reference::{intensity, level_by_level, sufficient_in_all, Pass, Rule, Settings};
 use std::collections::{BTreeMap, BTreeSet};
 use std::fs;
 use std::path::PathBuf;
@@ -62,22 +63,24 @@ fn every_refusal_of_every_call_is_there() {
     }
 }
 
-/// Each level changes some count and some plane: so does the last one, with low 0 and with the limited rule.
+/// Each level changes both counts and the plane of some case: so does the last one, with low 0 and with the limited
+/// rule, which keeps nothing back.
 #[test]
 fn every_level_shows() {
     let (cases, lines) = stored_of(Kind::Enhance);
     for last_level in 1..=7 {
         for rule in [0, 1] {
-            let (mut counts, mut planes) = (0, 0);
+            let (mut retoned, mut kept, mut planes) = (0, 0, 0);
             for (case, line) in cases.iter().zip(&lines) {
                 if case.last_level == last_level && case.rule == rule && line.starts_with('+') {
                     let less = answers(&encode(&Case { last_level: last_level - 1, ..case.clone() }));
                     let (line, less): (Vec<&str>, Vec<&str>) = (line.split(' ').collect(), less.split(' ').collect());
-                    counts += usize::from(line[0] != less[0]);
-                    planes += usize::from(line[1] != less[1]);
+                    retoned += usize::from(line[0] != less[0]);
+                    kept += usize::from(line[1] != less[1]);
+                    planes += usize::from(line[2] != less[2]);
                 }
             }
-            assert!(counts > 0 && planes > 0, "level {last_level}, rule {rule}");
+            assert!(retoned > 0 && planes > 0 && (kept > 0) == (rule == 0), "level {last_level}, rule {rule}");
         }
     }
 }
@@ -128,9 +131,59 @@ fn every_part_of_a_pass_shows() {
     assert!(differs(|case| case.numbers[0] = 1_000, 1) > 10);
     assert!(differs(|case| (case.rule, case.numbers) = (0, [0, 25_500]), 1) > 10);
     assert!(accepted.iter().any(|(case, _)| case.plane.len() == usize::from(case.marks) && case.w == 16));
-    let count = |line: &str| line[1..].split(' ').next().and_then(|count| count.parse::<u32>().ok());
     for rule in [0, 1] {
-        assert!(accepted.iter().any(|(case, line)| case.rule == rule && count(line) > Some(9)), "rule {rule}");
+        assert!(accepted.iter().any(|(case, line)| case.rule == rule && counts(line)[0] > 9), "rule {rule}");
+    }
+}
+
+/// The two counts of a line that answers an accepted pass, list or enhancement.
+fn counts(line: &str) -> [u64; 2] {
+    let mut numbers = line[1..].split(' ').map(|word| word.parse().expect("a number"));
+    [(); 2].map(|()| numbers.next().expect("two counts"))
+}
+
+/// Each call that counts has lines with both counts above 0, with each alone, and with neither; a limited pass or
+/// enhancement keeps nothing back.
+#[test]
+fn both_counts_show() {
+    for kind in [Kind::Pass, Kind::Enhance, Kind::List, Kind::Passes, Kind::House] {
+        let (cases, lines) = stored_of(kind);
+        let accepted = cases.iter().zip(&lines).filter(|(_, line)| line.starts_with('+'));
+        let mut shown = BTreeSet::new();
+        for (case, line) in accepted {
+            let [retoned, kept] = counts(line);
+            shown.insert((retoned > 0, kept > 0));
+            if matches!(kind, Kind::Pass | Kind::Enhance) && case.rule == 1 {
+                assert_eq!(kept, 0, "{case:?}");
+            }
+        }
+        // An enhancement has always come to the whole plane.
+        let neither = !matches!(kind, Kind::Enhance | Kind::House);
+        let all = [(true, true), (true, false), (false, true), (false, false)];
+        assert_eq!(shown, all.into_iter().filter(|&one| neither || one != (false, false)).collect(), "{kind:?}");
+    }
+}
+
+/// In every accepted pass and enhancement both counts together are the components of sufficient area.
+#[test]
+fn both_counts_together_are_all_of_sufficient_area() {
+    let rule = |case: &Case| match (case.rule, case.numbers.map(u32::from)) {
+        (0, [low, high]) => Rule::Plain { low, high },
+        (_, [k, _]) => Rule::Limited { k },
+    };
+    for kind in [Kind::Pass, Kind::Enhance] {
+        let (cases, lines) = stored_of(kind);
+        for (case, line) in cases.iter().zip(&lines).filter(|(_, line)| line.starts_with('+')) {
+            let (w, h, area) = (case.w as usize, case.h as usize, case.area);
+            let mut first = case.plane.clone();
+            let mut passes = vec![Pass { a: case.a, b: case.b, area, rule: rule(case) }];
+            if kind == Kind::Enhance {
+                intensity(&case.bytes, w, h, &mut first).expect("accepted");
+                passes = level_by_level(&Settings { last_level: case.last_level.into(), area, rule: rule(case) });
+            }
+            let [retoned, kept] = counts(line);
+            assert_eq!(retoned + kept, sufficient_in_all(&passes, &first, w, h), "{case:?}");
+        }
     }
 }
 

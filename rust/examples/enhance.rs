@@ -4,10 +4,10 @@
 //!     cargo run --release --example enhance -- [LIST.mlp] IN.ppm OUT.ppm
 //!
 //! The frame is enhanced with the house setting, or with the passes of a list. It is written beside its place and
-//! renamed into it, so that an earlier file is replaced by a whole one or not at all. On an error the status is 1, and 2
-//! where the arguments are wrong.
+//! renamed into it, so that an earlier file is replaced by a whole one or not at all. One line says what was done, with
+//! the numbers of components retoned and kept back. On an error the status is 1, and 2 where the arguments are wrong.
 
-use mlhe::{Frame, Memory, PassList, Refusal, Settings};
+use mlhe::{Counts, Frame, Memory, PassList, Refusal, Settings};
 use std::error::Error;
 use std::ffi::OsString;
 use std::fs::{self, OpenOptions};
@@ -45,7 +45,7 @@ fn run(list: Option<&PathBuf>, input: &Path, output: &Path) -> Result<(), String
         Some(file) => Some(PassList::from_bytes(&fs::read(file).map_err(about(file))?).map_err(about(file))?),
         None => None,
     };
-    let (recoloured, retoned) = enhanced(&frame, list.as_ref()).map_err(about(input))?;
+    let (recoloured, counts) = enhanced(&frame, list.as_ref()).map_err(about(input))?;
     if fs::metadata(output).is_ok_and(|metadata| !metadata.is_file()) {
         return Err(format!("{}: it is there and no file", output.display()));
     }
@@ -54,21 +54,22 @@ fn run(list: Option<&PathBuf>, input: &Path, output: &Path) -> Result<(), String
     }
     save(output, &recoloured.to_p6()).map_err(about(output))?;
     let sides = format!("{} x {}", frame.width(), frame.height());
-    println!("{}: {sides}, {retoned} components retoned, {}", input.display(), output.display());
+    let Counts { retoned, kept } = counts;
+    println!("{}: {sides}, {retoned} components retoned, {kept} kept, {}", input.display(), output.display());
     Ok(())
 }
 
-/// The recoloured frame and the number of retoned components. What is guaranteed is guaranteed of the plane: a program
-/// that matches spots keeps `enhanced.plane`, or here `plane`.
-fn enhanced(frame: &Frame, list: Option<&PassList>) -> Result<(Frame, u32), Refusal> {
+/// The recoloured frame and the numbers of retoned and kept components. What is guaranteed is guaranteed of the plane:
+/// a program that matches spots keeps `enhanced.plane`, or here `plane`.
+fn enhanced(frame: &Frame, list: Option<&PassList>) -> Result<(Frame, Counts), Refusal> {
     let mut memory = Memory::new();
     let Some(list) = list else {
         let enhanced = frame.enhanced(&Settings::house(), &mut memory)?;
-        return Ok((enhanced.frame, enhanced.retoned));
+        return Ok((enhanced.frame, enhanced.counts));
     };
     let mut plane = frame.intensity();
-    let retoned = plane.run(list, &mut memory);
-    Ok((frame.recoloured(&plane)?, retoned))
+    let counts = plane.run(list, &mut memory);
+    Ok((frame.recoloured(&plane)?, counts))
 }
 
 /// Writes a whole file, or leaves what is there.

@@ -49,6 +49,8 @@ mod declared {
             rule: u8,
             first: u16,
             second: u16,
+            counts: *mut usize,
+            counts_length: usize,
         ) -> i64;
 
         /// Runs the passes of a list: see [`lent::run_list`](crate::lent::run_list).
@@ -63,6 +65,8 @@ mod declared {
             queue_length: usize,
             w: usize,
             h: usize,
+            counts: *mut usize,
+            counts_length: usize,
         ) -> i64;
 
         /// Recolours a frame from a plane: see [`lent::recolour`](crate::lent::recolour).
@@ -96,6 +100,8 @@ mod declared {
             queue_length: usize,
             output: *mut u8,
             output_length: usize,
+            counts: *mut usize,
+            counts_length: usize,
         ) -> i64;
     }
 }

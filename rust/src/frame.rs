@@ -1,6 +1,6 @@
 //! Colour frames.
 
-use crate::{lent, Memory, Plane, Refusal, Settings, GREATEST_HEADER};
+use crate::{lent, Counts, Memory, Plane, Refusal, Settings, GREATEST_HEADER};
 
 /// A frame: w columns and h rows of pixels, each the bytes red, green, blue. Its sides are 1 to 4,096, and it has at
 /// most 1,048,576 pixels.
@@ -20,8 +20,9 @@ pub struct Enhanced {
     pub frame: Frame,
     /// The new intensity. What is guaranteed is guaranteed of this plane: match spots here.
     pub plane: Plane,
-    /// The number of retoned components, on all levels.
-    pub retoned: u32,
+    /// The components that were retoned and those that were kept back, section by section on all levels: a component of
+    /// one value is kept once at every level that has it.
+    pub counts: Counts,
 }
 
 impl Frame {
@@ -126,19 +127,20 @@ impl Frame {
     /// [`Refusal::Clip`].
     ///
     /// ```
-    /// use mlhe::{Frame, Memory, Refusal, Rule, Settings};
+    /// use mlhe::{Counts, Frame, Memory, Refusal, Rule, Settings};
     ///
     /// let frame = Frame::new(2, 1, vec![10, 10, 10, 20, 20, 20])?;
     /// let settings = Settings::new(1, 1, Rule::Plain { low: 0, high: 25_500 });
     /// let enhanced = frame.enhanced(&settings, &mut Memory::new())?;
-    /// assert_eq!((enhanced.plane.values(), enhanced.retoned), (&[192, 255][..], 2));
+    /// assert_eq!(enhanced.plane.values(), [192, 255]);
+    /// assert_eq!(enhanced.counts, Counts { retoned: 2, kept: 0 });
     /// # Ok::<(), Refusal>(())
     /// ```
     pub fn enhanced(&self, settings: &Settings, memory: &mut Memory) -> Result<Enhanced, Refusal> {
         let (mut values, mut bytes) = (vec![0; self.pixels()], vec![0; self.bytes.len()]);
         let (marks, queue) = memory.lend(self.pixels());
-        let retoned = lent::enhance(&self.bytes, self.w, self.h, settings, &mut values, marks, queue, &mut bytes)?;
+        let counts = lent::enhance(&self.bytes, self.w, self.h, settings, &mut values, marks, queue, &mut bytes)?;
         let plane = Plane::new(self.w, self.h, values).expect("the plane has the frame's sides");
-        Ok(Enhanced { frame: Frame { w: self.w, h: self.h, bytes }, plane, retoned })
+        Ok(Enhanced { frame: Frame { w: self.w, h: self.h, bytes }, plane, counts })
     }
 }

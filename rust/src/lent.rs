@@ -7,14 +7,14 @@
 //! are unspecified after an accepted call.
 //!
 //! ```
-//! use mlhe::{lent, Refusal, Settings};
+//! use mlhe::{lent, Counts, Refusal, Settings};
 //!
 //! let frame = [10, 10, 10, 20, 20, 20];
 //! let (mut plane, mut marks, mut queue, mut output) = ([0; 2], [0; 2], [0; 2], [7; 8]);
 //! let settings = Settings::house().with_last(0);
 //! // 10 and 20 would become 128 and 255, more than 300 hundredths of the range: they are kept.
-//! let retoned = lent::enhance(&frame, 2, 1, &settings, &mut plane, &mut marks, &mut queue, &mut output)?;
-//! assert_eq!((retoned, plane), (0, [10, 20]));
+//! let counts = lent::enhance(&frame, 2, 1, &settings, &mut plane, &mut marks, &mut queue, &mut output)?;
+//! assert_eq!((counts, plane), (Counts { retoned: 0, kept: 1 }, [10, 20]));
 //! assert_eq!(output, [10, 10, 10, 20, 20, 20, 7, 7]);
 //!
 //! let short = &mut queue[..1];
@@ -23,7 +23,7 @@
 //! # Ok::<(), Refusal>(())
 //! ```
 
-use crate::{ffi, Pass, Refusal, Settings};
+use crate::{ffi, Counts, Pass, Refusal, Settings};
 
 /// What reading answers: the sides, and the place of the raster's first byte. A later version may answer more.
 #[derive(Clone, Copy, Debug, PartialEq, Eq)]
@@ -63,7 +63,7 @@ pub fn intensity(frame: &[u8], w: usize, h: usize, plane: &mut [u8]) -> Result<(
     Refusal::of_answer(answer).map(|_| ())
 }
 
-/// Runs one pass over a plane and answers the number of retoned components. Refusals, in order: 1 to 8.
+/// Runs one pass over a plane and answers the numbers of retoned and kept components. Refusals, in order: 1 to 8.
 pub fn pass(
     plane: &mut [u8],
     marks: &mut [u8],
@@ -71,9 +71,10 @@ pub fn pass(
     w: usize,
     h: usize,
     pass: &Pass,
-) -> Result<u32, Refusal> {
+) -> Result<Counts, Refusal> {
     let (rule, first, second) = pass.rule.numbers();
-    // SAFETY: each pointer goes with the length of its slice; what is writable is borrowed alone.
+    let mut counts = [0; 2];
+    // SAFETY: each pointer goes with the length of its memory; what is writable is borrowed alone.
     let answer = unsafe {
         ffi::mlhe_pass(
             plane.as_mut_ptr(),
@@ -90,13 +91,16 @@ pub fn pass(
             rule,
             first,
             second,
+            counts.as_mut_ptr(),
+            counts.len(),
         )
     };
-    Refusal::of_answer(answer).map(|count| count as u32)
+    Refusal::of_answer(answer).map(|_| Counts::of_lent(counts))
 }
 
-/// Runs the passes of a list in its file format and answers the sum of their counts. All records are checked before the
-/// first pass runs. Refusals, in order: 1 to 4, 16 (fewer than 7 bytes), 15, 16, then for each record 17, 5, 6, 7, 8.
+/// Runs the passes of a list in its file format and answers the sums of their counts. All records are checked before
+/// the first pass runs. Refusals, in order: 1 to 4, 16 (fewer than 7 bytes), 15, 16, then for each record 17, 5, 6, 7,
+/// 8.
 pub fn run_list(
     list: &[u8],
     plane: &mut [u8],
@@ -104,8 +108,9 @@ pub fn run_list(
     queue: &mut [u32],
     w: usize,
     h: usize,
-) -> Result<u32, Refusal> {
-    // SAFETY: each pointer goes with the length of its slice; what is writable is borrowed alone.
+) -> Result<Counts, Refusal> {
+    let mut counts = [0; 2];
+    // SAFETY: each pointer goes with the length of its memory; what is writable is borrowed alone.
     let answer = unsafe {
         ffi::mlhe_run_list(
             list.as_ptr(),
@@ -118,9 +123,11 @@ pub fn run_list(
             queue.len(),
             w,
             h,
+            counts.as_mut_ptr(),
+            counts.len(),
         )
     };
-    Refusal::of_answer(answer).map(|count| count as u32)
+    Refusal::of_answer(answer).map(|_| Counts::of_lent(counts))
 }
 
 /// Recolours a frame from the new intensities in a plane, into the first bytes of the output. Refusals, in order: 1, 2,
@@ -143,8 +150,8 @@ pub fn recolour(frame: &[u8], w: usize, h: usize, plane: &[u8], output: &mut [u8
 }
 
 /// Enhances a frame: the new intensity is left in the plane and the recoloured frame in the output. The guarantee is of
-/// the plane, not of the output's own intensity. Answers the number of retoned components, on all levels. Refusals, in
-/// order: 1, 2, 3, 4, 14, 9, 6, 7, 8.
+/// the plane, not of the output's own intensity. Answers the numbers of retoned and kept components, on all levels.
+/// Refusals, in order: 1, 2, 3, 4, 14, 9, 6, 7, 8.
 #[allow(clippy::too_many_arguments)]
 pub fn enhance(
     frame: &[u8],
@@ -155,9 +162,10 @@ pub fn enhance(
     marks: &mut [u8],
     queue: &mut [u32],
     output: &mut [u8],
-) -> Result<u32, Refusal> {
+) -> Result<Counts, Refusal> {
     let (rule, first, second) = settings.rule.numbers();
-    // SAFETY: each pointer goes with the length of its slice; what is writable is borrowed alone.
+    let mut counts = [0; 2];
+    // SAFETY: each pointer goes with the length of its memory; what is writable is borrowed alone.
     let answer = unsafe {
         ffi::mlhe_enhance(
             frame.as_ptr(),
@@ -177,7 +185,9 @@ pub fn enhance(
             queue.len(),
             output.as_mut_ptr(),
             output.len(),
+            counts.as_mut_ptr(),
+            counts.len(),
         )
     };
-    Refusal::of_answer(answer).map(|count| count as u32)
+    Refusal::of_answer(answer).map(|_| Counts::of_lent(counts))
 }

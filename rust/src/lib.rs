@@ -18,6 +18,7 @@
 //!
 //! - [`Frame`] and [`Plane`] own their bytes and always have the length of their sides.
 //! - [`Pass`], [`Rule`] and [`Settings`] say what to do, and [`PassList`] is a list of passes that has been checked.
+//! - [`Counts`] is what passes and enhancements count: the components that were retoned, and those that were kept back.
 //! - [`Memory`] is working memory, to be used again from call to call.
 //! - [`Refusal`] says why a call is turned down.
 //! - [`GREATEST_SIDE`], [`GREATEST_PIXELS`] and the other constants are the greatest numbers that the calls take.
@@ -36,6 +37,7 @@
 #![deny(missing_docs)]
 #![warn(clippy::must_use_candidate, clippy::return_self_not_must_use)]
 
+mod counts;
 pub mod ffi;
 mod frame;
 pub mod lent;
@@ -46,6 +48,7 @@ mod refusal;
 mod settings;
 mod sizes;
 
+pub use counts::Counts;
 pub use frame::{Enhanced, Frame};
 pub use memory::Memory;
 pub use pass::{Pass, PassList, Rule};

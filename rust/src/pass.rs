@@ -58,13 +58,13 @@ impl Pass {
 /// [`GREATEST_PASSES`](crate::GREATEST_PASSES).
 ///
 /// ```
-/// use mlhe::{Memory, Pass, PassList, Plane, Refusal, Rule};
+/// use mlhe::{Counts, Memory, Pass, PassList, Plane, Refusal, Rule};
 ///
 /// let rule = Rule::Plain { low: 0, high: 25_500 };
 /// let dark = Pass::new(0, 127, 1, rule);
 /// let list = PassList::new(&[dark])?;
 /// let mut plane = Plane::new(5, 1, vec![10, 20, 200, 10, 10])?;
-/// assert_eq!(plane.run(&list, &mut Memory::new()), 1);
+/// assert_eq!(plane.run(&list, &mut Memory::new()), Counts { retoned: 1, kept: 1 });
 /// assert_eq!(plane.values(), [64, 127, 200, 10, 10]);
 ///
 /// // The file format, and back.

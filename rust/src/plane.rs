@@ -1,6 +1,6 @@
 //! Planes of intensities.
 
-use crate::{lent, Frame, Memory, Pass, PassList, Refusal, Rule};
+use crate::{lent, Counts, Frame, Memory, Pass, PassList, Refusal, Rule};
 
 /// A plane: w columns and h rows of values, row by row, left to right. Its sides are 1 to 4,096, and it has at most
 /// 1,048,576 pixels. Passes never reverse two four-neighbours of it, part equal ones, or invent a regional maximum or
@@ -64,27 +64,27 @@ impl Plane {
         Frame::new(self.w, self.h, bytes).expect("the frame has the plane's sides")
     }
 
-    /// Runs one pass and answers the number of retoned components. Refusals, in order: [`Refusal::Interval`],
+    /// Runs one pass and answers the numbers of retoned and kept components. Refusals, in order: [`Refusal::Interval`],
     /// [`Refusal::Area`], [`Refusal::Limits`], [`Refusal::Clip`].
     ///
     /// ```
-    /// use mlhe::{Memory, Pass, Plane, Refusal, Rule};
+    /// use mlhe::{Counts, Memory, Pass, Plane, Refusal, Rule};
     ///
     /// let mut plane = Plane::new(4, 1, vec![10, 10, 20, 30])?;
     /// let rule = Rule::Plain { low: 0, high: 25_500 };
     /// let mut memory = Memory::new();
-    /// assert_eq!(plane.pass(&Pass::new(0, 255, 1, rule), &mut memory)?, 1);
+    /// assert_eq!(plane.pass(&Pass::new(0, 255, 1, rule), &mut memory)?, Counts { retoned: 1, kept: 0 });
     /// assert_eq!(plane.values(), [128, 128, 191, 255]);
     /// assert_eq!(plane.pass(&Pass::new(0, 255, 0, rule), &mut memory), Err(Refusal::Area));
     /// # Ok::<(), Refusal>(())
     /// ```
-    pub fn pass(&mut self, pass: &Pass, memory: &mut Memory) -> Result<u32, Refusal> {
+    pub fn pass(&mut self, pass: &Pass, memory: &mut Memory) -> Result<Counts, Refusal> {
         let (marks, queue) = memory.lend(self.values.len());
         lent::pass(&mut self.values, marks, queue, self.w, self.h, pass)
     }
 
-    /// Runs the passes of a list and answers the sum of their counts.
-    pub fn run(&mut self, list: &PassList, memory: &mut Memory) -> u32 {
+    /// Runs the passes of a list and answers the sums of their counts.
+    pub fn run(&mut self, list: &PassList, memory: &mut Memory) -> Counts {
         let (marks, queue) = memory.lend(self.values.len());
         lent::run_list(list.bytes(), &mut self.values, marks, queue, self.w, self.h).expect("plane and list are sound")
     }

@@ -42,7 +42,7 @@ pub enum Refusal {
     Raster = 12,
     /// 13: there are bytes after the raster.
     Trailing = 13,
-    /// 14: the output is shorter than needed.
+    /// 14: the output, or lent numbers or counts of a C function, are shorter than needed.
     Output = 14,
     /// 15: a pass list's mark or version is wrong.
     ListMark = 15,

@@ -1,7 +1,7 @@
 //! Nothing in the languages holds the declarations of the C functions against their source. This does: the functions of
 //! `crates/capi`, `include/mlhe.h` and `src/ffi.rs` have the same names, parameters and types, in the same order, and
 //! the house setting has the same numbers in `crates/levels`, `include/mlhe.h` and `src/settings.rs`. Header and crate
-//! have the same version, refusals, reasons and sizes.
+//! have the same version, refusals, reasons, sizes and counts.
 
 use mlhe::{Refusal, Rule, Settings};
 use mlhe::{
@@ -145,6 +145,17 @@ fn the_sizes_of_the_header_are_those_of_the_crate() {
     }
     let named = header.lines().filter(|line| line.starts_with("    MLHE_GREATEST_")).count();
     assert_eq!(named, sizes.len());
+}
+
+/// The counts that the crate lends are as many as the header says, and each stands at its place.
+#[test]
+fn the_counts_of_the_header_are_those_of_the_crate() {
+    let header = text("include/mlhe.h");
+    let [counts, retoned, kept] =
+        ["COUNTS", "RETONED", "KEPT"].map(|name| number_after(&header, &format!("MLHE_{name} = ")));
+    assert_eq!([retoned, kept], [0, 1]);
+    assert_eq!(text("rust/src/lent.rs").matches(&format!("let mut counts = [0; {counts}];")).count(), 3);
+    assert!(text("rust/src/counts.rs").contains(&format!("of_lent([retoned, kept]: [usize; {counts}])")));
 }
 
 #[test]

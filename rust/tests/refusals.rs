@@ -1,6 +1,6 @@
 //! What is turned down, through the safe types and through the C functions.
 
-use mlhe::{ffi, lent, Frame, Memory, Pass, PassList, Plane, Refusal, Rule, Settings};
+use mlhe::{ffi, lent, Counts, Frame, Memory, Pass, PassList, Plane, Refusal, Rule, Settings};
 use mlhe::{
     GREATEST_CLIP, GREATEST_HEADER, GREATEST_HIGH, GREATEST_LEVEL, GREATEST_PASSES, GREATEST_PIXELS, GREATEST_SIDE,
 };
@@ -77,17 +77,19 @@ fn the_sizes_are_those_of_the_library() {
     assert_eq!(list(GREATEST_PASSES), Ok(7 + 12 * GREATEST_PASSES));
     assert_eq!(list(GREATEST_PASSES + 1), Err(Refusal::ListLength));
     let frame = Frame::new(1, 1, vec![1, 2, 3]).unwrap();
-    let enhanced = |settings: Settings| frame.enhanced(&settings, &mut Memory::new()).map(|enhanced| enhanced.retoned);
+    let enhanced = |settings: Settings| frame.enhanced(&settings, &mut Memory::new()).map(|enhanced| enhanced.counts);
+    let once = Ok(Counts { retoned: 0, kept: 1 });
     let house = Settings::house();
-    assert_eq!(enhanced(house.with_last(GREATEST_LEVEL)), Ok(0));
+    assert_eq!(enhanced(house.with_last(GREATEST_LEVEL)), once);
     assert_eq!(enhanced(house.with_last(GREATEST_LEVEL + 1)), Err(Refusal::Level));
     let area = u32::try_from(GREATEST_PIXELS).unwrap();
-    assert_eq!(enhanced(house.with_area(area)), Ok(0));
+    assert_eq!(enhanced(house.with_area(area)), once);
     assert_eq!(enhanced(house.with_area(area + 1)), Err(Refusal::Area));
     let plain = |high| enhanced(house.with_rule(Rule::Plain { low: 0, high }));
-    assert_eq!((plain(GREATEST_HIGH), plain(GREATEST_HIGH + 1)), (Ok(0), Err(Refusal::Limits)));
-    let limited = |k| enhanced(house.with_area(2).with_rule(Rule::Limited { k })).map(|_| ());
-    assert_eq!((limited(GREATEST_CLIP), limited(GREATEST_CLIP + 1)), (Ok(()), Err(Refusal::Clip)));
+    assert_eq!((plain(GREATEST_HIGH), plain(GREATEST_HIGH + 1)), (once, Err(Refusal::Limits)));
+    let limited = |k| enhanced(house.with_area(2).with_rule(Rule::Limited { k }));
+    let once = Ok(Counts { retoned: 1, kept: 0 });
+    assert_eq!((limited(GREATEST_CLIP), limited(GREATEST_CLIP + 1)), (once, Err(Refusal::Clip)));
 }
 
 #[test]
@@ -129,11 +131,58 @@ fn no_memory_at_all_is_refused() {
         assert_eq!(numbers, [7; 3]);
         assert_eq!(ffi::mlhe_write(null(), 0, 1, 1, null_mut(), 0), -3);
         assert_eq!(ffi::mlhe_intensity(null(), 0, 1, 1, null_mut(), 0), -3);
-        assert_eq!(ffi::mlhe_run_list(null(), 0, null_mut(), 0, null_mut(), 0, null_mut(), 0, 1, 1), -3);
-        assert_eq!(
-            ffi::mlhe_run_list(null(), 0, [1].as_mut_ptr(), 1, [0].as_mut_ptr(), 1, [0].as_mut_ptr(), 1, 1, 1),
-            -16
-        );
+        let none = null_mut();
+        assert_eq!(ffi::mlhe_run_list(null(), 0, none, 0, none, 0, null_mut(), 0, 1, 1, null_mut(), 0), -3);
+        let (mut plane, mut marks, mut queue) = ([1], [0], [0]);
+        let (p, m, q) = (plane.as_mut_ptr(), marks.as_mut_ptr(), queue.as_mut_ptr());
+        assert_eq!(ffi::mlhe_run_list(null(), 0, p, 1, m, 1, q, 1, 1, 1, null_mut(), 0), -16);
+    }
+}
+
+/// What a C function answers, and what it leaves of the row 10 20 and of three counts that were 7.
+type Left = (i64, [u8; 2], [usize; 3]);
+
+/// A pass over the whole section with this least area, which is lent so many counts.
+fn counted_pass(area: u8, lent: usize) -> Left {
+    let (mut plane, mut marks, mut queue, mut counts) = ([10, 20], [0; 2], [0; 2], [7; 3]);
+    let (p, m, q, c) = (plane.as_mut_ptr(), marks.as_mut_ptr(), queue.as_mut_ptr(), counts.as_mut_ptr());
+    // SAFETY: each pointer goes with at most as many elements as there are.
+    let answer = unsafe { ffi::mlhe_pass(p, 2, m, 2, q, 2, 2, 1, 0, 255, area.into(), 0, 0, 25_500, c, lent) };
+    (answer, plane, counts)
+}
+
+/// The same as a list.
+fn counted_list(area: u8, lent: usize) -> Left {
+    let mut list = PassList::new(&[WHOLE]).unwrap().bytes().to_vec();
+    list[11] = area;
+    let (mut plane, mut marks, mut queue, mut counts) = ([10, 20], [0; 2], [0; 2], [7; 3]);
+    let (p, m, q, c) = (plane.as_mut_ptr(), marks.as_mut_ptr(), queue.as_mut_ptr(), counts.as_mut_ptr());
+    // SAFETY: each pointer goes with at most as many elements as there are.
+    let answer = unsafe { ffi::mlhe_run_list(list.as_ptr(), list.len(), p, 2, m, 2, q, 2, 2, 1, c, lent) };
+    (answer, plane, counts)
+}
+
+/// The same as an enhancement, which writes its output too or leaves that as well.
+fn counted_enhancement(area: u8, lent: usize) -> Left {
+    let frame = [10, 10, 10, 20, 20, 20];
+    let (mut plane, mut marks, mut queue, mut output, mut counts) = ([10, 20], [0; 2], [0; 2], frame, [7; 3]);
+    let (p, m, q, c) = (plane.as_mut_ptr(), marks.as_mut_ptr(), queue.as_mut_ptr(), counts.as_mut_ptr());
+    let (f, o, area) = (frame.as_ptr(), output.as_mut_ptr(), area.into());
+    // SAFETY: each pointer goes with at most as many elements as there are.
+    let answer = unsafe { ffi::mlhe_enhance(f, 6, 2, 1, 0, area, 0, 0, 25_500, p, 2, m, 2, q, 2, o, 6, c, lent) };
+    assert_eq!(output, [plane[0], plane[0], plane[0], plane[1], plane[1], plane[1]]);
+    (answer, plane, counts)
+}
+
+/// Counts that are too short are refused after all else, and nothing changes; counts beyond the two stay.
+#[test]
+fn counts_that_are_too_short_are_refused_last() {
+    for call in [counted_pass as fn(u8, usize) -> Left, counted_list, counted_enhancement] {
+        for lent in 0..=3 {
+            assert_eq!(call(0, lent), (-6, [10, 20], [7; 3]));
+            let expected = if lent < 2 { (-14, [10, 20], [7; 3]) } else { (0, [128, 255], [1, 0, 7]) };
+            assert_eq!(call(1, lent), expected);
+        }
     }
 }
 
@@ -144,7 +193,7 @@ fn a_rule_that_there_is_not_is_refused_before_the_other_numbers() {
         // SAFETY: each of the three has one element.
         let answer = unsafe {
             let (plane, marks, queue) = (plane.as_mut_ptr(), marks.as_mut_ptr(), queue.as_mut_ptr());
-            ffi::mlhe_pass(plane, 1, marks, 1, queue, 1, 1, 1, 9, 8, 0, rule, 0, second)
+            ffi::mlhe_pass(plane, 1, marks, 1, queue, 1, 1, 1, 9, 8, 0, rule, 0, second, null_mut(), 0)
         };
         assert_eq!(answer, refusal);
     }

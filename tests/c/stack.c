@@ -23,6 +23,7 @@ static struct frame {
 static uint8_t rule;
 static uint16_t first, second;
 static uint32_t area;
+static size_t counts[MLHE_COUNTS];
 static int64_t answer;
 
 static void nothing(void) { answer = 0; }
@@ -43,14 +44,14 @@ static void intensity(void) {
 
 static void pass(void) {
     answer = mlhe_pass(frame.plane, frame.n, frame.marks, frame.n, frame.queue, frame.n, frame.w, frame.h, 0, 255, area,
-                       rule, first, second);
+                       rule, first, second, counts, MLHE_COUNTS);
 }
 
 static void run_list(void) {
     const uint8_t list[] = {'M', 'L', 'P', 1, 0, 1, 0, 0, 255, rule, 0, (uint8_t)area, 0, 0, 0, (uint8_t)first,
                             (uint8_t)(first >> 8), (uint8_t)second, (uint8_t)(second >> 8)};
     answer = mlhe_run_list(list, sizeof list, frame.plane, frame.n, frame.marks, frame.n, frame.queue, frame.n, frame.w,
-                           frame.h);
+                           frame.h, counts, MLHE_COUNTS);
 }
 
 static void recolour(void) {
@@ -59,7 +60,8 @@ static void recolour(void) {
 
 static void enhance(void) {
     answer = mlhe_enhance(frame.bytes, 3 * frame.n, frame.w, frame.h, 7, area, rule, first, second, frame.plane,
-                          frame.n, frame.marks, frame.n, frame.queue, frame.n, frame.output, 3 * frame.n);
+                          frame.n, frame.marks, frame.n, frame.queue, frame.n, frame.output, 3 * frame.n, counts,
+                          MLHE_COUNTS);
 }
 
 /* In the order in which each leaves what the next one needs: mlhe_read takes what mlhe_write wrote. */

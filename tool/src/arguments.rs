@@ -45,7 +45,8 @@ pub struct Enhance {
     /// Run the passes of a pass list, in place of settings
     #[arg(long, value_name = "FILE", conflicts_with_all = ["last", "area", "plain", "limited"])]
     pub list: Option<PathBuf>,
-    /// Write a line for each file, with tabs between file, size, answer, count and reason
+    /// Write a line for each file, with tabs between file, size, answer, components retoned, components kept back, and
+    /// reason
     #[arg(long, value_name = "FILE")]
     pub report: Option<PathBuf>,
     /// How many frames at once; all processor cores if it is not given. A frame takes about 20 MB while it is enhanced

@@ -3,7 +3,7 @@
 use crate::plan::Item;
 use crate::reasons::{self, Header};
 use crate::save::Beside;
-use mlhe::{Frame, Memory, PassList, Plane, Refusal, Settings};
+use mlhe::{Counts, Frame, Memory, PassList, Plane, Refusal, Settings};
 use std::fmt;
 use std::fs::File;
 use std::io::{self, Read};
@@ -17,8 +17,8 @@ pub enum Work {
 
 /// What became of a file.
 pub enum Answer {
-    /// The number of retoned components.
-    Enhanced(u32),
+    /// The numbers of retoned and kept components.
+    Enhanced(Counts),
     /// The number of the refusal.
     Refused(u8),
     Failed,
@@ -69,13 +69,13 @@ pub fn enhance(item: &Item, work: &Work, memory: &mut Memory) -> Outcome {
         Err(refusal) => return refused(refusal, &bytes, length),
     };
     drop(bytes);
-    let (recoloured, plane, count) = match enhanced(&frame, work, memory) {
+    let (recoloured, plane, counts) = match enhanced(&frame, work, memory) {
         Ok(enhanced) => enhanced,
         Err(refusal) => return refused(refusal, &[], 0),
     };
     let size = Some((frame.width(), frame.height()));
     match write(item, &recoloured, &plane) {
-        Ok(()) => Outcome { answer: Answer::Enhanced(count), size, reason: String::new() },
+        Ok(()) => Outcome { answer: Answer::Enhanced(counts), size, reason: String::new() },
         Err(error) => Outcome { size, ..Outcome::failed(format!("it cannot be written: {error}")) },
     }
 }
@@ -112,17 +112,17 @@ fn refused(refusal: Refusal, bytes: &[u8], length: u64) -> Outcome {
     Outcome { answer: Answer::Refused(refusal.number()), size, reason }
 }
 
-/// The recoloured frame, the plane that it is recoloured from, and the number of retoned components.
-fn enhanced(frame: &Frame, work: &Work, memory: &mut Memory) -> Result<(Frame, Plane, u32), Refusal> {
+/// The recoloured frame, the plane that it is recoloured from, and the numbers of retoned and kept components.
+fn enhanced(frame: &Frame, work: &Work, memory: &mut Memory) -> Result<(Frame, Plane, Counts), Refusal> {
     match work {
         Work::Settings(settings) => {
             let enhanced = frame.enhanced(settings, memory)?;
-            Ok((enhanced.frame, enhanced.plane, enhanced.retoned))
+            Ok((enhanced.frame, enhanced.plane, enhanced.counts))
         }
         Work::List(list) => {
             let mut plane = frame.intensity();
-            let count = plane.run(list, memory);
-            Ok((frame.recoloured(&plane)?, plane, count))
+            let counts = plane.run(list, memory);
+            Ok((frame.recoloured(&plane)?, plane, counts))
         }
     }
 }

@@ -1,13 +1,14 @@
 //! What the tool writes, against the second implementation for small frames and against the library's own calls for
-//! large ones: the frame, the plane beside it, and the count in the report.
+//! large ones: the frame, the plane beside it, and both counts in the report.
 
-use mlhe_reference::{enhance, intensity, list_bytes, read, recolour, run_list, Pass, Rule, Settings, GREATEST_PIXELS};
+use mlhe_reference::{enhance, intensity, list_bytes, read, recolour, run_list, GREATEST_PIXELS};
+use mlhe_reference::{Counts, Pass, Rule, Settings};
 use std::fs;
 use std::path::{Path, PathBuf};
 use std::process::Command;
 
-/// Frame, plane and count, as the second implementation has them.
-type Answer = (Vec<u8>, Vec<u8>, u64);
+/// Frame, plane and counts, as the second implementation has them.
+type Answer = (Vec<u8>, Vec<u8>, Counts);
 
 /// Frames of the corpus that are accepted.
 const FRAMES: [&str; 7] = [
@@ -37,15 +38,18 @@ fn zopykue(words: &[&str]) {
     assert!(output.status.success(), "{words:?}: {output:?}");
 }
 
-/// What the tool makes of a file with these words: frame, plane and count.
+/// What the tool makes of a file with these words: frame, plane and counts.
 fn written(folder: &Path, file: &Path, words: &[&str]) -> Answer {
     let [to, report] = ["to", "report.tsv"].map(|name| folder.join(name));
     let [to_word, report_word, file_word] = [&*to, &*report, file].map(|path| path.to_str().unwrap());
     zopykue(&[&["enhance", "--plane", "--to", to_word, "--report", report_word], words, &[file_word]].concat());
     let target = to.join(file.parent().unwrap().file_name().unwrap()).join(file.file_name().unwrap());
     let report = fs::read_to_string(&report).unwrap();
-    let count = report.lines().nth(1).unwrap().split('\t').nth(3).unwrap().parse().unwrap();
-    (fs::read(&target).unwrap(), fs::read(target.with_extension("pgm")).unwrap(), count)
+    let mut lines = report.lines().map(|line| line.split('\t').collect::<Vec<&str>>());
+    let (names, fields) = (lines.next().unwrap(), lines.next().unwrap());
+    assert_eq!(names[3..5], ["retoned", "kept"]);
+    let counts = Counts { retoned: fields[3].parse().unwrap(), kept: fields[4].parse().unwrap() };
+    (fs::read(&target).unwrap(), fs::read(target.with_extension("pgm")).unwrap(), counts)
 }
 
 /// Header and raster of a file.
@@ -57,8 +61,8 @@ fn of_settings(bytes: &[u8], settings: &Settings) -> Answer {
     let header = read(bytes, GREATEST_PIXELS).unwrap();
     let (w, h, frame) = (header.w, header.h, &bytes[header.offset..]);
     let (mut plane, mut output) = (vec![0; w * h], vec![0; 3 * w * h]);
-    let count = enhance(frame, w, h, settings, &mut plane, w * h, w * h, &mut output).unwrap();
-    (file("P6", w, h, &output), file("P5", w, h, &plane), count)
+    let counts = enhance(frame, w, h, settings, &mut plane, w * h, w * h, &mut output).unwrap();
+    (file("P6", w, h, &output), file("P5", w, h, &plane), counts)
 }
 
 fn of_list(bytes: &[u8], list: &[u8]) -> Answer {
@@ -66,9 +70,9 @@ fn of_list(bytes: &[u8], list: &[u8]) -> Answer {
     let (w, h, frame) = (header.w, header.h, &bytes[header.offset..]);
     let (mut plane, mut output) = (vec![0; w * h], vec![0; 3 * w * h]);
     intensity(frame, w, h, &mut plane).unwrap();
-    let count = run_list(list, &mut plane, w * h, w * h, w, h).unwrap();
+    let counts = run_list(list, &mut plane, w * h, w * h, w, h).unwrap();
     recolour(frame, w, h, &plane, &mut output).unwrap();
-    (file("P6", w, h, &output), file("P5", w, h, &plane), count)
+    (file("P6", w, h, &output), file("P5", w, h, &plane), counts)
 }
 
 #[test]
@@ -128,7 +132,8 @@ fn large_frames() {
         let path = folder.join(format!("{w}x{h}.ppm"));
         fs::write(&path, frame.to_p6()).unwrap();
         let enhanced = frame.enhanced(&mlhe::Settings::house(), &mut mlhe::Memory::new()).unwrap();
-        let expected = (enhanced.frame.to_p6(), file("P5", w, h, enhanced.plane.values()), u64::from(enhanced.retoned));
+        let counts = Counts { retoned: enhanced.counts.retoned.into(), kept: enhanced.counts.kept.into() };
+        let expected = (enhanced.frame.to_p6(), file("P5", w, h, enhanced.plane.values()), counts);
         assert!(written(&folder, &path, &[]) == expected, "{w}x{h}");
     }
 }

@@ -1,9 +1,22 @@
 //! The second implementation behind two C functions, with which the benchmark checks what it measures.
 
-use mlhe_reference::{enhance, pass, Pass, Rule, Settings};
+use mlhe_reference::{enhance, pass, Counts, Pass, Rule, Settings};
 use std::slice;
 
-/// Enhances a frame with the plain rule. Answers the count; anything refused ends the benchmark.
+/// Both counts, as `published::Counts` has them.
+#[repr(C)]
+pub struct CheckerCounts {
+    retoned: u64,
+    kept: u64,
+}
+
+impl From<Counts> for CheckerCounts {
+    fn from(Counts { retoned, kept }: Counts) -> Self {
+        CheckerCounts { retoned, kept }
+    }
+}
+
+/// Enhances a frame with the plain rule. Answers both counts; anything refused ends the benchmark.
 ///
 /// # Safety
 ///
@@ -19,7 +32,7 @@ pub unsafe extern "C" fn checker_enhance(
     high: u32,
     plane: *mut u8,
     output: *mut u8,
-) -> u64 {
+) -> CheckerCounts {
     let n = w * h;
     // SAFETY: the caller lends so many bytes of each, and none of them overlap.
     let (frame, plane, output) = unsafe {
@@ -27,11 +40,11 @@ pub unsafe extern "C" fn checker_enhance(
         (slice::from_raw_parts(frame, 3 * n), plane, output)
     };
     let settings = Settings { last_level, area, rule: Rule::Plain { low, high } };
-    enhance(frame, w, h, &settings, plane, n, n, output).expect("the benchmark's calls are sound")
+    enhance(frame, w, h, &settings, plane, n, n, output).expect("the benchmark's calls are sound").into()
 }
 
-/// Runs one pass. The rule is 0 with low and high, or 1 with the clip and 0. Answers the count; anything refused ends the
-/// benchmark.
+/// Runs one pass. The rule is 0 with low and high, or 1 with the clip and 0. Answers both counts; anything refused ends
+/// the benchmark.
 ///
 /// # Safety
 ///
@@ -47,7 +60,7 @@ pub unsafe extern "C" fn checker_pass(
     rule: u8,
     first: u16,
     second: u16,
-) -> u64 {
+) -> CheckerCounts {
     let n = w * h;
     // SAFETY: the caller lends so many bytes.
     let plane = unsafe { slice::from_raw_parts_mut(plane, n) };
@@ -55,5 +68,5 @@ pub unsafe extern "C" fn checker_pass(
         0 => Rule::Plain { low: first.into(), high: second.into() },
         _ => Rule::Limited { k: first.into() },
     };
-    pass(plane, n, n, w, h, &Pass { a, b, area, rule }).expect("the benchmark's calls are sound")
+    pass(plane, n, n, w, h, &Pass { a, b, area, rule }).expect("the benchmark's calls are sound").into()
 }

@@ -1,26 +1,28 @@
 -- Sections that are due: what the treatment of a section leaves its halves, and what the halves leave. Assumes nothing.
 use Prim.Native.Nat.{ℕ, zero, suc, _+_, _-_, _/_, _≤_, _<_}
-use mathlib.Core.Path.{_≡_, refl, sym, ap, subst, _∙_}
+use mathlib.Core.Path.{_≡_, refl, sym, ap, ap₂, subst, _∙_}
 use mathlib.Core.Logic.{_⊎_, inl, inr}
-use mathlib.Core.Bool.{Bool, true, false, cond}
+use mathlib.Core.Bool.{Bool, true, false, cond, not, _&&_, and-false}
 use mathlib.Core.List.{List}
+use mathlib.Mathlib.Data.Bool.Basic.{and-elim-left}
 use native.Mathlib.Omega.{arith}
 use lib.ListN.{length}
-use lib.Dec.{leb}
-use borrow.Author.Tests.{le-leb, lt-leb, leb-true, leb-false}
-use Rattle.planes.specs.Lists.{at}
+use lib.Dec.{leb, eqb}
+use borrow.Author.Tests.{eq-eqb, eqb-true, le-leb, lt-leb, leb-true, leb-false}
+use Rattle.planes.specs.Lists.{at, from, count}
 use Rattle.planes.specs.Neighbours.{Near}
 use Rattle.planes.specs.Shapes.{pixels}
 use Rattle.planes.specs.declared.Shape.{Shape}
-use Rattle.planes.proofs.Tests.{decide}
+use Rattle.planes.proofs.Tests.{decide, same-test, less-or-not}
+use Rattle.planes.proofs.Counts.{count-same, count-sum}
 use Rattle.model.specs.declared.Pass.{Pass}
-use Rattle.model.specs.Passes.{within}
+use Rattle.model.specs.Passes.{within, sufficient, counted, componentCount}
 use Rattle.model.specs.Neighbourhoods.{passNeighbours}
 use Rattle.model.proofs.Neighbourhoods.{pass-sym}
 use Rattle.model.proofs.Order.{in-of, in-to}
-use Rattle.model.proofs.Apart.{Alike, inside-alike, values-alike}
+use Rattle.model.proofs.Apart.{Alike, inside-alike, values-alike, counted-alike}
 use Rattle.painting.specs.Painting.{number, On}
-use Rattle.sections.specs.Sections.{inert, Coded, Section, Treated, Treats}
+use Rattle.sections.specs.Sections.{inert, leaves, oneIf, gone, Coded, Section, Treated, Treats}
 use Rattle.painting.specs.declared.Next.{Next}
 use Rattle.sections.specs.declared.Treatment.{Treatment}
 use Rattle.sections.proofs.Inert.{Part}
@@ -28,9 +30,9 @@ use Rattle.levels.specs.Levels.{Numbered, Away}
 use Rattle.levels.specs.declared.Settings.{Settings}
 use Rattle.levels.proofs.Numbers.{numbered-order, numbered-some, twice, half-some, halves-order}
 use Rattle.levels.proofs.Numbers.{low-numbered, high-numbered, low-away, high-away}
-use Rattle.branches.specs.Branches.{passOn, CodedOn, Ready, Due, Halves, Apart}
-use Rattle.branches.proofs.Parts.{Outside, where-is, not-within, Picks, in-stays, out-stays}
-use Rattle.branches.proofs.Parts.{mark-stays, mark-next, part-none, part-coded}
+use Rattle.branches.specs.Branches.{passOn, CodedOn, Ready, Due, Halves, Apart, goneOn, goneBelow}
+use Rattle.branches.proofs.Parts.{Outside, where-is, not-within, Picks, stays-within, in-stays, out-stays}
+use Rattle.branches.proofs.Parts.{mark-stays, mark-next, part-none, part-coded, gone-at}
 
 -- ## Sections that are due
 
@@ -54,7 +56,7 @@ MarksAre n code span marks = (p : ℕ) → p < n → (at marks p ≡ code) ⊎ A
 
 -- ## A treated section
 
-module _ {near : Near} {n code r : ℕ} {s : Pass} {u : Next} {plane marks queue plane' marks' queue' : List ℕ}
+module _ {near : Near} {n code : ℕ} {r : Treatment} {s : Pass} {u : Next} {plane marks queue plane' marks' queue' : List ℕ}
     (ab : s .a ≤ s .b) (whole : length plane ≡ n)
     (T : Treated near n code s u plane marks queue plane' marks' queue' r) where
   -- with no halves: the section is done
@@ -205,6 +207,48 @@ module _ (z : Shape) (t : Settings) {code span d : ℕ} {s : Pass} {u : Next}
     high-found = λ f. part-none ab whole (T .treated) picks-high (λ p l e i k. T .none false f p l e i (high-on _ k));
   }
 
+  -- ## Components that have left
+
+  -- by the neighbours of the section, which are those of the halves
+  gone-part : {a b x : ℕ} → Picks (pixels z) marks u s (passOn t a b) x
+      → goneOn z t a b x plane' marks' ≡ gone (passNeighbours z s) (pixels z) x (passOn t a b) plane' marks'
+  gone-part {a} {b} {x} P =
+      ap (λ (near : Near). gone near (pixels z) x (passOn t a b) plane' marks') (sym (halves-near z (P .part)))
+
+  -- pixel p is the first of a lone component of the section
+  abbrev led : ℕ → Bool
+  led = counted (leaves (passOn t (s .a) (s .b))) (passNeighbours z s) s plane
+
+  -- pixel p is the first of a component of a half that has not the number of the half
+  abbrev apart : Pass → ℕ → ℕ → Bool
+  apart half x p = not (eqb (at marks' p) x) && counted (sufficient half) (passNeighbours z s) half plane' p
+
+  one-half : (v : ℕ) (c : Bool) → (c ≡ true → within s v ≡ true)
+      → oneIf c ≡ oneIf (within lower v && c) + oneIf (within upper v && c)
+  one-half v false f = rw (and-false (within lower v), and-false (within upper v)) refl
+  one-half v true f = elim (less-or-not mid v) [
+    | inl l ↦ rw (not-within lower v (inr l), in-to upper v (omega arith) (in-of s v (f refl) .1)) refl
+    | inr l ↦ rw (in-to lower v (in-of s v (f refl) .0) l, not-within upper v (inl (omega arith))) refl
+  ]
+
+  at-pixel : (p : ℕ) → p < pixels z → oneIf (led p) ≡ oneIf (apart lower low p) + oneIf (apart upper high p)
+  unfolding leaves
+  at-pixel p h =
+      one-half (at plane' p) (led p) (λ c. stays-within ab whole (T .treated) p h
+      (and-elim-left (within s (at plane p)) _ (and-elim-left (within s (at plane p) && _) _ c)))
+      ∙ sym (ap₂ (λ (x y : Bool). oneIf x + oneIf y)
+      (gone-at ab whole (T .treated) picks-low (pass-sym z s) K p h)
+      (gone-at ab whole (T .treated) picks-high (pass-sym z s) K p h))
+
+  -- those that have the number of neither half are the lone components of the section
+  pub gone-halves : goneBelow z t (s .a) (s .b) code span plane' marks'
+      ≡ componentCount (leaves (passOn t (s .a) (s .b))) (passNeighbours z s) s plane
+  unfolding gone componentCount
+  gone-halves =
+      ap₂ _+_ (gone-part picks-low) (gone-part picks-high)
+      ∙ sym (count-sum led (apart lower low) (apart upper high) 0 (pixels z) (λ p _ h. at-pixel p (omega arith)))
+      ∙ ap (λ (k : ℕ). count led (from 0 k)) (sym whole)
+
 -- the same of a section some levels above the last
 module _ (z : Shape) (t : Settings) {code span : ℕ} {s : Pass} {u : Next}
     {plane marks queue plane' marks' queue' : List ℕ} {r : Treatment} (whole : length plane ≡ pixels z)
@@ -217,6 +261,12 @@ module _ (z : Shape) (t : Settings) {code span : ℕ} {s : Pass} {u : Next}
       → Halves z (s .a) (s .b) code span (r .low) (r .high) t plane' marks'
   next-halves zero i N = absurd (omega arith)
   next-halves (suc d) i N = halves-of z t whole T K are middle numbers area rule N
+
+  pub next-gone : (d : ℕ) → 0 < d → Numbered (t .last) (s .a) (s .b) d code span
+      → goneBelow z t (s .a) (s .b) code span plane' marks'
+      ≡ componentCount (leaves (passOn t (s .a) (s .b))) (passNeighbours z s) s plane
+  next-gone zero i N = absurd (omega arith)
+  next-gone (suc d) i N = gone-halves z t whole T K are middle numbers area rule N
 
 -- ## The halves, one after the other
 
@@ -233,6 +283,17 @@ coded-alike {near} {n} {code} {s} {plane} {plane'} whole A same K = record {
       let d : within s (at plane p) ≡ true = sym (A .section p (omega arith)) ∙ e in
       ap (inert s) (values-alike near s plane plane' A p (omega arith) d) ∙ K .others p h d (λ c. f (same p h .0 c));
 }
+
+gone-alike : (near : Near) {n code : ℕ} {s : Pass} {plane plane' : List ℕ} (marks marks' : List ℕ) → length plane ≡ n
+    → Alike s plane plane'
+    → ((p : ℕ) → p < n → (at marks p ≡ code → at marks' p ≡ code) × (at marks' p ≡ code → at marks p ≡ code))
+    → gone near n code s plane' marks' ≡ gone near n code s plane marks
+unfolding gone
+gone-alike near {n} {code} {s} {plane} {plane'} marks marks' whole A same = count-same _ _ n (λ p h.
+    ap₂ (λ (c d : Bool). not c && d)
+    (same-test (eqb (at marks' p) code) (eqb (at marks p) code)
+    (λ e. eq-eqb _ _ (same p h .1 (eqb-true _ _ e))) (λ e. eq-eqb _ _ (same p h .0 (eqb-true _ _ e))))
+    (counted-alike near s plane plane' A (sufficient s) p (omega arith)))
 
 module _ {z : Shape} {a b code span : ℕ} {lows highs : Bool} {t : Settings} {plane marks : List ℕ}
     (H : Halves z a b code span lows highs t plane marks) where
@@ -305,6 +366,11 @@ module _ {z : Shape} {a b code span : ℕ} {lows highs : Bool} {t : Settings} {p
       marks-are = after-low;
       found = λ e p i l c. H .high-found e p i l (same-high p l .1 c);
     }
+
+    -- as many components have left the upper half as before
+    pub gone-high : goneOn z t (middle + 1) b (code + 1 + half) plane₁ marks₁
+        ≡ goneOn z t (middle + 1) b (code + 1 + half) plane marks
+    gone-high = gone-alike (passNeighbours z (passOn t (middle + 1) b)) marks marks₁ whole high-alike same-high
 
     -- and the upper half
     module _ {plane₂ marks₂ : List ℕ}

@@ -1,31 +1,36 @@
 -- A section that was treated: what it leaves of values and marks, and that a part of it whose values the next marks
--- pick by one number has that number in whole components, all but inert ones. For any neighbour relation, symmetric
--- where components are asked for. Assumes nothing.
+-- pick by one number has that number in whole components, all but inert ones; of those, the ones of sufficient area are
+-- the lone components of the section. For any neighbour relation, symmetric where components are asked for. Assumes
+-- nothing.
 use Prim.Native.Nat.{ℕ, _≤_, _<_}
 use mathlib.Core.Path.{_≡_, refl, sym, ap, ap₂, subst, _∙_}
 use mathlib.Core.Logic.{_⊎_, inl, inr}
-use mathlib.Core.Bool.{Bool, true, false, cond, _&&_}
+use mathlib.Core.Bool.{Bool, true, false, cond, not, _&&_, _||_, true≢false, and-true, and-false}
 use mathlib.Core.List.{List}
 use mathlib.Mathlib.Data.Bool.Basic.{and-elim-left, and-elim-right}
 use native.Mathlib.Omega.{arith}
 use lib.ListN.{length}
-use lib.Dec.{leb, eqb}
-use borrow.Author.Tests.{eq-eqb, ne-eqb, eqb-true}
+use lib.Dec.{leb, ltb, eqb}
+use borrow.Author.Tests.{eq-eqb, ne-eqb, eqb-true, ltb-true, lt-leb}
 use Rattle.planes.specs.Lists.{at}
-use Rattle.planes.specs.Neighbours.{Near}
+use Rattle.planes.specs.Neighbours.{Near, first}
 use Rattle.planes.specs.Shapes.{Symmetric}
-use Rattle.planes.proofs.Tests.{decide, eq-or-not, less-or-not}
+use Rattle.planes.proofs.Tests.{decide, eq-or-not, less-or-not, or-cases, or-none, and-middle}
 use Rattle.planes.proofs.Links.{link-near}
 use Rattle.rows.specs.Stretches.{None}
 use Rattle.model.specs.declared.Pass.{Pass}
-use Rattle.model.specs.Passes.{within, inside, componentValues, newTone, passed}
+use Rattle.tones.specs.declared.Rule.{Rule}
+use Rattle.tones.specs.Lone.{lone}
+use Rattle.model.specs.Passes.{within, inside, componentValues, sufficient, newTone, passed, counted}
 use Rattle.model.proofs.Components.{out-tone, linked-values}
 use Rattle.model.proofs.Order.{in-of, in-to, passed-at}
 use Rattle.model.proofs.Apart.{section-stays}
 use Rattle.painting.specs.Painting.{number}
-use Rattle.sections.specs.Sections.{inert, Coded, Treated}
+use Rattle.sections.specs.Sections.{small, inert, leaves, Coded, Treated}
 use Rattle.painting.specs.declared.Next.{Next}
-use Rattle.sections.proofs.Inert.{Part, part-within, was-within, inside-part, inert-part}
+use Rattle.sections.specs.declared.Treatment.{Treatment}
+use Rattle.sections.proofs.Inert.{Part, part-within, was-within, inside-part, inert-part, no-larger}
+use Rattle.sections.proofs.Inert.{lone-values, lone-first}
 
 -- ## Values
 
@@ -59,13 +64,13 @@ pub record Picks (n : ℕ) (marks : List ℕ) (u : Next) (s t : Pass) (x : ℕ) 
 
 -- ## A treated section
 
-module _ {near : Near} {n code r : ℕ} {s : Pass} {u : Next} {plane marks queue plane' marks' queue' : List ℕ}
+module _ {near : Near} {n code : ℕ} {r : Treatment} {s : Pass} {u : Next} {plane marks queue plane' marks' queue' : List ℕ}
     (ab : s .a ≤ s .b) (whole : length plane ≡ n)
     (T : Treated near n code s u plane marks queue plane' marks' queue' r) where
   new-at : (p : ℕ) → p < n → at plane' p ≡ newTone near s plane p
   new-at p l = ap (λ (q : List ℕ). at q p) (T .plane-is) ∙ passed-at near s plane p (omega arith)
 
-  stays-within : (p : ℕ) → p < n → within s (at plane p) ≡ true → within s (at plane' p) ≡ true
+  pub stays-within : (p : ℕ) → p < n → within s (at plane p) ≡ true → within s (at plane' p) ≡ true
   stays-within p l e = ap (within s) (new-at p l) ∙ section-stays near s ab plane p e
 
   pub in-stays : (p : ℕ) → p < n → Inside (s .a) (s .b) (at plane p) → Inside (s .a) (s .b) (at plane' p)
@@ -165,3 +170,83 @@ module _ {near : Near} {n code r : ℕ} {s : Pass} {u : Next} {plane marks queue
             subst (λ (m : List ℕ). inert t (componentValues near t m p) ≡ true) (sym (T .plane-is))
             (inert-part near symm s t (P .part) plane p (omega arith) (is-still p h d f));
       }
+
+      -- ## The part's components of sufficient area that have not its number
+
+      abbrev vs : ℕ → List ℕ
+      vs p = componentValues near s plane p
+
+      abbrev leader : ℕ → Bool
+      leader p = first (length plane) (inside near s plane) p
+
+      has-number : (p : ℕ) → p < n → within t (at plane' p) ≡ true → still p ≡ false → at marks' p ≡ x
+      has-number p h d e = elim (eq-or-not (at marks' p) x) [
+        | inl c ↦ c
+        | inr c ↦ absurd (true≢false (sym (is-still p h d c) ∙ e))
+      ]
+
+      -- a component that is not lone does not count
+      not-left : (p : ℕ) → lone (s .rule) (vs p) ≡ false → counted (leaves t) near s plane p ≡ false
+      unfolding leaves
+      not-left p e =
+          let alone : lone (t .rule) (vs p) ≡ false = ap (λ (r : Rule). lone r (vs p)) (P .part .rule) ∙ e in
+          ap (λ (u : Bool). within s (at plane p) && (sufficient t (vs p) && u) && leader p) alone
+          ∙ ap (λ (u : Bool). within s (at plane p) && u && leader p) (and-false (sufficient t (vs p)))
+          ∙ and-middle (within s (at plane p)) false (leader p) refl
+
+      lively-shared : (p : ℕ) → still p ≡ false → lone (s .rule) (vs p) ≡ false
+      unfolding inert
+      lively-shared p e = or-none (small s (vs p)) (lone (s .rule) (vs p)) e .1
+
+      inert-few : (p : ℕ) → still p ≡ true → lone (s .rule) (vs p) ≡ false → length (vs p) < s .area
+      unfolding inert small
+      inert-few p e shared = elim (or-cases (ltb (length (vs p)) (s .area)) (lone (s .rule) (vs p)) e) [
+        | inl c ↦ ltb-true (length (vs p)) (s .area) c
+        | inr c ↦ absurd (true≢false (sym c ∙ shared))
+      ]
+
+      -- an inert component counts in the part where it is lone, as it did in the section
+      inert-at : (p : ℕ) → p < n → within t (at plane' p) ≡ true → still p ≡ true
+          → (lone (s .rule) (vs p) ≡ true) ⊎ (lone (s .rule) (vs p) ≡ false)
+          → counted (sufficient t) near t q p ≡ counted (leaves t) near s plane p
+      unfolding leaves
+      inert-at p h d e (inl alone) =
+          let here = as-passed p d in
+          let lp : p < length plane = omega (arith, whole) in
+          let values = lone-values near symm s t (P .part) plane p lp e alone here in
+          let firsts = lone-first near symm s t (P .part) plane p lp e alone here in
+          let too : lone (t .rule) (vs p) ≡ true = ap (λ (r : Rule). lone r (vs p)) (P .part .rule) ∙ alone in
+          ap₂ (λ (ws : List ℕ) (f : Bool). within t (at q p) && sufficient t ws && f) values firsts
+          ∙ ap₂ (λ (u v : Bool). u && v && leader p) (here ∙ sym (was-in p h d))
+          (sym (and-true (sufficient t (vs p))) ∙ ap (sufficient t (vs p) &&_) (sym too))
+      inert-at p h d e (inr shared) =
+          let few = inert-few p e shared in
+          let larger = no-larger near symm s t (P .part) plane p (omega (arith, whole)) in
+          let fewer : length (componentValues near t q p) < t .area = omega (arith, P .part .area) in
+          ap (λ (u : Bool). within t (at q p) && u && first (length q) (inside near t q) p)
+          (lt-leb (t .area) (length (componentValues near t q p)) fewer)
+          ∙ and-middle (within t (at q p)) false (first (length q) (inside near t q) p) refl
+          ∙ sym (not-left p shared)
+
+      -- they are the lone components of the section that are in the part
+      pub gone-at : (p : ℕ) → p < n
+          → (not (eqb (at marks' p) x) && counted (sufficient t) near t plane' p)
+          ≡ (within t (at plane' p) && counted (leaves t) near s plane p)
+      gone-at p h = elim (decide (within t (at plane' p))) [
+        | inl d ↦ elim (decide (still p)) [
+          | inl e ↦
+              ap (λ (u : Bool). not u && counted (sufficient t) near t plane' p)
+              (ne-eqb _ _ (λ c. true≢false (sym e ∙ had-code p h c .1 .0)))
+              ∙ ap (λ (m : List ℕ). counted (sufficient t) near t m p) (T .plane-is)
+              ∙ inert-at p h d e (decide (lone (s .rule) (vs p)))
+              ∙ sym (ap (_&& counted (leaves t) near s plane p) d)
+          | inr e ↦
+              ap (λ (u : Bool). not u && counted (sufficient t) near t plane' p) (eq-eqb _ _ (has-number p h d e))
+              ∙ sym (ap₂ _&&_ d (not-left p (lively-shared p e)))
+        ]
+        | inr d ↦
+            ap (λ (u : Bool). not (eqb (at marks' p) x) && (u && sufficient t (componentValues near t plane' p)
+            && first (length plane') (inside near t plane') p)) d
+            ∙ and-false (not (eqb (at marks' p) x))
+            ∙ sym (ap (_&& counted (leaves t) near s plane p) d)
+      ]

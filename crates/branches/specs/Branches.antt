@@ -6,7 +6,9 @@
 --   Due        a section is due
 --   Halves     a section is treated, and its halves are due
 --   Apart      what a branch leaves of plane and marks
---   came       the effect that a plane and an answer stand for
+--   goneOn     the components of sufficient area that left before a section was due
+--   owing      an effect with more components that were kept back
+--   allTold    the counts of a section, with those of the components that leave on the levels below
 --   Equalised  what `equalise` does, in terms of the model's recursion
 --   Halved     what `split` does
 use Prim.Native.Nat.{ℕ, suc, _+_, _-_, _*_, _/_, _^_, _≤_, _<_}
@@ -20,9 +22,12 @@ use Rattle.planes.specs.declared.Shape.{Shape}
 use Rattle.rows.specs.Stretches.{None}
 use Rattle.model.specs.declared.Pass.{Pass}
 use Rattle.model.specs.Neighbourhoods.{passNeighbours}
+use Rattle.model.specs.declared.Counts.{Counts}
 use Rattle.model.specs.Effects.{Effect, runEffect}
+use Rattle.model.specs.Outcomes.{came}
 use Rattle.model.specs.Enhancement.{deep}
-use Rattle.sections.specs.Sections.{Coded}
+use Rattle.sections.specs.Sections.{gone, Coded}
+use Rattle.sections.specs.declared.Treatment.{Treatment}
 use Rattle.levels.specs.Levels.{Wide, Numbered, Away}
 use Rattle.levels.specs.declared.Settings.{Settings}
 
@@ -77,25 +82,40 @@ pub record Rest (n : ℕ) (marks queue marks' queue' : List ℕ) : Type 0 where
   pub marks-rest : Beyond n marks marks'
   pub queue-rest : Beyond n queue queue'
 
--- the effect of a call that left the plane and answered the number of retoned components
-abbrev pub came : List ℕ → ℕ → Effect
-came plane r = record { plane = plane; retoned = r }
+-- components of sufficient area of a section that have not its number: they left before, and were counted for all
+-- levels down to the last
+abbrev pub goneOn : (z : Shape) (t : Settings) (a b code : ℕ) (plane marks : List ℕ) → ℕ
+goneOn z t a b code = gone (passNeighbours z (passOn t a b)) (pixels z) code (passOn t a b)
 
--- a section with the levels below it; the bound carries the sum of the counts through the recursion
+-- an effect with as many more components that were kept back
+abbrev pub owing : ℕ → Effect → Effect
+owing j e = record { plane = e .plane; retoned = e .retoned; kept = e .kept + j }
+
+-- what is told of a section's components, with x levels below it: a component that leaves is kept back on these too
+abbrev pub allTold : ℕ → Treatment → Counts
+allTold x r = record { retoned = r .retoned; kept = r .kept + x * r .left }
+
+-- a section with the d levels below it: each component that left before is kept back on all d + 1 levels
 pub record Equalised (z : Shape) (a b code span : ℕ) (t : Settings) (plane marks queue plane' marks' queue' : List ℕ)
-    (r : ℕ) : Type 0 where
+    (r : Counts) : Type 0 where
   pub model : (d k : ℕ) → Wide (t .last) a b d k
-      → came plane' r ≡ runEffect (passNeighbours z) (deep k (t .area) (t .rule) d a) plane
-  pub bound : r + 2097152 * a ≤ 2097152 * b + 1048576
+      → owing ((d + 1) * goneOn z t a b code plane marks) (came plane' r)
+      ≡ runEffect (passNeighbours z) (deep k (t .area) (t .rule) d a) plane
   pub apart : Apart (pixels z) a b code span plane marks plane' marks'
   pub rest : Rest (pixels z) marks queue marks' queue'
 
--- both halves with the levels below them
+-- components that left before either half was due
+abbrev pub goneBelow : (z : Shape) (t : Settings) (a b code span : ℕ) (plane marks : List ℕ) → ℕ
+goneBelow z t a b code span plane marks =
+    goneOn z t a ((a + b) / 2) (code + 1) plane marks
+    + goneOn z t ((a + b) / 2 + 1) b (code + 1 + (span - 1) / 2) plane marks
+
+-- both halves with the d levels below them
 pub record Halved (z : Shape) (a b code span : ℕ) (t : Settings) (plane marks queue plane' marks' queue' : List ℕ)
-    (r : ℕ) : Type 0 where
+    (r : Counts) : Type 0 where
   pub model : (d k : ℕ) → Wide (t .last) a b (suc d) k
-      → came plane' r ≡ runEffect (passNeighbours z)
+      → owing ((d + 1) * goneBelow z t a b code span plane marks) (came plane' r)
+      ≡ runEffect (passNeighbours z)
       (deep k (t .area) (t .rule) d a ++ deep k (t .area) (t .rule) d (a + 2 ^ (d + k))) plane
-  pub bound : r + 2097152 * a ≤ 2097152 * b
   pub apart : Apart (pixels z) a b code span plane marks plane' marks'
   pub rest : Rest (pixels z) marks queue marks' queue'

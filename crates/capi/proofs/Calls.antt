@@ -1,16 +1,19 @@
 -- What each C function does, by what the call under it does: the answer is encoded, and the memory is as the call
 -- leaves it. Where the numbers stand for no rule the call is not made. Assumes nothing.
-use Prim.Native.Nat.{ℕ}
-use mathlib.Core.Path.{_≡_, sym, ap, subst, _∙_}
+use Prim.Native.Nat.{ℕ, zero, suc, _≤_, _<_}
+use mathlib.Core.Path.{_≡_, refl, sym, ap, ap₂, subst, _∙_}
+use mathlib.Core.Bool.{Bool}
 use mathlib.Core.List.{List, [], _∷_}
 use native.Mathlib.Omega.{arith}
 use lib.IntN.{ℤ}
 use lib.ListN.{length, length-append}
-use Rattle.planes.specs.Refusals.{_▷_, greatestPixels}
-use Rattle.planes.specs.Replies.{gives}
+use borrow.Author.Tests.{lt-ltb, le-ltb}
+use Rattle.planes.specs.Refusals.{when, _▷_, greatestPixels}
+use Rattle.planes.specs.Replies.{gives, replied, after, overwritten}
 use Rattle.planes.specs.Shapes.{shapeOf, lentRefusal}
 use Rattle.planes.specs.declared.Shape.{Shape}
 use Rattle.planes.proofs.Refusals.{▷-none, ▷-left, ▷-right, ▷-assoc}
+use Rattle.planes.proofs.Replies.{replied-gives, replied-refuses}
 use Rattle.tones.specs.declared.Rule.{Rule}
 use Rattle.tones.specs.declared.RuleNumbers.{RuleNumbers}
 use Rattle.tones.specs.Numbers.{ruleOf, formRefusal}
@@ -35,8 +38,10 @@ use Rattle.netpbm.specs.declared.Written.{Written}
 use Rattle.netpbm.specs.Writing.{encoding, writeRefusal, writtenReply, WriteOutcome}
 use Rattle.netpbm.proofs.Writing.{wrote-size, wrote-writable}
 use Rattle.cnumbers.specs.Numbers.{encoded, numberReply, doneReply, statusNumber, answerNumber, writtenNumber, Short}
-use Rattle.cnumbers.specs.Numbers.{numbersFor, passOf, settingsOf}
-use Rattle.capi.specs.Calls.{passRefusalOf, PassNumber, enhanceRefusalOf, EnhanceNumber}
+use Rattle.passlists.specs.Outcomes.{runListRefusal, ListOutcome}
+use Rattle.cnumbers.specs.Numbers.{numbersFor, passOf, settingsOf, countsAfter, countsRefusal, countsReply}
+use Rattle.capi.specs.Calls.{CountsOutcome, CountsOutputOutcome, passRefusalOf, PassNumber}
+use Rattle.capi.specs.Calls.{listRefusalOf, ListNumber, enhanceRefusalOf, EnhanceNumber}
 use Rattle.cnumbers.specs.Numbers.{readNumber, numbersAfter}
 use Rattle.capi.specs.Calls.{ReadNumber}
 use Rattle.cnumbers.proofs.Numbers.{status-reads, answer-reads, written-reads}
@@ -68,38 +73,82 @@ write-coded {w} {h} {raster} {output} s e o = record {
   output-is = o .output-is;
 }
 
+-- ## Calls that tell both counts
+
+-- the numbers that an answer leaves are those of the effect, unless there is a refusal
+after-counts : (s : Answer) (numbers : List ℕ) (number : ℕ) (vs : List ℕ) → answerReply s ≡ replied number vs
+    → countsAfter s numbers ≡ after number numbers (overwritten numbers vs)
+after-counts (Answer.Done r) numbers number vs e =
+    let given = replied-gives number vs (sym e) in
+    ap (overwritten numbers) (given .1)
+    ∙ sym (ap (λ (k : ℕ). after k numbers (overwritten numbers vs)) (given .0))
+after-counts (Answer.Refused k) numbers number vs e =
+    let (j, (is, _)) = replied-refuses number vs (sym e) in
+    sym (ap (λ (k : ℕ). after k numbers (overwritten numbers vs)) is)
+
 module _ {n number : ℕ} {e : Effect} {plane marks queue plane' marks' queue' : List ℕ} where
-  pub coded : {r : ℤ} (s : Answer) → r ≡ answerNumber s
+  coded : (numbers : List ℕ) {numbers' : List ℕ} {r : ℤ} (s : Answer) → r ≡ answerNumber s
+      → numbers' ≡ countsAfter s numbers
       → Outcome n number e plane marks queue (answerReply s) plane' marks' queue'
-      → Outcome n number e plane marks queue (numberReply r) plane' marks' queue'
-  coded s d o = record {
-    answer = ap numberReply d ∙ answer-reads s number (counts e) (o .answer);
+      → Outcome n number e plane marks queue (countsReply r numbers') plane' marks' queue'
+  coded numbers s d f o = record {
+    answer = ap₂ countsReply d f ∙ answer-reads s numbers number (counts e) (o .answer);
     plane-is = o .plane-is;
     refused = o .refused;
     marks-rest = o .marks-rest;
     queue-rest = o .queue-rest;
   }
 
-  pub output-coded : {bytes output output' : List ℕ} {r : ℤ} (s : Answer) → r ≡ answerNumber s
+  pub counts-coded : {numbers numbers' : List ℕ} {r : ℤ} (s : Answer) → r ≡ answerNumber s
+      → numbers' ≡ countsAfter s numbers
+      → Outcome n number e plane marks queue (answerReply s) plane' marks' queue'
+      → CountsOutcome n number e plane marks queue numbers r plane' marks' queue' numbers'
+  counts-coded {numbers} s d f o = record {
+    outcome = coded numbers s d f o;
+    numbers-are = f ∙ after-counts s numbers number (counts e) (o .answer);
+  }
+
+  pub output-coded : {bytes output output' numbers numbers' : List ℕ} {r : ℤ} (s : Answer) → r ≡ answerNumber s
+      → numbers' ≡ countsAfter s numbers
       → OutputOutcome n number e bytes plane marks queue output (answerReply s) plane' marks' queue' output'
-      → OutputOutcome n number e bytes plane marks queue output (numberReply r) plane' marks' queue' output'
-  output-coded s d o = record { retoned = coded s d (o .retoned); output-is = o .output-is }
+      → CountsOutputOutcome n number e bytes plane marks queue output numbers r plane' marks' queue' output' numbers'
+  output-coded {numbers = numbers} s d f o = record {
+    outcome = record { retoned = coded numbers s d f (o .retoned); output-is = o .output-is };
+    numbers-are = f ∙ after-counts s numbers number (counts e) (o .retoned .answer);
+  }
+
+none-after : (x : ℕ) → x ▷ 0 ≡ x
+none-after zero = refl
+none-after (suc x) = refl
+
+-- where two numbers are lent, the refusals are those of the call
+counts-enough : (x : ℕ) (numbers : List ℕ) → 2 ≤ length numbers → x ▷ countsRefusal (length numbers) ≡ x
+counts-enough x numbers enough =
+    ap (λ (t : Bool). x ▷ when t 14) (le-ltb (length numbers) 2 enough) ∙ none-after x
+
+-- where fewer are, 14 comes after them
+counts-short : (x : ℕ) (numbers : List ℕ) → length numbers < 2 → x ▷ countsRefusal (length numbers) ≡ x ▷ 14
+counts-short x numbers few = ap (λ (t : Bool). x ▷ when t 14) (lt-ltb (length numbers) 2 few)
+
+some-14 : (x : ℕ) → x ▷ 14 ≡ 0 → ⊥
+some-14 zero e = omega arith
+some-14 (suc x) e = omega arith
 
 -- ## Passes
 
-module _ (w h a b area rule first second : ℕ) (plane marks queue : List ℕ) where
+module _ (w h a b area rule first second : ℕ) (plane marks queue numbers : List ℕ) where
   abbrev z : Shape
   z = shapeOf w h
 
-  abbrev numbers : RuleNumbers
-  numbers = numbersFor rule first second
+  abbrev form : RuleNumbers
+  form = numbersFor rule first second
 
   -- 1 to 4 and 17
   abbrev lent : ℕ
   lent = lentRefusal z (length plane) (length marks) (length queue)
 
   abbrev passFirst : ℕ
-  passFirst = lent ▷ formRefusal numbers
+  passFirst = lent ▷ formRefusal form
 
   abbrev thePass : Pass
   thePass = passOf a b area rule first second
@@ -108,38 +157,81 @@ module _ (w h a b area rule first second : ℕ) (plane marks queue : List ℕ) w
   abbrev ruled : Rule → Pass
   ruled x = record { a = a; b = b; area = area; rule = x }
 
-  pass-order : passRefusalOf z numbers thePass plane marks queue ≡ passFirst ▷ numbersRefusal thePass
+  -- all refusals but 14
+  abbrev passNext : ℕ
+  passNext = passFirst ▷ numbersRefusal thePass
+
+  abbrev passWhole : ℕ
+  passWhole = passRefusalOf z form thePass plane marks queue numbers
+
+  pass-order : passWhole ≡ passNext ▷ countsRefusal (length numbers)
   unfolding passRefusalOf
-  pass-order = sym (▷-assoc lent (formRefusal numbers) _)
+  pass-order =
+      sym (▷-assoc lent (formRefusal form) (numbersRefusal thePass ▷ countsRefusal (length numbers)))
+      ∙ sym (▷-assoc passFirst (numbersRefusal thePass) (countsRefusal (length numbers)))
 
   -- refused before the pass is made
   pub pass-refused : {k : ℕ} {r : ℤ} → k ≡ passFirst → (k ≡ 0 → ⊥) → r ≡ encoded k 0
-      → PassNumber w h a b area rule first second plane marks queue r plane marks queue
+      → PassNumber w h a b area rule first second plane marks queue numbers r plane marks queue numbers
   pass-refused {k} e f d =
-      let is : k ≡ passRefusalOf z numbers thePass plane marks queue =
-      e ∙ sym (pass-order ∙ ▷-left passFirst _ (λ x. f (e ∙ x))) in
-      coded (Answer.Refused k) d (refused-by k is f)
+      let next : passNext ≡ k = ▷-left passFirst _ (λ x. f (e ∙ x)) ∙ sym e in
+      let is : k ≡ passWhole =
+      sym (pass-order ∙ ap (_▷ countsRefusal (length numbers)) next ∙ ▷-left k _ f) in
+      counts-coded (Answer.Refused k) d refl (refused-by k is f)
+
+  -- refused for too few numbers, unless for something else
+  pub pass-short : {rule' : Rule} {k : ℕ} {r : ℤ} → passFirst ≡ 0 → rule' ≡ ruleOf form → length numbers < 2
+      → k ≡ numbersRefusal (ruled rule') → r ≡ encoded (k ▷ 14) 0
+      → PassNumber w h a b area rule first second plane marks queue numbers r plane marks queue numbers
+  pass-short {rule'} {k} e rule-is few told d =
+      let same : passNext ≡ k =
+      ▷-right passFirst _ e ∙ sym (told ∙ ap (λ (x : Rule). numbersRefusal (ruled x)) rule-is) in
+      let is : k ▷ 14 ≡ passWhole =
+      sym (pass-order ∙ ap (_▷ countsRefusal (length numbers)) same ∙ counts-short k numbers few) in
+      counts-coded (Answer.Refused (k ▷ 14)) d refl (refused-by (k ▷ 14) is (some-14 k))
 
   -- with no refusal before it, those of the call are the pass's
-  pass-same : passFirst ≡ 0
-      → passRefusalOf z numbers thePass plane marks queue ≡ passCallRefusal z thePass plane marks queue
+  pass-same : passFirst ≡ 0 → 2 ≤ length numbers → passWhole ≡ passCallRefusal z thePass plane marks queue
   unfolding passRefusal
-  pass-same e =
-      pass-order ∙ ▷-right passFirst _ e ∙ sym (▷-right lent _ (▷-none lent _ e .0))
+  pass-same e enough =
+      pass-order
+      ∙ counts-enough passNext numbers enough
+      ∙ ▷-right passFirst _ e
+      ∙ sym (▷-right lent _ (▷-none lent _ e .0))
 
-  pub pass-made : {rule' : Rule} {plane' marks' queue' : List ℕ} (s : Answer) {r : ℤ} → passFirst ≡ 0
-      → rule' ≡ ruleOf numbers
+  pub pass-made : {rule' : Rule} {plane' marks' queue' numbers' : List ℕ} (s : Answer) {r : ℤ} → passFirst ≡ 0
+      → 2 ≤ length numbers → rule' ≡ ruleOf form
       → PassOutcome z (ruled rule') plane marks queue (answerReply s) plane' marks' queue'
-      → r ≡ answerNumber s
-      → PassNumber w h a b area rule first second plane marks queue r plane' marks' queue'
-  pass-made {rule'} {plane'} {marks'} {queue'} s e d o g =
+      → r ≡ answerNumber s → numbers' ≡ countsAfter s numbers
+      → PassNumber w h a b area rule first second plane marks queue numbers r plane' marks' queue' numbers'
+  pass-made {rule'} {plane'} {marks'} {queue'} s e enough d o g f =
       let made : PassOutcome z thePass plane marks queue (answerReply s) plane' marks' queue' =
       subst (λ (x : Rule). PassOutcome z (ruled x) plane marks queue (answerReply s) plane' marks' queue') d o in
-      coded s g (outcome-number (sym (pass-same e)) made)
+      counts-coded s g f (outcome-number (sym (pass-same e enough)) made)
+
+-- ## Lists
+
+module _ (w h : ℕ) (list plane marks queue numbers : List ℕ) where
+  abbrev listNext : ℕ
+  listNext = runListRefusal (shapeOf w h) list plane marks queue
+
+  pub list-short : {k : ℕ} {r : ℤ} → length numbers < 2 → k ≡ listNext → r ≡ encoded (k ▷ 14) 0
+      → ListNumber w h list plane marks queue numbers r plane marks queue numbers
+  list-short {k} few told d =
+      let is : k ▷ 14 ≡ listRefusalOf (shapeOf w h) list plane marks queue numbers =
+      ap (_▷ 14) told ∙ sym (counts-short listNext numbers few) in
+      counts-coded (Answer.Refused (k ▷ 14)) d refl (refused-by (k ▷ 14) is (some-14 k))
+
+  pub list-made : {plane' marks' queue' numbers' : List ℕ} (s : Answer) {r : ℤ} → 2 ≤ length numbers
+      → ListOutcome (shapeOf w h) list plane marks queue (answerReply s) plane' marks' queue'
+      → r ≡ answerNumber s → numbers' ≡ countsAfter s numbers
+      → ListNumber w h list plane marks queue numbers r plane' marks' queue' numbers'
+  list-made s enough o g f =
+      counts-coded s g f (outcome-number (sym (counts-enough listNext numbers enough)) o)
 
 -- ## Enhancement
 
-module _ (w h last area rule first second : ℕ) (frame plane marks queue output : List ℕ) where
+module _ (w h last area rule first second : ℕ) (frame plane marks queue output numbers : List ℕ) where
   abbrev shape : Shape
   shape = shapeOf w h
 
@@ -160,38 +252,64 @@ module _ (w h last area rule first second : ℕ) (frame plane marks queue output
   abbrev settled : Rule → Settings
   settled x = record { last = last; area = area; rule = x }
 
-  abbrev enhanceWhole : ℕ
-  enhanceWhole = enhanceRefusalOf shape ruleNumbers theSettings frame plane marks queue output
+  -- all refusals but 14 for the counts
+  abbrev enhanceNext : ℕ
+  enhanceNext = enhanceFirst ▷ enhance.settingsRefusal theSettings
 
-  enhance-order : enhanceWhole ≡ enhanceFirst ▷ enhance.settingsRefusal theSettings
+  abbrev enhanceWhole : ℕ
+  enhanceWhole = enhanceRefusalOf shape ruleNumbers theSettings frame plane marks queue output numbers
+
+  enhance-order : enhanceWhole ≡ enhanceNext ▷ countsRefusal (length numbers)
   unfolding enhanceRefusalOf
-  enhance-order = sym (▷-assoc memory (formRefusal ruleNumbers) _)
+  enhance-order =
+      sym (▷-assoc memory (formRefusal ruleNumbers)
+      (enhance.settingsRefusal theSettings ▷ countsRefusal (length numbers)))
+      ∙ sym (▷-assoc enhanceFirst (enhance.settingsRefusal theSettings) (countsRefusal (length numbers)))
 
   -- refused before the enhancement is made
   pub enhance-refused : {k : ℕ} {r : ℤ} → k ≡ enhanceFirst → (k ≡ 0 → ⊥) → r ≡ encoded k 0
-      → EnhanceNumber w h last area rule first second frame plane marks queue output r plane marks queue output
+      → EnhanceNumber w h last area rule first second frame plane marks queue output numbers r
+      plane marks queue output numbers
   enhance-refused {k} e f d =
-      let is : k ≡ enhanceWhole = e ∙ sym (enhance-order ∙ ▷-left enhanceFirst _ (λ x. f (e ∙ x))) in
-      output-coded (Answer.Refused k) d (output-refused-by k is f)
+      let next : enhanceNext ≡ k = ▷-left enhanceFirst _ (λ x. f (e ∙ x)) ∙ sym e in
+      let is : k ≡ enhanceWhole =
+      sym (enhance-order ∙ ap (_▷ countsRefusal (length numbers)) next ∙ ▷-left k _ f) in
+      output-coded (Answer.Refused k) d refl (output-refused-by k is f)
+
+  -- refused for too few numbers, unless for something else
+  pub enhance-short : {rule' : Rule} {k : ℕ} {r : ℤ} → enhanceFirst ≡ 0 → rule' ≡ ruleOf ruleNumbers
+      → length numbers < 2 → k ≡ enhance.settingsRefusal (settled rule') → r ≡ encoded (k ▷ 14) 0
+      → EnhanceNumber w h last area rule first second frame plane marks queue output numbers r
+      plane marks queue output numbers
+  enhance-short {rule'} {k} e rule-is few told d =
+      let same : enhanceNext ≡ k =
+      ▷-right enhanceFirst _ e ∙ sym (told ∙ ap (λ (x : Rule). enhance.settingsRefusal (settled x)) rule-is) in
+      let is : k ▷ 14 ≡ enhanceWhole =
+      sym (enhance-order ∙ ap (_▷ countsRefusal (length numbers)) same ∙ counts-short k numbers few) in
+      output-coded (Answer.Refused (k ▷ 14)) d refl (output-refused-by (k ▷ 14) is (some-14 k))
 
   -- with no refusal before it, those of the call are the enhancement's
-  enhance-same : enhanceFirst ≡ 0
+  enhance-same : enhanceFirst ≡ 0 → 2 ≤ length numbers
       → enhanceWhole ≡ enhance.enhanceCallRefusal shape theSettings frame plane marks queue output
   unfolding enhance.enhanceRefusal
-  enhance-same e =
-      enhance-order ∙ ▷-right enhanceFirst _ e ∙ sym (▷-right memory _ (▷-none memory _ e .0))
+  enhance-same e enough =
+      enhance-order
+      ∙ counts-enough enhanceNext numbers enough
+      ∙ ▷-right enhanceFirst _ e
+      ∙ sym (▷-right memory _ (▷-none memory _ e .0))
 
-  pub enhance-made : {rule' : Rule} {plane' marks' queue' output' : List ℕ} (s : Answer) {r : ℤ} → enhanceFirst ≡ 0
-      → rule' ≡ ruleOf ruleNumbers
+  pub enhance-made : {rule' : Rule} {plane' marks' queue' output' numbers' : List ℕ} (s : Answer) {r : ℤ}
+      → enhanceFirst ≡ 0 → 2 ≤ length numbers → rule' ≡ ruleOf ruleNumbers
       → enhance.EnhanceOutcome shape (settled rule') frame plane marks queue output (answerReply s)
       plane' marks' queue' output'
-      → r ≡ answerNumber s
-      → EnhanceNumber w h last area rule first second frame plane marks queue output r plane' marks' queue' output'
-  enhance-made {rule'} {plane'} {marks'} {queue'} {output'} s e d o g =
+      → r ≡ answerNumber s → numbers' ≡ countsAfter s numbers
+      → EnhanceNumber w h last area rule first second frame plane marks queue output numbers r
+      plane' marks' queue' output' numbers'
+  enhance-made {rule'} {plane'} {marks'} {queue'} {output'} s e enough d o g f =
       let Made : Rule → Type 0 =
       λ x. enhance.EnhanceOutcome shape (settled x) frame plane marks queue output (answerReply s)
       plane' marks' queue' output' in
-      output-coded s g (output-number (sym (enhance-same e)) (subst Made d o))
+      output-coded s g f (output-number (sym (enhance-same e enough)) (subst Made d o))
 
 -- ## Reading
 

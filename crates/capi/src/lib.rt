@@ -2,18 +2,16 @@
 // function answers one signed number, a refusal k as -k; include/mlhe.h describes each for its callers.
 //
 // mlhe_intensity   0: the plane holds the intensities of the frame
-// mlhe_pass        the number of retoned components
-// mlhe_run_list    the number of retoned components, of all passes
+// mlhe_pass        0: both counts are in the lent numbers
+// mlhe_run_list    0: the sums of both counts, of all passes, are in the lent numbers
 // mlhe_recolour    0: the output holds the frame, recoloured
-// mlhe_enhance     the number of retoned components, of all levels
+// mlhe_enhance     0: the sums of both counts, of all levels, are in the lent numbers
 // mlhe_read        0: width, height and the raster's offset are in the lent numbers
 // mlhe_write       the number of bytes written
-ghost use Rattle.planes.specs.Shapes.{shapeOf};
 ghost use Rattle.colours.specs.Calls.{IntensityOutcome, RecolourOutcome};
-ghost use Rattle.passlists.specs.Outcomes.{ListOutcome};
 ghost use Rattle.netpbm.specs.Writing.{WriteOutcome};
 ghost use Rattle.cnumbers.specs.Numbers.{numberReply, doneReply};
-ghost use Rattle.capi.specs.Calls.{PassNumber, EnhanceNumber, ReadNumber};
+ghost use Rattle.capi.specs.Calls.{PassNumber, ListNumber, EnhanceNumber, ReadNumber};
 use enhance::Settings;
 use model::Pass;
 use netpbm::Header;
@@ -58,9 +56,11 @@ pub extern "C" fn mlhe_pass(
     rule: u8,
     first: u16,
     second: u16,
+    counts: &mut [usize],
 ) -> i64
     ensures { λ r. ⌜ PassNumber w h a b area rule first second (now (plane .entry)) (now (marks .entry))
-        (now (queue .entry)) r (now (plane .exit)) (now (marks .exit)) (now (queue .exit)) ⌝ }
+        (now (queue .entry)) (now (counts .entry)) r (now (plane .exit)) (now (marks .exit)) (now (queue .exit))
+        (now (counts .exit)) ⌝ }
 {
     let shape = Shape { w, h };
     let numbers = RuleNumbers {
@@ -80,8 +80,11 @@ pub extern "C" fn mlhe_pass(
         return cnumbers::refused(refusal);
     }
     let rule = tones::rule_of(numbers);
-    let answer = passes::pass(plane, marks, queue, shape, Pass { a, b, area, rule });
-    cnumbers::answer_number(answer)
+    let pass = Pass { a, b, area, rule };
+    if counts.len() < cnumbers::COUNTS {
+        return cnumbers::short_counts(model::pass_refusal(pass));
+    }
+    cnumbers::put_counts(counts, passes::pass(plane, marks, queue, shape, pass))
 }
 
 // The passes of a list over the plane.
@@ -93,11 +96,21 @@ pub extern "C" fn mlhe_run_list(
     queue: &mut [u32],
     w: usize,
     h: usize,
+    counts: &mut [usize],
 ) -> i64
-    ensures { λ r. ⌜ ListOutcome (shapeOf w h) (now (list .entry)) (now (plane .entry)) (now (marks .entry))
-        (now (queue .entry)) (numberReply r) (now (plane .exit)) (now (marks .exit)) (now (queue .exit)) ⌝ }
+    ensures { λ r. ⌜ ListNumber w h (now (list .entry)) (now (plane .entry)) (now (marks .entry))
+        (now (queue .entry)) (now (counts .entry)) r (now (plane .exit)) (now (marks .exit)) (now (queue .exit))
+        (now (counts .exit)) ⌝ }
 {
-    cnumbers::answer_number(passlists::run_list(list, plane, marks, queue, Shape { w, h }))
+    let shape = Shape { w, h };
+    if counts.len() < cnumbers::COUNTS {
+        let refusal = passlists::list_refusal(list, shape, plane.len(), marks.len(), queue.len());
+        return cnumbers::short_counts(refusal);
+    }
+    cnumbers::put_counts(
+        counts,
+        passlists::run_list(list, plane, marks, queue, shape),
+    )
 }
 
 // Enhances the frame.
@@ -115,10 +128,11 @@ pub extern "C" fn mlhe_enhance(
     marks: &mut [u8],
     queue: &mut [u32],
     output: &mut [u8],
+    counts: &mut [usize],
 ) -> i64
     ensures { λ r. ⌜ EnhanceNumber w h last area rule first second (now (frame .entry)) (now (plane .entry))
-        (now (marks .entry)) (now (queue .entry)) (now (output .entry)) r (now (plane .exit)) (now (marks .exit))
-        (now (queue .exit)) (now (output .exit)) ⌝ }
+        (now (marks .entry)) (now (queue .entry)) (now (output .entry)) (now (counts .entry)) r
+        (now (plane .exit)) (now (marks .exit)) (now (queue .exit)) (now (output .exit)) (now (counts .exit)) ⌝ }
 {
     let shape = Shape { w, h };
     let numbers = RuleNumbers {
@@ -140,16 +154,12 @@ pub extern "C" fn mlhe_enhance(
         return cnumbers::refused(refusal);
     }
     let rule = tones::rule_of(numbers);
-    let answer = enhance::enhance(
-        frame,
-        shape,
-        Settings { last, area, rule },
-        plane,
-        marks,
-        queue,
-        output,
-    );
-    cnumbers::answer_number(answer)
+    let settings = Settings { last, area, rule };
+    if counts.len() < cnumbers::COUNTS {
+        return cnumbers::short_counts(levels::settings_refusal(settings));
+    }
+    let answer = enhance::enhance(frame, shape, settings, plane, marks, queue, output);
+    cnumbers::put_counts(counts, answer)
 }
 
 // Reads the header of a frame.

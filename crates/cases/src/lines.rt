@@ -1,6 +1,7 @@
 // The parts of a line, printed to standard output.
 use colours::Status;
 use model::Answer;
+use model::Counts;
 use netpbm::Header;
 use netpbm::Written;
 
@@ -48,9 +49,15 @@ pub fn bytes(bytes: &[u8]) {
 // What a pass, a list or an enhancement answers.
 pub fn answer(answer: Answer) {
     match answer {
-        Answer::Done(count) => accepted(count as u64),
+        Answer::Done(counts) => both(counts),
         Answer::Refused(number) => refused(number),
     }
+}
+
+// How many components were retoned, and how many kept back.
+fn both(counts: Counts) {
+    accepted(counts.retoned as u64);
+    count(counts.kept as usize);
 }
 
 // What intensity and recolouring answer.

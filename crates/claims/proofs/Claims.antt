@@ -1,9 +1,9 @@
 -- The demands hold: `demand-1`, `demand-2` and `demand-3`; and `lists-are-chains` and `as-before`. Assumes nothing.
-use Prim.Native.Nat.{ℕ, _-_, _*_, _/_, _≤_}
+use Prim.Native.Nat.{ℕ, _+_, _-_, _*_, _/_, _≤_}
 use mathlib.Core.Path.{_≡_, refl, sym, ap, subst, _∙_}
 use mathlib.Core.List.{List, [], _∷_}
 use native.Mathlib.Omega.{arith}
-use native.Mathlib.Nat.{le-of-lt}
+use native.Mathlib.Nat.{le-of-lt, zero-add}
 use lib.ListN.{length, take, drop}
 use lib.Seq.{take-at}
 use Rattle.planes.specs.Lists.{at}
@@ -19,19 +19,22 @@ use Rattle.colours.proofs.Frames.{length-recolour, recolour-at, recolour-bytes,
 use Rattle.model.specs.declared.Pass.{Pass}
 use Rattle.model.specs.Effects.{Effect, counts}
 use Rattle.model.specs.Outcomes.{Outcome, OutputOutcome}
-use Rattle.model.specs.Calls.{AllAccepted, State, start, chain, chainEffect}
+use Rattle.model.specs.Neighbourhoods.{passNeighbours}
+use Rattle.model.specs.Calls.{retonedIn, keptIn, total, AllAccepted, State, start, chain, chainEffect, chainSufficient}
 use Rattle.model.specs.Enhancement.{enhanced}
 use Rattle.model.proofs.Outcomes.{outcome-given, outcome-stays, output-given}
 use Rattle.model.proofs.Chains.{Fine, chain-fine}
+use Rattle.model.proofs.Sufficient.{pass-sufficient, run-sufficient, chain-sufficient, enhanced-sufficient}
 use Rattle.passes.proofs.Calls.{sequence-is}
 use Rattle.levels.specs.declared.Settings.{Settings}
-use Rattle.enhance.specs.Calls.{chainOf, EnhanceOutcome}
+use Rattle.enhance.specs.Calls.{chainOf, sufficientOf, EnhanceOutcome}
 use Rattle.enhance.proofs.Calls.{fine, chain-accepted}
 use Rattle.enhance.proofs.Published.{chain-published}
 use Rattle.netpbm.specs.Reading.{readReply}
 use Rattle.netpbm.specs.Writing.{encoding, writeRefusal}
 use Rattle.netpbm.proofs.Replies.{malformed-reply, headed-reply, framed-reply}
 use Rattle.netpbm.proofs.Uncommented.{reads-as-before, comments-got-10}
+use Rattle.listformat.specs.Format.{passesOf}
 use Rattle.passlists.proofs.Chains.{list-taken, list-chain, passes-taken, passes-chain}
 use Rattle.frames.specs.Program.{programOutput}
 use Rattle.frames.proofs.Program.{long-output, frame-output, refused-output}
@@ -112,28 +115,35 @@ demand-1 = record {
 
 -- ## Demand 2
 
-had : {n number : ℕ} {e : Effect} {plane marks queue values plane' marks' queue' : List ℕ}
-    → Outcome n number e plane marks queue (gives values) plane' marks' queue'
-    → Had n e marks queue values plane' marks' queue'
-had O =
+had : {n number sufficient : ℕ} {e : Effect} {plane marks queue values plane' marks' queue' : List ℕ}
+    → e .retoned + e .kept ≡ sufficient → Outcome n number e plane marks queue (gives values) plane' marks' queue'
+    → Had n e sufficient marks queue values plane' marks' queue'
+had together O =
     let given = outcome-given O in
     record {
       values-are = given .1 .0;
+      together = together;
       plane-is = given .1 .1;
       marks-rest = O .marks-rest;
       queue-rest = O .queue-rest;
     }
 
+-- both sums of an enhancement are the components of sufficient area
+both-sums : (z : Shape) (t : Settings) (frame : List ℕ) → (
+    let e = chainEffect (chainOf z t frame) in
+    e .retoned + e .kept ≡ sufficientOf z t frame)
+both-sums z t frame = enhanced-sufficient z (intensity frame) (t .last) (t .area) (t .rule)
+
 pub demand-2 : Demand2
 demand-2 = record {
   of-intensity = λ w h {frame} {plane} O. intensity-given w h frame plane O .1;
-  of-pass = λ z s O. had O;
+  of-pass = λ z s {plane} O. had (pass-sufficient (passNeighbours z s) s plane) O;
   of-recolour = λ w h {frame} {plane} {output} O.
       let number = recolourRefusal w h (length frame) (length plane) (length output) in
       recolour-given w h frame plane output (replied-gives number [] (sym (O .answer)) .0) O .1;
   of-enhance = λ z t frame {plane} {marks} {queue} {output} O.
       let taken = outcome-given (O .retoned) .0 in (
-        had (O .retoned),
+        had (both-sums z t frame) (O .retoned),
         (
           output-given O,
           (
@@ -142,8 +152,8 @@ demand-2 = record {
           ),
         ),
       );
-  of-list = λ z list O. had O;
-  of-passes = λ z ss O. had O;
+  of-list = λ z list {plane} O. had (run-sufficient (passNeighbours z) (passesOf list) plane) O;
+  of-passes = λ z ss {plane} O. had (run-sufficient (passNeighbours z) ss plane) O;
   of-write = λ w h {raster} {output} O.
       let number = writeRefusal w h (length raster) (length output) in
       let given = replied-gives number (length (encoding raster w h) ∷ []) (sym (O .answer)) in
@@ -207,7 +217,7 @@ module _ {z : Shape} {frame lent values first : List ℕ}
       → (plane' ≡ chainOf z t frame .plane) × ((values ≡ counts (chainEffect (chainOf z t frame)))
       × (ShapePreserving (neighbours z) first plane' × Coloured z frame plane' output'))
   enhances t {output = output} {plane' = plane'} O =
-      let H = had (O .retoned) in
+      let H = had (both-sums z t frame) (O .retoned) in
       let keeps = subst (Fine (neighbours z) (intensity frame)) (sym (H .plane-is)) (enhanced-fine z t frame) in
       let written = output-given O ∙ ap (λ (p : List ℕ). overwritten output (recolour frame p)) (sym (H .plane-is)) in
       let shapes = subst (λ (p : List ℕ). ShapePreserving (neighbours z) p plane') (sym filled)
@@ -223,6 +233,9 @@ demand-3 z frame lent values first last calls replies I S =
       first-is = filled I;
       replies-are = sym (ap (λ (s : State). s .answers) model);
       last-is = sym last-is;
+      together = ap (λ (s : State). total retonedIn (s .answers) + total keptIn (s .answers)) (sym model)
+          ∙ chain-sufficient z (start first) calls
+          ∙ zero-add (chainSufficient z first calls);
       shapes = fine-shapes (neighbours-sym z) keeps;
       recoloured = λ room O. recolours I keeps room O;
       enhanced = λ t O. enhances I t O;

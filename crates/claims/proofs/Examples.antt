@@ -15,7 +15,7 @@ use Rattle.tones.specs.Tones.{tone, kept}
 use Rattle.channels.specs.Channels.{third, newChannel}
 use Rattle.colours.specs.Frames.{pixelIntensity, intensity, greatestChannel, recolour}
 use Rattle.colours.specs.Calls.{intensityRefusal}
-use Rattle.model.specs.Passes.{inside, componentValues, changes, retone, newTone, passed, passCount}
+use Rattle.model.specs.Passes.{inside, componentValues, changes, keptBack, retone, newTone, passed, componentCount}
 use Rattle.model.specs.Neighbourhoods.{passNeighbours}
 use Rattle.model.specs.Effects.{runEffect}
 use Rattle.tones.specs.Refusals.{ruleRefusal}
@@ -40,7 +40,7 @@ use Rattle.claims.specs.Examples.{on, PassExamples, ExtremaExamples, Sta
 
 pass-examples : PassExamples
 unfolding passNeighbours neighbours four linked component first plainTone plainKept clipped limitedTone tone kept
-    inside componentValues changes retone newTone passed passCount
+    inside componentValues changes keptBack retone newTone passed componentCount
 pass-examples = record {
   A = refl;
   B = refl;
@@ -73,7 +73,7 @@ pub starred : Starred
 unfolding shapeRefusal sizeRefusal sideRefusal pixelRefusal lengthRefusal passNeighbours neighbours four linked
     component first plainTone plainKept clipped limitedTone tone kept
     third pixelIntensity intensity greatestChannel newChannel recolour
-    inside componentValues changes retone newTone passed passCount runEffect
+    inside componentValues changes keptBack retone newTone passed componentCount runEffect
     roomRefusal areaRefusal ruleRefusal numbersRefusal lentRefusal passRefusal call chain
     section level levels passes callOf enhanced
     passAt passesOf malformed misnamed miscounted headRefusal encodePass encodePasses encode
@@ -85,6 +85,8 @@ starred = record {
   extrema = extrema-examples;
   K = refl;
   L = refl;
+  flat = refl;
+  flat-small = refl;
   published = published-examples;
   N = refl;
   N′ = refl;
@@ -108,7 +110,7 @@ pub demand-3-met : Demand3Met
 unfolding shapeRefusal sizeRefusal sideRefusal pixelRefusal lengthRefusal passNeighbours neighbours four linked
     component first plainTone plainKept tone kept
     third pixelIntensity intensity intensityRefusal
-    inside componentValues changes retone newTone passed passCount
+    inside componentValues changes keptBack retone newTone passed componentCount
     roomRefusal areaRefusal ruleRefusal numbersRefusal lentRefusal passRefusal
 demand-3-met = record {
   filled = record { answer = refl; plane-is = refl };

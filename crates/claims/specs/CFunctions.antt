@@ -2,7 +2,9 @@
 -- with which the memory that it leaves meets the call's own contract. Definitions only.
 --
 --   Stands          an answer of some kind that the number stands for, with what holds of it
---   CFunctions      one claim for each function; a pass and an enhancement by numbers that stand for no rule get 17
+--   StandsCounted   the same of a call that tells both counts, which stand in two lent numbers
+--   CFunctions      one claim for each function; a pass and an enhancement by numbers that stand for no rule get 17; a
+--                   call that tells both counts gets 14, last of all, where fewer than two numbers are lent
 use Prim.Native.Nat.{ℕ, _≤_, _<_}
 use mathlib.Core.Path.{_≡_}
 use mathlib.Core.List.{List, [], _∷_}
@@ -13,20 +15,28 @@ use Rattle.planes.specs.Replies.{refuses, gives}
 use Rattle.planes.specs.Shapes.{shapeOf, lentRefusal}
 use Rattle.tones.specs.Numbers.{formRefusal}
 use Rattle.colours.specs.Calls.{statusReply, IntensityOutcome, RecolourOutcome}
+use Rattle.model.specs.declared.Answer.{Answer}
 use Rattle.model.specs.Outcomes.{answerReply}
-use Rattle.passes.specs.Calls.{PassOutcome}
-use Rattle.enhance.specs.Calls.{memoryRefusal, EnhanceOutcome}
-use Rattle.passlists.specs.Outcomes.{ListOutcome}
+use Rattle.passes.specs.Calls.{passCallRefusal, PassOutcome}
+use Rattle.enhance.specs.Calls.{memoryRefusal, enhanceCallRefusal, EnhanceOutcome}
+use Rattle.passlists.specs.Outcomes.{runListRefusal, ListOutcome}
 use Rattle.netpbm.specs.Reading.{readReply}
 use Rattle.netpbm.specs.Writing.{writtenReply, WriteOutcome}
-use Rattle.cnumbers.specs.Numbers.{numberReply, doneReply, statusNumber, answerNumber, writtenNumber}
+use Rattle.cnumbers.specs.Numbers.{numberReply, doneReply, statusNumber, answerNumber, countsAfter, writtenNumber}
 use Rattle.cnumbers.specs.Numbers.{numbersFor, passOf, settingsOf}
-use Rattle.capi.specs.Calls.{PassNumber, EnhanceNumber, ReadNumber}
+use Rattle.capi.specs.Calls.{PassNumber, ListNumber, EnhanceNumber, ReadNumber}
 
 -- r is the number of an answer a of which P holds
 pub record Stands {A : Type 0} (number : A → ℤ) (P : A → Type 0) (r : ℤ) : Type 0 where
   pub answer : A
   pub number-is : r ≡ number answer
+  pub holds : P answer
+
+-- r is the number of an answer of which P holds, and the lent numbers hold its counts; those beyond two stay
+pub record StandsCounted (P : Answer → Type 0) (numbers : List ℕ) (r : ℤ) (numbers' : List ℕ) : Type 0 where
+  pub answer : Answer
+  pub number-is : r ≡ answerNumber answer
+  pub numbers-are : numbers' ≡ countsAfter answer numbers
   pub holds : P answer
 
 pub record CFunctions : Type 0 where
@@ -36,36 +46,64 @@ pub record CFunctions : Type 0 where
   pub of-recolour : (w h : ℕ) {frame plane output output' : List ℕ} (r : ℤ)
       → RecolourOutcome w h frame plane output (doneReply r) output'
       → Stands statusNumber (λ s. RecolourOutcome w h frame plane output (statusReply s) output') r
-  pub of-pass : (w h a b area rule first second : ℕ) {plane marks queue plane' marks' queue' : List ℕ} (r : ℤ)
-      → formRefusal (numbersFor rule first second) ≡ 0
-      → PassNumber w h a b area rule first second plane marks queue r plane' marks' queue'
-      → Stands answerNumber (λ s. PassOutcome (shapeOf w h) (passOf a b area rule first second)
-      plane marks queue (answerReply s) plane' marks' queue') r
+  pub of-pass : (w h a b area rule first second : ℕ) {plane marks queue plane' marks' queue' : List ℕ}
+      (numbers : List ℕ) {numbers' : List ℕ} (r : ℤ)
+      → formRefusal (numbersFor rule first second) ≡ 0 → 2 ≤ length numbers
+      → PassNumber w h a b area rule first second plane marks queue numbers r plane' marks' queue' numbers'
+      → StandsCounted (λ s. PassOutcome (shapeOf w h) (passOf a b area rule first second)
+      plane marks queue (answerReply s) plane' marks' queue') numbers r numbers'
   -- 17 after 1 to 4, and nothing changes
-  pub of-no-pass : (w h a b area rule first second : ℕ) {plane marks queue plane' marks' queue' : List ℕ} (r : ℤ)
+  pub of-no-pass : (w h a b area rule first second : ℕ) {plane marks queue plane' marks' queue' : List ℕ}
+      (numbers : List ℕ) {numbers' : List ℕ} (r : ℤ)
       → formRefusal (numbersFor rule first second) ≡ 17
-      → PassNumber w h a b area rule first second plane marks queue r plane' marks' queue'
+      → PassNumber w h a b area rule first second plane marks queue numbers r plane' marks' queue' numbers'
       → (numberReply r ≡ refuses (lentRefusal (shapeOf w h) (length plane) (length marks) (length queue) ▷ 17))
-      × ((plane' ≡ plane) × ((marks' ≡ marks) × (queue' ≡ queue)))
-  pub of-list : (w h : ℕ) (list : List ℕ) {plane marks queue plane' marks' queue' : List ℕ} (r : ℤ)
-      → ListOutcome (shapeOf w h) list plane marks queue (numberReply r) plane' marks' queue'
-      → Stands answerNumber (λ s. ListOutcome (shapeOf w h) list
-      plane marks queue (answerReply s) plane' marks' queue') r
+      × (((plane' ≡ plane) × ((marks' ≡ marks) × (queue' ≡ queue))) × (numbers' ≡ numbers))
+  -- 14 after all others, and nothing changes
+  pub of-pass-short : (w h a b area rule first second : ℕ) {plane marks queue plane' marks' queue' : List ℕ}
+      (numbers : List ℕ) {numbers' : List ℕ} (r : ℤ)
+      → formRefusal (numbersFor rule first second) ≡ 0 → length numbers < 2
+      → PassNumber w h a b area rule first second plane marks queue numbers r plane' marks' queue' numbers'
+      → (numberReply r
+      ≡ refuses (passCallRefusal (shapeOf w h) (passOf a b area rule first second) plane marks queue ▷ 14))
+      × (((plane' ≡ plane) × ((marks' ≡ marks) × (queue' ≡ queue))) × (numbers' ≡ numbers))
+  pub of-list : (w h : ℕ) (list : List ℕ) {plane marks queue plane' marks' queue' : List ℕ}
+      (numbers : List ℕ) {numbers' : List ℕ} (r : ℤ) → 2 ≤ length numbers
+      → ListNumber w h list plane marks queue numbers r plane' marks' queue' numbers'
+      → StandsCounted (λ s. ListOutcome (shapeOf w h) list
+      plane marks queue (answerReply s) plane' marks' queue') numbers r numbers'
+  pub of-list-short : (w h : ℕ) (list : List ℕ) {plane marks queue plane' marks' queue' : List ℕ}
+      (numbers : List ℕ) {numbers' : List ℕ} (r : ℤ) → length numbers < 2
+      → ListNumber w h list plane marks queue numbers r plane' marks' queue' numbers'
+      → (numberReply r ≡ refuses (runListRefusal (shapeOf w h) list plane marks queue ▷ 14))
+      × (((plane' ≡ plane) × ((marks' ≡ marks) × (queue' ≡ queue))) × (numbers' ≡ numbers))
   pub of-enhance : (w h last area rule first second : ℕ) (frame : List ℕ)
-      {plane marks queue output plane' marks' queue' output' : List ℕ} (r : ℤ)
-      → formRefusal (numbersFor rule first second) ≡ 0
-      → EnhanceNumber w h last area rule first second frame plane marks queue output r plane' marks' queue' output'
-      → Stands answerNumber (λ s. EnhanceOutcome (shapeOf w h) (settingsOf last area rule first second) frame
-      plane marks queue output (answerReply s) plane' marks' queue' output') r
-  -- 17 after 1, 2, 3, 4 and 14, and nothing changes
+      {plane marks queue output plane' marks' queue' output' : List ℕ} (numbers : List ℕ) {numbers' : List ℕ} (r : ℤ)
+      → formRefusal (numbersFor rule first second) ≡ 0 → 2 ≤ length numbers
+      → EnhanceNumber w h last area rule first second frame plane marks queue output numbers r
+      plane' marks' queue' output' numbers'
+      → StandsCounted (λ s. EnhanceOutcome (shapeOf w h) (settingsOf last area rule first second) frame
+      plane marks queue output (answerReply s) plane' marks' queue' output') numbers r numbers'
+  -- 17 after 1, 2, 3, 4 and 14 for the output, and nothing changes
   pub of-no-enhance : (w h last area rule first second : ℕ) (frame : List ℕ)
-      {plane marks queue output plane' marks' queue' output' : List ℕ} (r : ℤ)
+      {plane marks queue output plane' marks' queue' output' : List ℕ} (numbers : List ℕ) {numbers' : List ℕ} (r : ℤ)
       → formRefusal (numbersFor rule first second) ≡ 17
-      → EnhanceNumber w h last area rule first second frame plane marks queue output r plane' marks' queue' output'
+      → EnhanceNumber w h last area rule first second frame plane marks queue output numbers r
+      plane' marks' queue' output' numbers'
       → (numberReply r
       ≡ refuses (memoryRefusal (shapeOf w h) (length frame) (length plane) (length marks) (length queue) (length output)
       ▷ 17))
-      × ((plane' ≡ plane) × ((marks' ≡ marks) × ((queue' ≡ queue) × (output' ≡ output))))
+      × (((plane' ≡ plane) × ((marks' ≡ marks) × ((queue' ≡ queue) × (output' ≡ output)))) × (numbers' ≡ numbers))
+  -- 14 after all others, and nothing changes
+  pub of-enhance-short : (w h last area rule first second : ℕ) (frame : List ℕ)
+      {plane marks queue output plane' marks' queue' output' : List ℕ} (numbers : List ℕ) {numbers' : List ℕ} (r : ℤ)
+      → formRefusal (numbersFor rule first second) ≡ 0 → length numbers < 2
+      → EnhanceNumber w h last area rule first second frame plane marks queue output numbers r
+      plane' marks' queue' output' numbers'
+      → (numberReply r
+      ≡ refuses (enhanceCallRefusal (shapeOf w h) (settingsOf last area rule first second) frame plane marks queue output
+      ▷ 14))
+      × (((plane' ≡ plane) × ((marks' ≡ marks) × ((queue' ≡ queue) × (output' ≡ output)))) × (numbers' ≡ numbers))
   pub of-write : (w h : ℕ) {raster output output' : List ℕ} (r : ℤ)
       → WriteOutcome raster w h output (numberReply r) output'
       → Stands writtenNumber (λ s. WriteOutcome raster w h output (writtenReply s) output') r

@@ -16,7 +16,11 @@
 --   intensity          the plane of a frame's intensities, Algorithm 1 (colours/specs/Frames)
 --   recolour           the frame recoloured from a plane, Algorithm 6 (colours/specs/Frames)
 --   Grey               every pixel's three channels are one (colours/specs/Frames)
---   Effect             what a pass, or a run of passes, comes to: its plane and its count (model/specs/Effects)
+--   Effect             what a pass, or a run of passes, comes to: its plane and both counts, of retoned components and of
+--                      those of sufficient area that were kept back (model/specs/Effects)
+--   passSufficient     how many components of sufficient area a pass finds (model/specs/Passes)
+--   runSufficient, chainSufficient, sufficientOf   the sum of these over the passes of a list, over the calls of a chain
+--                      that are not refused, over the passes of an enhancement, in the plane as each finds it
 --   chain              the model of a chain of calls: its plane and its replies (model/specs/Calls)
 --   chainOf            the chain of passes that an enhancement stands for (enhance/specs/Calls)
 --   publishedOf        Algorithms 2 to 5 on a frame's intensity, by components (enhance/specs/Published)
@@ -32,7 +36,7 @@
 --   uncommentedReply   what reading replied before comments were read (netpbm/specs/Uncommented)
 --   Bytes              every member is a byte (listformat/specs/Format)
 --   Emitted            what the program's function ensures: some bytes at the beginning of the output (printing)
-use Prim.Native.Nat.{ℕ, suc, _-_, _*_, _/_, _≤_, _<_}
+use Prim.Native.Nat.{ℕ, suc, _+_, _-_, _*_, _/_, _≤_, _<_}
 use mathlib.Core.Path.{_≡_}
 use mathlib.Core.Logic.{_↔_}
 use mathlib.Core.Bool.{true, false}
@@ -49,11 +53,14 @@ use Rattle.colours.specs.Frames.{intensity, newChannelAt, recolour, Grey}
 use Rattle.colours.specs.Calls.{intensityRefusal, recolourRefusal, IntensityOutcome, RecolourOutcome}
 use Rattle.model.specs.declared.Pass.{Pass}
 use Rattle.model.specs.Neighbourhoods.{passNeighbours}
+use Rattle.model.specs.Passes.{passSufficient}
 use Rattle.model.specs.Effects.{Effect, counts, passEffect, runEffect}
-use Rattle.model.specs.Calls.{Call, AllAccepted, State, start, chain, chainEffect}
+use Rattle.model.specs.Runs.{runSufficient}
+use Rattle.model.specs.Calls.{Call, retonedIn, keptIn, total, AllAccepted, State, start, chain, chainEffect}
+use Rattle.model.specs.Calls.{chainSufficient}
 use Rattle.passes.specs.Calls.{callOn, passCallRefusal, PassOutcome, Sequence}
 use Rattle.levels.specs.declared.Settings.{Settings}
-use Rattle.enhance.specs.Calls.{chainOf, enhanceCallRefusal, EnhanceOutcome}
+use Rattle.enhance.specs.Calls.{chainOf, sufficientOf, enhanceCallRefusal, EnhanceOutcome}
 use Rattle.enhance.specs.Published.{publishedOf}
 use Rattle.headers.specs.Headers.{IsHeader}
 use Rattle.headers.specs.Uncommented.{signless, Uncommented}
@@ -132,10 +139,12 @@ pub record Demand1 : Type 0 where
 
 -- ## Demand 2: what is accepted becomes, byte for byte, what the algorithms give
 
--- a call that gave its values had its effect: values and plane are the effect's; marks and queue keep their lengths and
--- all entries from n on
-pub record Had (n : ℕ) (e : Effect) (marks queue values plane' marks' queue' : List ℕ) : Type 0 where
+-- a call that gave its values had its effect: values and plane are the effect's; the components that were retoned and
+-- those that were kept back are together those of sufficient area; marks and queue keep their lengths and all entries
+-- from n on
+pub record Had (n : ℕ) (e : Effect) (sufficient : ℕ) (marks queue values plane' marks' queue' : List ℕ) : Type 0 where
   pub values-are : values ≡ counts e
+  pub together : e .retoned + e .kept ≡ sufficient
   pub plane-is : plane' ≡ e .plane
   pub marks-rest : Beyond n marks marks'
   pub queue-rest : Beyond n queue queue'
@@ -145,7 +154,8 @@ pub record Demand2 : Type 0 where
       → IntensityOutcome w h frame plane (gives values) plane' → plane' ≡ intensity frame
   pub of-pass : (z : Shape) (s : Pass) {plane marks queue values plane' marks' queue' : List ℕ}
       → PassOutcome z s plane marks queue (gives values) plane' marks' queue'
-      → Had (pixels z) (passEffect (passNeighbours z) s plane) marks queue values plane' marks' queue'
+      → Had (pixels z) (passEffect (passNeighbours z) s plane) (passSufficient (passNeighbours z s) s plane)
+      marks queue values plane' marks' queue'
   pub of-recolour : (w h : ℕ) {frame plane output values output' : List ℕ}
       → RecolourOutcome w h frame plane output (gives values) output'
       → output' ≡ overwritten output (recolour frame plane)
@@ -154,17 +164,19 @@ pub record Demand2 : Type 0 where
   pub of-enhance : (z : Shape) (t : Settings) (frame : List ℕ)
       {plane marks queue output values plane' marks' queue' output' : List ℕ}
       → EnhanceOutcome z t frame plane marks queue output (gives values) plane' marks' queue' output'
-      → Had (pixels z) (chainEffect (chainOf z t frame)) marks queue values plane' marks' queue'
+      → Had (pixels z) (chainEffect (chainOf z t frame)) (sufficientOf z t frame) marks queue values plane' marks' queue'
       × ((output' ≡ overwritten output (recolour frame (chainOf z t frame .plane)))
       × (AllAccepted (chainOf z t frame .answers)
       × (Bytes frame → chainEffect (chainOf z t frame) ≡ publishedOf z t frame)))
-  -- a list is the run of its passes, and the sum of their counts
+  -- a list is the run of its passes, and the sums of their counts
   pub of-list : (z : Shape) (list : List ℕ) {plane marks queue values plane' marks' queue' : List ℕ}
       → ListOutcome z list plane marks queue (gives values) plane' marks' queue'
-      → Had (pixels z) (runEffect (passNeighbours z) (passesOf list) plane) marks queue values plane' marks' queue'
+      → Had (pixels z) (runEffect (passNeighbours z) (passesOf list) plane)
+      (runSufficient (passNeighbours z) (passesOf list) plane) marks queue values plane' marks' queue'
   pub of-passes : (z : Shape) (ss : List Pass) {plane marks queue values plane' marks' queue' : List ℕ}
       → PassesOutcome z ss plane marks queue (gives values) plane' marks' queue'
-      → Had (pixels z) (runEffect (passNeighbours z) ss plane) marks queue values plane' marks' queue'
+      → Had (pixels z) (runEffect (passNeighbours z) ss plane) (runSufficient (passNeighbours z) ss plane)
+      marks queue values plane' marks' queue'
   pub of-write : (w h : ℕ) {raster output values output' : List ℕ}
       → WriteOutcome raster w h output (gives values) output'
       → (values ≡ length (encoding raster w h) ∷ []) × (output' ≡ overwritten output (encoding raster w h))
@@ -205,12 +217,15 @@ pub record Demand3 (z : Shape) (frame first : List ℕ) (calls : List Call) (rep
   -- replies and last plane are the model's
   pub replies-are : replies ≡ chain z (start first) calls .answers
   pub last-is : last ≡ chain z (start first) calls .plane
+  -- both counts of all replies are together the components of sufficient area, in the plane as each call finds it
+  pub together : total retonedIn replies + total keptIn replies ≡ chainSufficient z first calls
   pub shapes : ShapePreserving (neighbours z) first last
   -- recolouring from the last plane, with an output that is long enough
   pub recoloured : {output output' : List ℕ} {reply : Reply} → 3 * pixels z ≤ length output
       → RecolourOutcome (z .w) (z .h) frame last output reply output'
       → (reply ≡ gives []) × Coloured z frame last output'
-  -- every accepted enhancement of the frame leaves the plane, the output and the count of its chain
+  -- every accepted enhancement of the frame leaves the plane and the output of its chain, and answers the sums of both
+  -- counts
   pub enhanced : (t : Settings) {plane marks queue output values plane' marks' queue' output' : List ℕ}
       → EnhanceOutcome z t frame plane marks queue output (gives values) plane' marks' queue' output'
       → (plane' ≡ chainOf z t frame .plane) × ((values ≡ counts (chainEffect (chainOf z t frame)))

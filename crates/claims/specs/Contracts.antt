@@ -15,7 +15,6 @@ use denote.Ref.{now}
 use denote.Triple.Clauses.{AtExit}
 use borrow.Fn.World.{ArgsD, ResD}
 use Rattle.planes.specs.Refusals.{greatestPixels}
-use Rattle.planes.specs.Shapes.{shapeOf}
 use Rattle.colours.specs.Calls.{statusReply, IntensityOutcome, RecolourOutcome}
 use Rattle.colours.proofs.intensity as intensity
 use Rattle.colours.proofs.intensity.Reads as intensity-reads
@@ -46,7 +45,7 @@ use Rattle.frames.specs.Program.{programOutput}
 use Rattle.frames.proofs.program_output as program-output
 use Rattle.frames.proofs.program_output.Reads as program-output-reads
 use Rattle.cnumbers.specs.Numbers.{numberReply, doneReply}
-use Rattle.capi.specs.Calls.{PassNumber, EnhanceNumber, ReadNumber}
+use Rattle.capi.specs.Calls.{PassNumber, ListNumber, EnhanceNumber, ReadNumber}
 use Rattle.capi.proofs.mlhe_intensity as mlhe-intensity
 use Rattle.capi.proofs.mlhe_intensity.Reads as mlhe-intensity-reads
 use Rattle.capi.proofs.mlhe_recolour as mlhe-recolour
@@ -135,32 +134,36 @@ pub record CContracts : Type 0 where
       → RecolourOutcome (a .1 .0) (a .1 .1 .0) (now (a .0)) (now (a .1 .1 .1 .0)) (now (a .1 .1 .1 .1 .0))
       (doneReply r) (now (s .1 .1 .1 .1 .0))
   pub recolour-asks : (κs : Lfts 3) (a : ArgsD mlhe-recolour.signature κs) → mlhe-recolour-reads.Asked κs a
-  -- mlhe_pass(plane, marks, queue, w, h, a, b, area, rule, first, second)
-  pub of-pass : (κs : Lfts 3) (a : ArgsD mlhe-pass.signature κs) (r : ResD mlhe-pass.signature κs)
+  -- mlhe_pass(plane, marks, queue, w, h, a, b, area, rule, first, second, counts)
+  pub of-pass : (κs : Lfts 4) (a : ArgsD mlhe-pass.signature κs) (r : ResD mlhe-pass.signature κs)
       (s : AtExit mlhe-pass.ended κs) → mlhe-pass-reads.Learnt κs a r s → (
       let numbers = a .1 .1 .1 in
+      let lent = numbers .1 .1 .1 .1 .1 .1 .1 .1 in
+      let left = s .1 .1 .1 .1 .1 .1 .1 .1 .1 .1 .1 in
       PassNumber (numbers .0) (numbers .1 .0) (numbers .1 .1 .0) (numbers .1 .1 .1 .0) (numbers .1 .1 .1 .1 .0)
       (numbers .1 .1 .1 .1 .1 .0) (numbers .1 .1 .1 .1 .1 .1 .0) (numbers .1 .1 .1 .1 .1 .1 .1 .0)
-      (now (a .0)) (now (a .1 .0)) (now (a .1 .1 .0)) r (now (s .0)) (now (s .1 .0)) (now (s .1 .1 .0)))
-  pub pass-asks : (κs : Lfts 3) (a : ArgsD mlhe-pass.signature κs) → mlhe-pass-reads.Asked κs a
-  -- mlhe_run_list(list, plane, marks, queue, w, h)
-  pub of-list : (κs : Lfts 4) (a : ArgsD mlhe-run-list.signature κs) (r : ResD mlhe-run-list.signature κs)
+      (now (a .0)) (now (a .1 .0)) (now (a .1 .1 .0)) (now (lent .0)) r
+      (now (s .0)) (now (s .1 .0)) (now (s .1 .1 .0)) (now (left .0)))
+  pub pass-asks : (κs : Lfts 4) (a : ArgsD mlhe-pass.signature κs) → mlhe-pass-reads.Asked κs a
+  -- mlhe_run_list(list, plane, marks, queue, w, h, counts)
+  pub of-list : (κs : Lfts 5) (a : ArgsD mlhe-run-list.signature κs) (r : ResD mlhe-run-list.signature κs)
       (s : AtExit mlhe-run-list.ended κs) → mlhe-run-list-reads.Learnt κs a r s
-      → ListOutcome (shapeOf (a .1 .1 .1 .1 .0) (a .1 .1 .1 .1 .1 .0)) (now (a .0))
-      (now (a .1 .0)) (now (a .1 .1 .0)) (now (a .1 .1 .1 .0)) (numberReply r)
-      (now (s .1 .0)) (now (s .1 .1 .0)) (now (s .1 .1 .1 .0))
-  pub list-asks : (κs : Lfts 4) (a : ArgsD mlhe-run-list.signature κs) → mlhe-run-list-reads.Asked κs a
-  -- mlhe_enhance(frame, w, h, last, area, rule, first, second, plane, marks, queue, output)
-  pub of-enhance : (κs : Lfts 5) (a : ArgsD mlhe-enhance.signature κs) (r : ResD mlhe-enhance.signature κs)
+      → ListNumber (a .1 .1 .1 .1 .0) (a .1 .1 .1 .1 .1 .0) (now (a .0))
+      (now (a .1 .0)) (now (a .1 .1 .0)) (now (a .1 .1 .1 .0)) (now (a .1 .1 .1 .1 .1 .1 .0)) r
+      (now (s .1 .0)) (now (s .1 .1 .0)) (now (s .1 .1 .1 .0)) (now (s .1 .1 .1 .1 .1 .1 .0))
+  pub list-asks : (κs : Lfts 5) (a : ArgsD mlhe-run-list.signature κs) → mlhe-run-list-reads.Asked κs a
+  -- mlhe_enhance(frame, w, h, last, area, rule, first, second, plane, marks, queue, output, counts)
+  pub of-enhance : (κs : Lfts 6) (a : ArgsD mlhe-enhance.signature κs) (r : ResD mlhe-enhance.signature κs)
       (s : AtExit mlhe-enhance.ended κs) → mlhe-enhance-reads.Learnt κs a r s → (
       let numbers = a .1 in
       let memory = a .1 .1 .1 .1 .1 .1 .1 .1 in
       let left = s .1 .1 .1 .1 .1 .1 .1 .1 in
       EnhanceNumber (numbers .0) (numbers .1 .0) (numbers .1 .1 .0) (numbers .1 .1 .1 .0) (numbers .1 .1 .1 .1 .0)
       (numbers .1 .1 .1 .1 .1 .0) (numbers .1 .1 .1 .1 .1 .1 .0) (now (a .0))
-      (now (memory .0)) (now (memory .1 .0)) (now (memory .1 .1 .0)) (now (memory .1 .1 .1 .0)) r
-      (now (left .0)) (now (left .1 .0)) (now (left .1 .1 .0)) (now (left .1 .1 .1 .0)))
-  pub enhance-asks : (κs : Lfts 5) (a : ArgsD mlhe-enhance.signature κs) → mlhe-enhance-reads.Asked κs a
+      (now (memory .0)) (now (memory .1 .0)) (now (memory .1 .1 .0)) (now (memory .1 .1 .1 .0))
+      (now (memory .1 .1 .1 .1 .0)) r
+      (now (left .0)) (now (left .1 .0)) (now (left .1 .1 .0)) (now (left .1 .1 .1 .0)) (now (left .1 .1 .1 .1 .0)))
+  pub enhance-asks : (κs : Lfts 6) (a : ArgsD mlhe-enhance.signature κs) → mlhe-enhance-reads.Asked κs a
   -- mlhe_read(bytes, numbers)
   pub of-read : (κs : Lfts 2) (a : ArgsD mlhe-read.signature κs) (r : ResD mlhe-read.signature κs)
       (s : AtExit mlhe-read.ended κs) → mlhe-read-reads.Learnt κs a r s

@@ -1,9 +1,9 @@
 -- The worked examples of the requirements that hold by the rules themselves, as one statement, and a chain of calls
 -- that meets the hypotheses of demand 3. Definitions only.
 --
---   After, PassExamples       a pass leaves a plane and a count: examples A to J, and others
+--   After, PassExamples       a pass leaves a plane and both counts: examples A to J, and others
 --   Extrema, ExtremaExamples  how many regional maxima and minima a plane has
---   Enhancing                 an enhancement leaves a plane and a count: examples K and L
+--   Enhancing                 an enhancement leaves a plane and both counts: examples K and L, and planes of one value
 --   Starred                   all of them, with the published recursion on K, L and M, recolouring (N, O), the program
 --                             (P, and P with comments) and a list (Q)
 --   Demand3Met                an accepted frame, and calls from its plane of which one is accepted and two are refused
@@ -33,9 +33,9 @@ use Rattle.frames.specs.Program.{programOutput}
 
 -- ## Passes
 
--- a pass over a plane p leaves the plane q and retones k components
-abbrev pub After : Shape → List ℕ → Pass → List ℕ → ℕ → Type 0
-After z p s q k = passEffect (passNeighbours z) s p ≡ record { plane = q; retoned = k }
+-- a pass over a plane p leaves the plane q, retones k components and keeps j back
+abbrev pub After : Shape → List ℕ → Pass → List ℕ → ℕ → ℕ → Type 0
+After z p s q k j = passEffect (passNeighbours z) s p ≡ record { plane = q; retoned = k; kept = j }
 
 -- one row of w pixels
 abbrev pub row : ℕ → Shape
@@ -56,24 +56,25 @@ abbrev pub planeJ : List ℕ
 planeJ = 10 ∷ 200 ∷ 200 ∷ 20 ∷ []
 
 pub record PassExamples : Type 0 where
-  pub A : After (row 4) rowA (on 0 255 1 anyRatio) (128 ∷ 128 ∷ 191 ∷ 255 ∷ []) 1
+  pub A : After (row 4) rowA (on 0 255 1 anyRatio) (128 ∷ 128 ∷ 191 ∷ 255 ∷ []) 1 0
   -- kept back: 100 × 127 > 300 × 20
-  pub B : After (row 4) rowA (on 0 255 1 (Plain 0 300)) rowA 0
-  pub C : After (row 2) rowC (on 0 1 1 anyRatio) (1 ∷ 1 ∷ []) 1
+  pub B : After (row 4) rowA (on 0 255 1 (Plain 0 300)) rowA 0 1
+  pub C : After (row 2) rowC (on 0 1 1 anyRatio) (1 ∷ 1 ∷ []) 1 0
   -- kept back: 100 × 0 < 80 × 1
-  pub D : After (row 2) rowC (on 0 1 1 (Plain 80 25500)) rowC 0
-  -- two components; the second has one value
-  pub E : After (row 5) rowE (on 0 127 1 anyRatio) (64 ∷ 127 ∷ 200 ∷ 10 ∷ 10 ∷ []) 1
-  pub F : After (row 5) rowE (on 0 127 3 anyRatio) rowE 0
-  pub G : After (row 4) rowA (on 0 255 1 (Limited 10)) (13 ∷ 13 ∷ 25 ∷ 38 ∷ []) 1
-  pub H : After (row 4) rowA (on 0 255 1 (Limited 1000)) (128 ∷ 128 ∷ 191 ∷ 255 ∷ []) 1
-  pub I : After (row 4) rowA (on 0 255 1 (Limited 0)) (11 ∷ 11 ∷ 21 ∷ 31 ∷ []) 1
-  -- 10 and 20 touch at a corner only: two components of one pixel
-  pub J : After (shapeOf 2 2) planeJ (on 0 127 1 anyRatio) planeJ 0
+  pub D : After (row 2) rowC (on 0 1 1 (Plain 80 25500)) rowC 0 1
+  -- two components; the second has one value, and is kept back
+  pub E : After (row 5) rowE (on 0 127 1 anyRatio) (64 ∷ 127 ∷ 200 ∷ 10 ∷ 10 ∷ []) 1 1
+  -- both are too small
+  pub F : After (row 5) rowE (on 0 127 3 anyRatio) rowE 0 0
+  pub G : After (row 4) rowA (on 0 255 1 (Limited 10)) (13 ∷ 13 ∷ 25 ∷ 38 ∷ []) 1 0
+  pub H : After (row 4) rowA (on 0 255 1 (Limited 1000)) (128 ∷ 128 ∷ 191 ∷ 255 ∷ []) 1 0
+  pub I : After (row 4) rowA (on 0 255 1 (Limited 0)) (11 ∷ 11 ∷ 21 ∷ 31 ∷ []) 1 0
+  -- 10 and 20 touch at a corner only: two components of one pixel, both kept back
+  pub J : After (shapeOf 2 2) planeJ (on 0 127 1 anyRatio) planeJ 0 2
   -- components of exactly the least area
-  pub least : After (row 5) rowE (on 0 127 2 anyRatio) (64 ∷ 127 ∷ 200 ∷ 10 ∷ 10 ∷ []) 1
+  pub least : After (row 5) rowE (on 0 127 2 anyRatio) (64 ∷ 127 ∷ 200 ∷ 10 ∷ 10 ∷ []) 1 1
   -- neighbours may become one
-  pub joined : After (row 3) (0 ∷ 1 ∷ 0 ∷ []) (on 0 1 1 anyRatio) (1 ∷ 1 ∷ 1 ∷ []) 1
+  pub joined : After (row 3) (0 ∷ 1 ∷ 0 ∷ []) (on 0 1 1 anyRatio) (1 ∷ 1 ∷ 1 ∷ []) 1 0
 
 -- ## Regional extrema
 
@@ -99,16 +100,20 @@ pub record ExtremaExamples : Type 0 where
 
 -- ## All of them
 
--- an enhancement of a frame leaves the plane q and counts k
-abbrev pub Enhancing : List ℕ → Shape → ℕ → ℕ → Rule → List ℕ → ℕ → Type 0
-Enhancing frame z last area rule q k =
-    chainEffect (enhanced z (intensity frame) last area rule) ≡ record { plane = q; retoned = k }
+-- an enhancement of a frame leaves the plane q, retones k components and keeps j back
+abbrev pub Enhancing : List ℕ → Shape → ℕ → ℕ → Rule → List ℕ → ℕ → ℕ → Type 0
+Enhancing frame z last area rule q k j =
+    chainEffect (enhanced z (intensity frame) last area rule) ≡ record { plane = q; retoned = k; kept = j }
 
 -- the grey frame 10 20
 abbrev pub greyK : List ℕ
 greyK = 10 ∷ 10 ∷ 10 ∷ 20 ∷ 20 ∷ 20 ∷ []
 
--- P6, LF, 2 1, LF, 255, LF and that frame
+-- the grey frame 7 7
+abbrev pub greyFlat : List ℕ
+greyFlat = 7 ∷ 7 ∷ 7 ∷ 7 ∷ 7 ∷ 7 ∷ []
+
+-- P6, LF, 2 1, LF, 255, LF and the first of them
 abbrev pub fileP : List ℕ
 fileP = ascii "P6\n2 1\n255\n" ++ greyK
 
@@ -123,8 +128,11 @@ listQ = 77 ∷ 76 ∷ 80 ∷ 1 ∷ 0 ∷ 1 ∷ 0 ∷ 0 ∷ 127 ∷ 0 ∷ 0 ∷ 1
 pub record Starred : Type 0 where
   pub passes : PassExamples
   pub extrema : ExtremaExamples
-  pub K : Enhancing greyK (row 2) 0 20 anyRatio (128 ∷ 255 ∷ []) 1
-  pub L : Enhancing greyK (row 2) 1 1 anyRatio (192 ∷ 255 ∷ []) 2
+  pub K : Enhancing greyK (row 2) 0 20 anyRatio (128 ∷ 255 ∷ []) 1 0
+  pub L : Enhancing greyK (row 2) 1 1 anyRatio (192 ∷ 255 ∷ []) 2 0
+  -- one value: kept back on both levels; on level 0 alone where its area is below the least
+  pub flat : Enhancing greyFlat (row 2) 1 2 (Plain 80 300) (7 ∷ 7 ∷ []) 0 2
+  pub flat-small : Enhancing greyFlat (row 2) 1 3 (Plain 80 300) (7 ∷ 7 ∷ []) 0 1
   -- K, L and M by components
   pub published : PublishedExamples
   pub N : recolour (200 ∷ 100 ∷ 0 ∷ []) (120 ∷ []) ≡ 240 ∷ 120 ∷ 0 ∷ []
@@ -138,7 +146,7 @@ pub record Starred : Type 0 where
   pub Q-is : encode (on 0 127 1 anyRatio ∷ []) ≡ listQ
   pub Q-accepted : listRefusal listQ ≡ 0
   pub Q : runEffect (passNeighbours (row 5)) (passesOf listQ) rowE
-      ≡ record { plane = 64 ∷ 127 ∷ 200 ∷ 10 ∷ 10 ∷ []; retoned = 1 }
+      ≡ record { plane = 64 ∷ 127 ∷ 200 ∷ 10 ∷ 10 ∷ []; retoned = 1; kept = 1 }
 
 -- ## The hypotheses of demand 3 can be met
 
@@ -148,4 +156,4 @@ pub record Demand3Met : Type 0 where
   pub filled : IntensityOutcome 2 1 greyK (0 ∷ 0 ∷ []) (gives []) (10 ∷ 20 ∷ [])
   pub calls : Sequence (row 2) (10 ∷ 20 ∷ [])
       (callOn 2 2 (on 0 255 1 anyRatio) ∷ callOn 2 1 (on 0 255 1 anyRatio) ∷ callOn 2 2 (on 255 0 1 anyRatio) ∷ [])
-      (gives (1 ∷ []) ∷ refuses 4 ∷ refuses 5 ∷ []) (128 ∷ 255 ∷ [])
+      (gives (1 ∷ 0 ∷ []) ∷ refuses 4 ∷ refuses 5 ∷ []) (128 ∷ 255 ∷ [])

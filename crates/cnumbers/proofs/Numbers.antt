@@ -24,6 +24,7 @@ use Rattle.netpbm.specs.Writing.{writtenReply}
 use Rattle.netpbm.specs.declared.Written.{Written}
 use Rattle.netpbm.specs.declared.Written.the-variants as Written
 use Rattle.cnumbers.specs.Numbers.{encoded, numberReply, doneReply, statusNumber, answerNumber, writtenNumber}
+use Rattle.cnumbers.specs.Numbers.{countsAfter, countsReply}
 
 -- a result that is handed on is read back from its bits
 pub returned : {z v : ℤ} → mag z < 9223372036854775808 → z ≡ v → toZ w64 (ofZ w64 z) ≡ v
@@ -57,11 +58,12 @@ status-reads Status.Done number e = e
 status-reads (Status.Refused zero) number e = absurd (no-zero number [] e)
 status-reads (Status.Refused (suc k)) number e = e
 
-pub answer-reads : (s : Answer) (number : ℕ) (vs : List ℕ) → answerReply s ≡ replied number vs
-    → numberReply (answerNumber s) ≡ replied number vs
-answer-reads (Answer.Done count) number vs e = e
-answer-reads (Answer.Refused zero) number vs e = absurd (no-zero number vs e)
-answer-reads (Answer.Refused (suc k)) number vs e = e
+-- both counts are told by the numbers that they were stored in
+pub answer-reads : (s : Answer) (numbers : List ℕ) (number : ℕ) (vs : List ℕ) → answerReply s ≡ replied number vs
+    → countsReply (answerNumber s) (countsAfter s numbers) ≡ replied number vs
+answer-reads (Answer.Done counts) numbers number vs e = e
+answer-reads (Answer.Refused zero) numbers number vs e = absurd (no-zero number vs e)
+answer-reads (Answer.Refused (suc k)) numbers number vs e = e
 
 pub written-reads : (s : Written) (number : ℕ) (vs : List ℕ) → writtenReply s ≡ replied number vs
     → numberReply (writtenNumber s) ≡ replied number vs
@@ -76,3 +78,9 @@ three [] w h offset e = absurd (omega arith)
 three (x ∷ []) w h offset e = absurd (omega arith)
 three (x ∷ y ∷ []) w h offset e = absurd (omega arith)
 three (x ∷ y ∷ z ∷ numbers) w h offset e = refl
+
+-- two numbers stored in the first two places
+pub two : (numbers : List ℕ) (x y : ℕ) → 2 ≤ length numbers → set (set numbers 0 x) 1 y ≡ x ∷ y ∷ drop 2 numbers
+two [] x y e = absurd (omega arith)
+two (u ∷ []) x y e = absurd (omega arith)
+two (u ∷ v ∷ numbers) x y e = refl

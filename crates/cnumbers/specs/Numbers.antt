@@ -4,7 +4,10 @@
 --   numberReply    the reply that a number stands for, of a call that gives one value
 --   doneReply      the same of a call that gives none: 0 stands for done
 --   statusNumber   the answer of intensity or recolouring, encoded
---   answerNumber   the answer of a pass, a list or an enhancement, encoded
+--   answerNumber   the answer of a pass, a list or an enhancement, encoded; its counts go to lent numbers
+--   countsAfter    the lent numbers after it
+--   countsRefusal  14, where too few numbers are lent for both counts
+--   countsReply    the reply that a number and the lent numbers stand for, of such a call
 --   writtenNumber  the answer of writing, encoded
 --   numbersFor     the numbers of a rule, as in a record of a pass list
 --   passOf         the pass for its numbers
@@ -14,10 +17,10 @@ use mathlib.Core.Bool.{cond}
 use mathlib.Core.Path.{_≡_}
 use mathlib.Core.List.{List, [], _∷_}
 use lib.IntN.{ℤ, pos, negsuc}
-use lib.ListN.{length, drop}
+use lib.ListN.{length, take, drop}
 use lib.Dec.{ltb}
 use Rattle.planes.specs.Refusals.{when}
-use Rattle.planes.specs.Replies.{Reply, refuses, gives}
+use Rattle.planes.specs.Replies.{Reply, refuses, gives, overwritten}
 use Rattle.model.specs.declared.Pass.{Pass}
 use Rattle.colours.specs.declared.Status.{Status}
 use Rattle.colours.specs.declared.Status.the-variants as Status
@@ -53,7 +56,22 @@ statusNumber (Status.Refused k) = encoded k 0
 
 abbrev pub answerNumber : Answer → ℤ
 answerNumber (Answer.Refused k) = encoded k 0
-answerNumber (Answer.Done count) = encoded 0 count
+answerNumber (Answer.Done counts) = encoded 0 0
+
+-- both counts stand in the first two numbers; those beyond stay
+abbrev pub countsAfter : Answer → List ℕ → List ℕ
+countsAfter (Answer.Refused k) numbers = numbers
+countsAfter (Answer.Done counts) numbers = overwritten numbers (counts .retoned ∷ counts .kept ∷ [])
+
+-- 14: fewer than two numbers are lent
+abbrev pub countsRefusal : ℕ → ℕ
+countsRefusal lent = when (ltb lent 2) 14
+
+-- 0 stands for the first two lent numbers, and negsuc k for the refusal k + 1
+abbrev pub countsReply : ℤ → List ℕ → Reply
+countsReply (pos zero) numbers = gives (take 2 numbers)
+countsReply (pos (suc value)) numbers = gives (suc value ∷ [])
+countsReply (negsuc k) numbers = refuses (suc k)
 
 abbrev pub writtenNumber : Written → ℤ
 writtenNumber (Written.Refused k) = encoded k 0

@@ -1,22 +1,26 @@
-// Numbers for callers in C: answers as one signed number, what reading answers in lent numbers, and the refusals that come
+// Numbers for callers in C: answers as one signed number, what is told besides in lent numbers, and the refusals that come
 // before a rule is made of its numbers.
 //
 // refused                          a refusal k as -k
-// status_number, answer_number, written_number    the answers of the calls
+// status_number, written_number    the answers of intensity and recolouring, and of writing
+// put_counts                       both counts in two lent numbers, or the refusal
+// short_counts                     a refusal where fewer than two numbers are lent: the call's own, or 14
 // put_numbers                      width, height and offset in three lent numbers
 // pass_form_refusal                1 to 4, 17
 // enhance_form_refusal             1, 2, 3, 4, 14, 17
 ghost use mathlib.Core.Path.{_≡_};
-ghost use lib.IntN.{pos};
+ghost use Prim.Native.Nat.{_≤_};
 ghost use lib.ListN.{length};
 ghost use Rattle.planes.specs.Refusals.{_▷_};
 ghost use Rattle.planes.specs.Shapes.{lentRefusal};
 ghost use Rattle.tones.specs.Numbers.{formRefusal};
 ghost use Rattle.enhance.specs.Calls.{memoryRefusal};
-ghost use Rattle.cnumbers.specs.Numbers.{encoded, statusNumber, answerNumber, writtenNumber, Short};
+ghost use Rattle.cnumbers.specs.Numbers.{encoded, statusNumber, answerNumber, countsAfter, writtenNumber};
+ghost use Rattle.cnumbers.specs.Numbers.{Short};
 ghost use Rattle.cnumbers.specs.Numbers.{readNumber, numbersAfter};
 use colours::Status;
 use model::Answer;
+use model::Counts;
 use netpbm::Header;
 use netpbm::Written;
 use planes::Shape;
@@ -30,13 +34,6 @@ pub fn refused(k: u8) -> i64
     0 - k as i64
 }
 
-// A count as a number.
-fn counted(count: u32) -> i64
-    ensures { λ r. ⌜ r ≡ pos count ⌝ }
-{
-    count as i64
-}
-
 // The answer of intensity or recolouring as a number.
 pub fn status_number(status: Status) -> i64
     ensures { λ r. ⌜ r ≡ statusNumber status ⌝ }
@@ -47,14 +44,41 @@ pub fn status_number(status: Status) -> i64
     }
 }
 
-// The answer of a pass, a list or an enhancement as a number.
-pub fn answer_number(answer: Answer) -> i64
-    ensures { λ r. ⌜ r ≡ answerNumber answer ⌝ }
+// How many numbers both counts are.
+pub const COUNTS: usize = 2;
+
+// Stores both counts.
+fn store_counts(numbers: &mut [usize], counts: Counts)
+    requires { ⌜ 2 ≤ length (now numbers) ⌝ }
+    ensures { λ r. ⌜ now (numbers .exit) ≡ countsAfter (Answer.Done counts) (now (numbers .entry)) ⌝ }
+{
+    numbers[0] = counts.retoned as usize;
+    numbers[1] = counts.kept as usize;
+}
+
+// The answer of a pass, a list or an enhancement: both counts are stored and 0 is answered, or the refusal is.
+pub fn put_counts(numbers: &mut [usize], answer: Answer) -> i64
+    requires { ⌜ 2 ≤ length (now numbers) ⌝ }
+    ensures { λ r. ⌜ (r ≡ answerNumber answer)
+        × (now (numbers .exit) ≡ countsAfter answer (now (numbers .entry))) ⌝ }
 {
     match answer {
         Answer::Refused(k) => refused(k),
-        Answer::Done(count) => counted(count),
+        Answer::Done(counts) => {
+            store_counts(numbers, counts);
+            0
+        }
     }
+}
+
+// The answer of a call that is lent too few numbers for both counts: its own refusal, or 14.
+pub fn short_counts(refusal: u8) -> i64
+    ensures { λ r. ⌜ r ≡ encoded (refusal ▷ 14) 0 ⌝ }
+{
+    if refusal != 0 {
+        return refused(refusal);
+    }
+    refused(OUTPUT)
 }
 
 // Stores the numbers of a frame, or 14.

@@ -5,25 +5,26 @@
 use Prim.Native.Nat.{ℕ, zero, suc, _+_, _≤_, _<_}
 use mathlib.Core.Path.{_≡_, refl, sym, ap, ap₂, subst, _∙_}
 use mathlib.Core.Logic.{_⊎_, inl, inr}
-use mathlib.Core.Bool.{Bool, true, false, cond, _||_, true≢false, or-false}
+use mathlib.Core.Bool.{Bool, true, false, cond, _&&_, _||_, true≢false, or-false}
 use mathlib.Core.List.{List}
 use mathlib.Mathlib.Data.Bool.Basic.{or-inr}
 use native.Mathlib.Nat.{eq-or-lt-of-le, mul-mod-right}
 use native.Mathlib.Numerals.{add-one}
 use native.Mathlib.Omega.{arith}
 use lib.Dec.{eqb}
-use lib.ListN.{length, set, length-set}
-use lib.Seq.{getD-set-same, getD-set-other}
+use lib.ListN.{length, take, set, length-set}
+use lib.Seq.{getD-set-same, getD-set-other, length-take-le}
 use borrow.Author.Tests.{eq-eqb, ne-eqb}
-use Rattle.planes.specs.Lists.{at}
+use Rattle.planes.specs.Lists.{at, from}
 use Rattle.planes.specs.Neighbours.{Near, Chain, here, step}
 use Rattle.planes.specs.Enumerations.{among, Enumerates}
 use Rattle.planes.specs.Shapes.{pixels, Narrower}
 use Rattle.planes.specs.declared.Shape.{Shape}
 use Rattle.planes.proofs.Tests.{same-test, less-or-not}
+use Rattle.planes.proofs.Counts.{count-all, count-le, length-from}
 use Rattle.planes.proofs.Stores.{at-set}
 use Rattle.planes.proofs.Neighbours.{filled}
-use Rattle.planes.proofs.Enumerations.{among-at, among-place, entries-size}
+use Rattle.planes.proofs.Enumerations.{among-at, among-place, count-among, entries-size}
 use Rattle.rows.specs.Rows.{inRow, rowEnd, Width}
 use Rattle.rows.specs.Codes.{alike, Joined, Shut}
 use Rattle.rows.specs.Runs.{Room, Taken, none, one, Reached}
@@ -189,6 +190,20 @@ module _ {marks queue : List ℕ} {z : Shape} {inverse code start : ℕ}
         }
 
 -- ## One turn of the loop
+
+-- no more entries are in use than there are pixels
+pub few-entries : {near : Near} {w n code start head tail : ℕ} {marks₀ queue₀ marks queue : List ℕ}
+    → Flooding near w n code start marks₀ queue₀ marks queue head tail → tail ≤ n
+few-entries {n = n} {tail = tail} {queue = queue} F =
+    let fits : tail ≤ length queue = omega (arith, F .room .spare) in
+    omega (
+      arith,
+      length-take-le tail queue fits,
+      count-all (take tail queue),
+      count-among queue n tail (F .searched .below) (F .searched .fresh) fits (λ x. true),
+      count-le (λ z. among queue tail z && true) (from 0 n),
+      length-from 0 n,
+    )
 
 module _ {near : Near} {w n code start head tail : ℕ} {marks₀ queue₀ marks queue : List ℕ}
     (F : Flooding near w n code start marks₀ queue₀ marks queue head tail) (l : head < tail) where

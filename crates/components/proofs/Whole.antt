@@ -1,6 +1,6 @@
 -- A plane whose pixels all have one code is one component: the chain of neighbours from its first pixel to any other
--- has that code all along. So the pixels taken in reading order, one after the other, are that component. Assumes
--- nothing.
+-- has that code all along. So the pixels taken in reading order, one after the other, are that component, and their
+-- values are the plane itself. Assumes nothing.
 use Prim.Native.Nat.{ℕ, _+_, _≤_, _<_}
 use mathlib.Core.Path.{_≡_, refl, sym, ap, _∙_}
 use mathlib.Core.Logic.{inl, inr}
@@ -8,6 +8,7 @@ use mathlib.Core.Bool.{Bool, true, false, cond, _&&_}
 use mathlib.Core.List.{List}
 use native.Mathlib.Omega.{arith}
 use lib.ListN.{length, set, length-set}
+use lib.Seq.{ext-getD}
 use borrow.Author.Tests.{le-ltb}
 use Rattle.planes.specs.Lists.{at, Beyond}
 use Rattle.planes.specs.Neighbours.{Near, linked}
@@ -20,6 +21,8 @@ use Rattle.planes.proofs.Stores.{at-set}
 use Rattle.planes.proofs.Links.{chain-map}
 use Rattle.planes.proofs.Enumerations.{entries-size}
 use Rattle.planes.proofs.Shapes.{shape-chain}
+use Rattle.histograms.specs.Histograms.{values}
+use Rattle.histograms.proofs.Components.{values-size, values-at}
 use Rattle.rows.specs.Codes.{alike}
 use Rattle.rows.proofs.Codes.{alike-of}
 use Rattle.components.specs.Regions.{region}
@@ -93,6 +96,15 @@ module _ {n : ℕ} {marks queue marks' queue' : List ℕ} (T : PlaneTaken n mark
     | inl h ↦ rw (has p h) (T .off p h)
     | inr h ↦ rw (none p h) (T .marks-rest .rest p h)
   ]
+
+  -- the values of the pixels taken are the plane, in its own order
+  pub values-plane : {plane : List ℕ} → length plane ≡ n → values plane queue' n ≡ plane
+  values-plane {plane} e =
+      let fits : n ≤ length queue' = omega (arith, T .queue-rest .size) in
+      let size = values-size plane queue' n fits in
+      ext-getD 0 (values plane queue' n) plane (size ∙ sym e)
+      (λ k l. let below : k < n = omega arith in
+      values-at plane queue' n fits k below ∙ ap (at plane) (T .listed k below))
 
 -- where they all had one code, they are one component, flooded; m is their number
 pub plane-flooded : (z : Shape) (code : ℕ) {marks queue marks' queue' : List ℕ} → 1 ≤ z .w

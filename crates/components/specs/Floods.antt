@@ -6,17 +6,21 @@
 --   Spread         what is next to a pixel was taken until no neighbour was left
 --   Spreadable     what `spread` requires
 --   Floodable      what `flood` requires
---   Flooded        what `flood` does
+--   Flooded        what `flood` takes
+--   regionValues   the values of a component
+--   Gauged         what `flood` tells of them
 use Prim.Native.Nat.{ℕ, _+_, _≤_, _<_}
 use mathlib.Core.Path.{_≡_}
 use mathlib.Core.Bool.{true, cond}
-use mathlib.Core.List.{List}
+use mathlib.Core.List.{List, map}
 use lib.ListN.{length}
-use Rattle.planes.specs.Lists.{at, from, count}
+use Rattle.planes.specs.Lists.{at, from, keep, count}
 use Rattle.planes.specs.Neighbours.{Near}
 use Rattle.planes.specs.Enumerations.{Enumerates}
 use Rattle.planes.specs.Shapes.{pixels, SizedShape}
 use Rattle.planes.specs.declared.Shape.{Shape}
+use Rattle.histograms.specs.Histograms.{Measured, Tally}
+use Rattle.histograms.specs.declared.Measures.{Measures}
 use Rattle.rows.specs.Rows.{inRow, inverseOf}
 use Rattle.rows.specs.Codes.{Joined, Shut}
 use Rattle.rows.specs.Runs.{Room, Taken}
@@ -77,3 +81,14 @@ pub record Flooded (near : Near) (n code start : ℕ) (marks queue marks' queue'
   pub rest : (k : ℕ) → m ≤ k → at queue' k ≡ at queue k
   pub marks-length : length marks' ≡ length marks
   pub queue-length : length queue' ≡ length queue
+
+-- the values of the component of `start`, in reading order
+unfoldable pub regionValues : Near → ℕ → List ℕ → ℕ → ℕ → List ℕ → List ℕ
+regionValues near n marks code start plane = map (at plane) (keep (region near n marks code start) (from 0 n))
+
+-- what the flood tells of the component of `start`: its number of pixels, its least and greatest value, and the counts
+-- of its values
+pub record Gauged (near : Near) (n code start : ℕ) (plane marks : List ℕ) (c : Measures) (counts' : List ℕ) : Type 0
+  where
+    pub measured : Measured (regionValues near n marks code start plane) c
+    pub tally : Tally (regionValues near n marks code start plane) counts'

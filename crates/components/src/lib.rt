@@ -2,16 +2,22 @@
 // component.
 //
 // next_pixel   the first pixel from one on, in reading order, that has the code
-// flood        takes the component of a pixel: its marks become 0, and its pixels are the first entries of the queue
+// flood        takes the component of a pixel: its marks become 0, and its pixels are the first entries of the queue;
+//              tells its size, its least and its greatest value, and counts its values
 // take_plane   takes all pixels of a plane; where they have one code, they are one component: nothing is searched
 //
-// A pixel is taken with the run of its row. Which pixels of other rows are neighbours is known to `spread` alone.
-ghost use Prim.Native.Nat.{_≤_, _<_};
+// A pixel is taken with the run of its row, and its value is seen when the flood spreads from it. Which pixels of other
+// rows are neighbours is known to `spread` alone.
+ghost use Prim.Native.Nat.{_≤_, _<_, min, max};
 ghost use mathlib.Core.Path.{_≡_};
+ghost use mathlib.Core.List.{[]};
+ghost use lib.ListN.{length};
 ghost use Rattle.planes.specs.Shapes.{pixels, neighbours};
+ghost use Rattle.histograms.specs.Histograms.{Tally};
 ghost use Rattle.components.specs.Search.{Searchable, foundReply, NextPixel};
-ghost use Rattle.components.specs.Floods.{Above, Below, Spreadable, Spread, Floodable, Flooded};
+ghost use Rattle.components.specs.Floods.{Above, Below, Spreadable, Spread, Floodable, Flooded, Gauged};
 ghost use Rattle.components.specs.Whole.{Takeable, PlaneTaken};
+use histograms::Measures;
 use planes::Shape;
 
 // What a search finds.
@@ -84,27 +90,57 @@ fn spread(
     rows::reach(marks, queue, w, inverse, code, below(p, w, n), next)
 }
 
-// Takes the component of the pixel `start` among those that have the code, breadth first. The number of its pixels.
+// The lesser of two values.
+fn lesser(x: u8, y: u8) -> u8
+    ensures { λ r. ⌜ r ≡ min x y ⌝ }
+{
+    if x < y { x } else { y }
+}
+
+// The greater of two values.
+fn greater(x: u8, y: u8) -> u8
+    ensures { λ r. ⌜ r ≡ max x y ⌝ }
+{
+    if x < y { y } else { x }
+}
+
+// Takes the component of the pixel `start` among those that have the code, breadth first. The number of its pixels, and
+// its least and greatest value. Its values are counted; the counts are 0 before.
 pub fn flood(
+    plane: &[u8],
     marks: &mut [u8],
     queue: &mut [u32],
+    counts: &mut [u32; 256],
     shape: Shape,
     inverse: u64,
     code: u8,
     start: usize,
-) -> usize
-    requires { ⌜ Floodable (now marks) (now queue) shape inverse code start ⌝ }
+) -> Measures
+    requires { ⌜ Floodable (now marks) (now queue) shape inverse code start
+        × ((length (now plane) ≡ pixels shape) × Tally [] (now counts)) ⌝ }
     ensures { λ r. ⌜ Flooded (neighbours shape) (pixels shape) code start
-        (now (marks .entry)) (now (queue .entry)) (now (marks .exit)) (now (queue .exit)) r ⌝ }
+        (now (marks .entry)) (now (queue .entry)) (now (marks .exit)) (now (queue .exit)) (r .size)
+        × Gauged (neighbours shape) (pixels shape) code start (now (plane .entry)) (now (marks .entry))
+        r (now (counts .exit)) ⌝ }
 {
     let mut tail = rows::reach(marks, queue, shape.w, inverse, code, start, 0);
     let mut head = 0;
+    let mut least = plane[start];
+    let mut greatest = least;
     while head < tail {
         let p = queue[head] as usize;
         head += 1;
+        let v = plane[p];
+        counts[v as usize] += 1;
+        least = lesser(least, v);
+        greatest = greater(greatest, v);
         tail = spread(marks, queue, shape, inverse, code, p, tail);
     }
-    tail
+    Measures {
+        size: tail,
+        least,
+        greatest,
+    }
 }
 
 // Takes all pixels of the plane in reading order, whatever their marks are: the marks become 0, and entry k of the

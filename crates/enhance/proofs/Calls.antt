@@ -29,7 +29,9 @@ use Rattle.model.proofs.Recursion.{all-append}
 use Rattle.model.proofs.Enhancement as model
 use Rattle.levels.specs.declared.Settings.{Settings}
 use Rattle.levels.proofs.Refusals.{few-levels, some-area, settings-fit}
-use Rattle.branches.specs.Branches.{Ready, came}
+use Rattle.model.specs.declared.Counts.{Counts}
+use Rattle.model.specs.Outcomes.{came}
+use Rattle.branches.specs.Branches.{Ready}
 use Rattle.recursion.specs.Recursion.{RecursionOutcome}
 use Rattle.enhance.specs.Calls.{memoryRefusal, settingsRefusal, enhanceRefusal, chainOf, Enhances}
 use Rattle.enhance.specs.Calls.{enhanceCallRefusal}
@@ -121,7 +123,7 @@ pub fine-passes : {z : Shape} {frame plane marks queue output : ℕ} {t : Settin
 fine-passes {z} {t = t} F = all-passes z (F .ready .lent .size) (t .rule) (F .rule) (t .last) (t .area) (F .area)
 
 -- the recursion comes to what the chain of passes comes to
-as-listed : {z : Shape} {r frame plane marks queue output : ℕ} {t : Settings}
+as-listed : {z : Shape} {r : Counts} {frame plane marks queue output : ℕ} {t : Settings}
     {p marks₁ queue₁ p' marks' queue' : List ℕ} → Fine z frame plane marks queue output t → length p ≡ pixels z
     → RecursionOutcome z t p marks₁ queue₁ p' marks' queue' r
     → came p' r ≡ chainEffect (enhanced z p (t .last) (t .area) (t .rule))
@@ -144,7 +146,7 @@ chain-accepted z t frame plane marks queue output taken =
 -- ## Outcomes
 
 -- intensity, the recursion and recolouring, one after the other
-pub in-turn : {z : Shape} {r : ℕ} {t : Settings}
+pub in-turn : {z : Shape} {r : Counts} {t : Settings}
     {frame plane marks queue output plane₁ plane' marks' queue' output' : List ℕ} {first second : Reply}
     → Fine z (length frame) (length plane) (length marks) (length queue) (length output) t
     → length plane₁ ≡ length plane → length plane' ≡ length plane₁
@@ -164,8 +166,7 @@ in-turn {z} {r} {t} {frame} {plane} {output = output} {plane₁} {plane'} F len�
     let written = recolour-given (z .w) (z .h) frame plane' output accepts C .1 in
     record {
       over = record {
-        plane-is = plane-same;
-        count-is = ap (λ (e : Effect). e .retoned) same;
+        effect-is = same;
         marks-rest = R .rest .marks-rest;
         queue-rest = R .rest .queue-rest;
       };

@@ -4,20 +4,22 @@
 --   memoryRefusal    1, 2, 3, 4, 14, by the shape and by what is lent
 --   enhanceRefusal   the number of the first refusal that applies, of 1, 2, 3, 4, 14, 9, 6, 7, 8; 0 where none does
 --   chainOf          the chain of passes that an enhancement stands for, from the frame's intensity
+--   sufficientOf     the components of sufficient area that the passes of this chain find
 --   Enhances         an accepted enhancement
 --   EnhanceOutcome   the contract of `enhance`
 use Prim.Native.Nat.{ℕ, _*_}
 use mathlib.Core.Path.{_≡_}
-use mathlib.Core.List.{List}
+use mathlib.Core.List.{List, map}
 use lib.ListN.{length}
 use Rattle.planes.specs.Refusals.{_▷_, lengthRefusal, roomRefusal, outputRefusal}
 use Rattle.planes.specs.Replies.{Reply, overwritten}
 use Rattle.planes.specs.Shapes.{pixels, shapeRefusal}
 use Rattle.planes.specs.declared.Shape.{Shape}
 use Rattle.colours.specs.Frames.{intensity, recolour}
+use Rattle.model.specs.declared.Counts.{Counts}
 use Rattle.model.specs.Outcomes.{Over, OutputOutcome}
-use Rattle.model.specs.Calls.{State, chainEffect}
-use Rattle.model.specs.Enhancement.{enhanced}
+use Rattle.model.specs.Calls.{State, chainEffect, chainSufficient}
+use Rattle.model.specs.Enhancement.{passes, callOf, enhanced}
 pub use Rattle.levels.specs.declared.Settings.{Settings}
 pub use Rattle.levels.specs.Levels.{house}
 unfoldable pub use Rattle.levels.specs.Levels.{levelRefusal, settingsRefusal}
@@ -41,8 +43,14 @@ enhanceRefusal z frame plane marks queue output t =
 abbrev pub chainOf : Shape → Settings → List ℕ → State
 chainOf z t frame = enhanced z (intensity frame) (t .last) (t .area) (t .rule)
 
--- the plane and the sum of counts of the chain, and the output recoloured from its last plane; what lies beyond stays
-pub record Enhances (z : Shape) (t : Settings) (frame marks queue output : List ℕ) (r : ℕ)
+-- the number of components of sufficient area, summed over these passes, in the plane as each finds it
+abbrev pub sufficientOf : Shape → Settings → List ℕ → ℕ
+sufficientOf z t frame =
+    chainSufficient z (intensity frame) (map (callOf (pixels z)) (passes (t .last) (t .area) (t .rule)))
+
+-- the plane and the sums of both counts of the chain, and the output recoloured from its last plane; what lies beyond
+-- stays
+pub record Enhances (z : Shape) (t : Settings) (frame marks queue output : List ℕ) (r : Counts)
     (plane' marks' queue' output' : List ℕ) : Type 0 where
   pub over : Over (pixels z) (chainEffect (chainOf z t frame)) marks queue plane' marks' queue' r
   pub output-is : output' ≡ overwritten output (recolour frame (chainOf z t frame .plane))

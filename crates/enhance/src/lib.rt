@@ -9,6 +9,7 @@ ghost use Rattle.model.specs.Outcomes.{answerReply};
 ghost use Rattle.enhance.specs.Calls.{memoryRefusal, enhanceRefusal, Enhances, EnhanceOutcome};
 pub use levels::Settings;
 use model::Answer;
+use model::Counts;
 use planes::Shape;
 
 // The first of two refusals, or 0 where there is none.
@@ -59,8 +60,8 @@ fn refusal_of(
     first(memory, levels::settings_refusal(settings))
 }
 
-// The enhancement of a frame that is accepted. How many components were retoned. The answers of the calls on the frame
-// are not read: neither refuses what is accepted here.
+// The enhancement of a frame that is accepted. How many components were retoned and kept back. The answers of the calls
+// on the frame are not read: neither refuses what is accepted here.
 fn enhance_frame(
     frame: &[u8],
     shape: Shape,
@@ -69,7 +70,7 @@ fn enhance_frame(
     marks: &mut [u8],
     queue: &mut [u32],
     output: &mut [u8],
-) -> u32
+) -> Counts
     requires { ⌜ enhanceRefusal shape (length (now frame)) (length (now plane)) (length (now marks))
         (length (now queue)) (length (now output)) settings ≡ 0 ⌝ }
     ensures { λ r. ⌜ Enhances shape settings (now (frame .entry)) (now (marks .entry)) (now (queue .entry))
@@ -77,9 +78,9 @@ fn enhance_frame(
         ⌝ }
 {
     let _ = colours::intensity(frame, shape.w, shape.h, plane);
-    let count = recursion::run_levels(plane, marks, queue, shape, settings);
+    let counts = recursion::run_levels(plane, marks, queue, shape, settings);
     let _ = colours::recolour(frame, shape.w, shape.h, plane, output);
-    count
+    counts
 }
 
 // Enhances a frame of the shape, or answers the refusal that it meets with. The new intensity is left in the plane and

@@ -1,11 +1,9 @@
--- What counts say of every list of values that has them: how many values it has, its least and its greatest value; and
--- what is counted of a component. Assumes nothing.
+-- What measures and counts say of every list of values that has them: the sums of the counts, and that these never
+-- fall; and what is gathered of a component. Assumes nothing.
 use Prim.Native.Nat.{ℕ, _+_, _-_, _≤_, _<_}
-use mathlib.Core.Path.{_≡_, refl, sym, _∙_}
-use mathlib.Core.Logic.{⊎-elim}
+use mathlib.Core.Path.{_≡_, sym, _∙_}
 use mathlib.Core.Bool.{false}
 use mathlib.Core.List.{List}
-use native.Mathlib.Nat.{le-antisymm}
 use native.Mathlib.Omega.{arith}
 use lib.ListN.{length, take}
 use lib.Dec.{eqb, leb}
@@ -13,91 +11,56 @@ use borrow.Author.Tests.{ne-eqb}
 use Rattle.planes.specs.Lists.{from, count, at}
 use Rattle.planes.proofs.Counts.{count-map, count-same, count-none}
 use Rattle.planes.proofs.Enumerations.{count-indexes}
-use Rattle.planes.proofs.Tests.{less-or-not}
 use Rattle.histograms.specs.Values.{sumTo, greatest, least}
-use Rattle.histograms.specs.Histograms.{values, Component, Alike}
-use Rattle.histograms.specs.Histograms.{Tally, Inside, Histogram, Counted, Lowest, Highest}
+use Rattle.histograms.specs.Histograms.{values, Component, Alike, Gathered}
+use Rattle.histograms.specs.Histograms.{Inside, Histogram, Ranged, Counted}
 use Rattle.histograms.specs.Sums.{SummedInPlace, Sums}
-use Rattle.histograms.proofs.Components.{values-size}
+use Rattle.histograms.specs.declared.Measures.{Measures}
+use Rattle.histograms.proofs.Components.{values-size, values-at}
 use Rattle.histograms.proofs.Sums.{sum-same, sumTo-mono}
-use Rattle.histograms.proofs.Values.{In, in-inside, inside-all, inside-sum}
-use Rattle.histograms.proofs.Values.{least-le, least-in, greatest-ge, greatest-in}
+use Rattle.histograms.proofs.Values.{In, in-at, in-inside, inside-all, inside-sum}
+use Rattle.histograms.proofs.Values.{least-le, least-in, greatest-in}
+use Rattle.histograms.proofs.Measured.{measured-alike, tally-alike, alike-turned, measured-inside}
 
 -- ## Sums
 
-module _ {a b : ℕ} {vs counts : List ℕ} (h : Histogram a b vs counts) where
+module _ {vs counts : List ℕ} {c : Measures} (h : Histogram vs counts c) where
   -- the sum up to v is the number of values that are no greater than v
-  pub histogram-sum : (v : ℕ) → a ≤ v → v ≤ b → sumTo (at counts) a v ≡ count (λ x. leb x v) vs
-  histogram-sum v av vb =
-      sum-same (at counts) (λ u. count (eqb u) vs) a (v - a + 1) (λ u au uv. h .entry u au (omega arith))
-      ∙ inside-sum (h .inside) v av
+  pub histogram-sum : (v : ℕ) → c .least ≤ v → sumTo (at counts) (c .least) v ≡ count (λ x. leb x v) vs
+  histogram-sum v lv =
+      sum-same (at counts) (λ u. count (eqb u) vs) (c .least) (v - c .least + 1) (λ u _ _. h .tally .entry u)
+      ∙ inside-sum (measured-inside (h .measured)) v lv
 
-  pub histogram-size : {m : ℕ} → Counted counts m a b → m ≡ length vs
-  histogram-size c = sym (c .whole) ∙ histogram-sum b (c .order) (omega arith) ∙ inside-all (h .inside)
+  -- of sums made in place, the entry at v is c(v), the number of values that are no greater than v
+  pub summed-counts : {sums : List ℕ} → SummedInPlace (c .least) (c .greatest) counts sums
+      → (v : ℕ) → c .least ≤ v → v ≤ c .greatest → at sums v ≡ count (λ x. leb x v) vs
+  summed-counts s v lv vg = s .entry v lv vg ∙ histogram-sum v lv
 
--- sums made in place of a component's counts
-module _ {a b : ℕ} {vs counts sums : List ℕ} (h : Histogram a b vs counts) (s : SummedInPlace a b counts sums) where
-  -- the entry at v is c(v), the number of values that are no greater than v
-  pub summed-counts : (v : ℕ) → a ≤ v → v ≤ b → at sums v ≡ count (λ x. leb x v) vs
-  summed-counts v av vb = s .entry v av vb ∙ histogram-sum h v av vb
-
-  -- it is the sum of the counts of v and of all values below it: those below a are 0
-  pub summed-all : (v : ℕ) → a ≤ v → v ≤ b → at sums v ≡ sumTo (λ u. count (eqb u) vs) 0 v
-  summed-all v av vb =
-      let all : Inside 0 b vs = record { low = λ u below. absurd (omega arith); high = h .inside .high } in
-      summed-counts v av vb ∙ sym (inside-sum all v (omega arith))
+  -- it is the sum of the counts of v and of all values below it: those below the least are 0
+  pub summed-all : {sums : List ℕ} → SummedInPlace (c .least) (c .greatest) counts sums
+      → (v : ℕ) → c .least ≤ v → v ≤ c .greatest → at sums v ≡ sumTo (λ u. count (eqb u) vs) 0 v
+  summed-all s v lv vg =
+      let all : Inside 0 (c .greatest) vs = record {
+        low = λ u below. absurd (omega arith);
+        high = measured-inside (h .measured) .high;
+      } in
+      summed-counts s v lv vg ∙ sym (inside-sum all v (omega arith))
 
 -- sums of any terms never fall, and end at the sum of all: the terms may be counts, or counts clipped
-pub summed-rise : {counts sums : List ℕ} {most m a b : ℕ} (f : ℕ → ℕ) → Counted counts m a b
-    → ((v : ℕ) → a ≤ v → v ≤ b → at sums v ≡ sumTo f a v) → sumTo f a b ≤ most → Sums sums most m a b
-summed-rise {a = a} {b} f c entry top =
-    let last = entry b (c .order) (omega arith) in
+pub summed-rise : {sums : List ℕ} {c : Measures} {most a b : ℕ} (f : ℕ → ℕ) → Ranged c a b
+    → ((v : ℕ) → c .least ≤ v → v ≤ c .greatest → at sums v ≡ sumTo f (c .least) v)
+    → sumTo f (c .least) (c .greatest) ≤ most → Sums sums most c a b
+summed-rise {c = c} f range entry top =
+    let last = entry (c .greatest) (range .order) (omega arith) in
     record {
-      order = c .order;
-      some = c .some;
-      few = c .few;
-      rises = λ v av vb. omega (arith, entry v av vb, last, sumTo-mono f a vb);
+      range = range;
+      rises = λ v lv vg. omega (arith, entry v lv vg, last, sumTo-mono f (c .least) vg);
       top = omega (arith, last);
     }
 
--- ## The least and the greatest value
-
-module _ {m a b : ℕ} {vs counts : List ℕ} (c : Counted counts m a b) (h : Histogram a b vs counts) where
-  pub some-values : 1 ≤ length vs
-  some-values = omega (arith, c .some, histogram-size h c)
-
-  pub lowest-least : {r : ℕ} → Lowest counts a b r → r ≡ least vs
-  lowest-least {r} l =
-      let occurs : In r vs = λ z. l .here (h .entry r (l .from) (l .to) ∙ z) in
-      let low : least vs ≤ r = least-le r vs occurs in
-      let i : In (least vs) vs = least-in vs some-values in
-      let inside = in-inside (h .inside) i in
-      ⊎-elim
-      (λ (k : least vs < r). absurd (i (sym (h .entry _ (inside .0) (inside .1)) ∙ l .none _ (inside .0) k)))
-      (λ (k : r ≤ least vs). le-antisymm k low)
-      (less-or-not (least vs) r)
-
-  pub highest-greatest : {r : ℕ} → Highest counts a b r → r ≡ greatest vs
-  highest-greatest {r} l =
-      let occurs : In r vs = λ z. l .here (h .entry r (l .from) (l .to) ∙ z) in
-      let high : r ≤ greatest vs = greatest-ge r vs occurs in
-      let i : In (greatest vs) vs = greatest-in vs some-values in
-      let inside = in-inside (h .inside) i in
-      ⊎-elim
-      (λ (k : r < greatest vs). absurd (i (sym (h .entry _ (inside .0) (inside .1)) ∙ l .none _ k (inside .1))))
-      (λ (k : greatest vs ≤ r). le-antisymm high k)
-      (less-or-not r (greatest vs))
-
-pub low-high : {counts : List ℕ} {a b x y : ℕ} → Lowest counts a b x → Highest counts a b y → x ≤ y
-low-high {counts} {a} {b} {x} {y} l h = ⊎-elim
-    (λ (k : y < x). absurd (h .here (l .none y (h .from) k)))
-    (λ (k : x ≤ y). k)
-    (less-or-not y x)
-
 -- ## Components
 
-module _ {plane queue counts : List ℕ} {m a b : ℕ} (k : Component plane queue m a b)
-    (t : Tally a b (values plane queue m) counts) where
+module _ {plane queue : List ℕ} {m a b : ℕ} (k : Component plane queue m a b) where
   -- a value that no pixel of the component has does not occur
   absent : (v : ℕ) → ((i : ℕ) → i < m → v ≡ at plane (at queue i) → ⊥) → count (eqb v) (values plane queue m) ≡ 0
   absent v none =
@@ -106,25 +69,75 @@ module _ {plane queue counts : List ℕ} {m a b : ℕ} (k : Component plane queu
       ∙ count-same (λ i. eqb v (at plane (at queue i))) (λ i. false) m (λ i im. ne-eqb v _ (none i im))
       ∙ count-none (from 0 m)
 
-  -- the counts are those of every list that has the component's values
-  pub histogram-of : {vs : List ℕ} → Alike vs (values plane queue m) → Histogram a b vs counts
-  histogram-of s = record {
-    entry = λ v av vb. t .entry v av vb ∙ sym (s .same v);
-    inside = record {
-      low = λ v va. s .same v ∙ absent v (λ i im e. omega (arith, k .within i im));
-      high = λ v bv. s .same v ∙ absent v (λ i im e. omega (arith, k .within i im));
-    };
+  pub component-inside : Inside a b (values plane queue m)
+  component-inside = record {
+    low = λ v va. absent v (λ i im e. omega (arith, k .within i im));
+    high = λ v bv. absent v (λ i im e. omega (arith, k .within i im));
   }
 
-  pub counted-of : Counted counts m a b
-  counted-of =
-      let h = histogram-of {vs = values plane queue m} (record { same = λ v. refl; size = refl }) in
+  some-values : 1 ≤ length (values plane queue m)
+  some-values = omega (arith, k .some, values-size plane queue m (k .room))
+
+  -- each pixel's value occurs
+  occurs : (i : ℕ) → i < m → In (at plane (at queue i)) (values plane queue m)
+  occurs i im =
+      let size = values-size plane queue m (k .room) in
+      rw (values-at plane queue m (k .room) i im) at (in-at (values plane queue m) i (omega arith))
+
+module _ {plane queue counts : List ℕ} {c : Measures} {a b : ℕ} (g : Gathered plane queue counts c a b) where
+  -- every list that has the component's values has its measures and counts
+  pub histogram-of : {vs : List ℕ} → Alike vs (values plane queue (c .size)) → Histogram vs counts c
+  histogram-of s = record {
+    measured = measured-alike (some-values (g .component)) (alike-turned s) (g .measured);
+    tally = tally-alike (alike-turned s) (g .tally);
+  }
+
+  -- each pixel's value lies in [least, greatest]
+  pub gathered-within : (i : ℕ) → i < c .size
+      → (c .least ≤ at plane (at queue i)) × (at plane (at queue i) ≤ c .greatest)
+  gathered-within i im = in-inside (measured-inside (g .measured)) (occurs (g .component) i im)
+
+  -- and [least, greatest] in [a, b]
+  pub gathered-range : Ranged c a b
+  gathered-range =
+      let vs = values plane queue (c .size) in
+      let some = some-values (g .component) in
+      let low = in-inside (component-inside (g .component)) (least-in vs some) in
+      let high = in-inside (component-inside (g .component)) (greatest-in vs some) in
+      let order = least-le (greatest vs) vs (greatest-in vs some) in
       record {
-        size = t .size;
-        order = k .order;
-        some = k .some;
-        few = k .few;
-        whole = histogram-sum h b (k .order) (omega arith)
-            ∙ inside-all (h .inside)
-            ∙ values-size plane queue m (k .room);
+        from = omega (arith, g .measured .least-is);
+        order = omega (arith, g .measured .least-is, g .measured .greatest-is);
+        to = omega (arith, g .measured .greatest-is);
+        some = g .component .some;
+        few = g .component .few;
+      }
+
+  -- it is a component in [least, greatest]
+  pub gathered-own : Gathered plane queue counts c (c .least) (c .greatest)
+  gathered-own =
+      let k = g .component in
+      record {
+        component = record {
+          order = gathered-range .order;
+          some = k .some;
+          few = k .few;
+          room = k .room;
+          pixels = k .pixels;
+          once = k .once;
+          within = gathered-within;
+        };
+        measured = g .measured;
+        tally = g .tally;
+      }
+
+  pub gathered-counted : Counted counts c a b
+  gathered-counted =
+      let h : Histogram _ counts c = record { measured = g .measured; tally = g .tally } in
+      record {
+        size = g .tally .size;
+        range = gathered-range;
+        whole = histogram-sum h (c .greatest) (gathered-range .order)
+            ∙ inside-all (measured-inside (g .measured))
+            ∙ sym (g .measured .size);
       }

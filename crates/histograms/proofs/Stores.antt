@@ -1,21 +1,15 @@
--- What stores leave: entries filled one after another, sums made in place, and counts. The invariant of each loop has a
--- law for where it begins and one for a turn. Assumes nothing.
+-- What stores leave: entries filled one after another, and sums made in place. The invariant of each loop has a law for
+-- where it begins and one for a turn. Assumes nothing.
 use Prim.Native.Nat.{ℕ, _+_, _-_, _≤_, _<_}
 use mathlib.Core.Path.{_≡_, refl, sym, ap, _∙_}
-use mathlib.Core.Bool.{Bool, true, false, cond}
-use mathlib.Core.List.{List, [], _∷_, _++_, map-append}
-use native.Mathlib.Nat.{min-le-left}
+use mathlib.Core.List.{List}
 use native.Mathlib.Omega.{arith}
-use native.Mathlib.Numerals.{add-one}
-use lib.ListN.{length, set, take, length-set, length-map, length-take}
-use lib.Seq.{getD-set-other, take-suc}
-use lib.Dec.{eqb}
-use borrow.Author.Tests.{eq-eqb, ne-eqb}
-use Rattle.planes.specs.Lists.{count, at}
-use Rattle.planes.proofs.Counts.{count-le, count-snoc}
+use lib.ListN.{length, set, length-set}
+use lib.Seq.{getD-set-other}
+use Rattle.planes.specs.Lists.{at}
 use Rattle.planes.proofs.Stores.{at-set}
 use Rattle.histograms.specs.Values.{sumTo}
-use Rattle.histograms.specs.Histograms.{values, Outside, Tally, Refilled}
+use Rattle.histograms.specs.Histograms.{Outside, Refilled}
 use Rattle.histograms.specs.Sums.{SummedInPlace}
 use Rattle.histograms.proofs.Sums.{sumTo-first, sumTo-next}
 
@@ -79,51 +73,3 @@ summing-next {a} {v} {l} {l'} h av =
 -- all entries of [a, b] are sums
 pub summed-of : {a b : ℕ} {l l' : List ℕ} → Refilled (sumTo (at l) a) a (b + 1) l l' → SummedInPlace a b l l'
 summed-of h = record { entry = λ v av vb. h .new v av (omega arith); rest = refilled-outside h }
-
--- ## Counts
-
-one-more : (f : ℕ → Bool) (vs : List ℕ) (x : ℕ) → f x ≡ true → count f (vs ++ (x ∷ [])) ≡ count f vs + 1
-one-more f vs x e = omega (arith, count-snoc f vs x ∙ ap (λ t. cond t 1 0 + count f vs) e)
-
-no-more : (f : ℕ → Bool) (vs : List ℕ) (x : ℕ) → f x ≡ false → count f (vs ++ (x ∷ [])) ≡ count f vs
-no-more f vs x e = omega (arith, count-snoc f vs x ∙ ap (λ t. cond t 1 0 + count f vs) e)
-
-grow : {a b : ℕ} {vs counts : List ℕ} (x : ℕ) → Tally a b vs counts → a ≤ x → x ≤ b → x < 256
-    → Tally a b (vs ++ (x ∷ [])) (set counts x (at counts x + 1))
-grow {a} {b} {vs} {counts} x h ax xb small = record {
-  size = simp length-set (h .size);
-  entry = λ v av vb. at-set (λ n. n ≡ count (eqb v) (vs ++ (x ∷ []))) counts x v (at counts x + 1)
-      (omega (arith, h .size))
-      (λ (s : v ≡ x). omega (
-        arith,
-        h .entry x ax xb,
-        ap (λ u. count (eqb u) vs) s,
-        one-more (eqb v) vs x (eq-eqb v x s),
-      ))
-      (λ o. omega (arith, h .entry v av vb, no-more (eqb v) vs x (ne-eqb v x o)));
-}
-
-pub tally-none : {a b : ℕ} (plane queue : List ℕ) {counts : List ℕ} → length counts ≡ 256
-    → ((v : ℕ) → a ≤ v → v ≤ b → at counts v ≡ 0) → Tally a b (values plane queue 0) counts
-tally-none plane queue size zeros = record { size = size; entry = zeros }
-
-pub tally-more : (plane queue : List ℕ) (i : ℕ) {a b : ℕ} {counts : List ℕ} → Tally a b (values plane queue i) counts
-    → i < length queue → a ≤ at plane (at queue i) → at plane (at queue i) ≤ b → at plane (at queue i) < 256
-    → Tally a b (values plane queue (i + 1))
-    (set counts (at plane (at queue i)) (at counts (at plane (at queue i)) + 1))
-tally-more plane queue i h lt low high small =
-    let next : values plane queue (i + 1) ≡ values plane queue i ++ (at plane (at queue i) ∷ [])
-    = rw (add-one, take-suc queue i 0 lt, map-append) in
-    rw next (grow (at plane (at queue i)) h low high small)
-
--- no value occurs more often than there are entries
-pub tally-le : (plane queue : List ℕ) (i v : ℕ) {a b : ℕ} {counts : List ℕ} → Tally a b (values plane queue i) counts
-    → a ≤ v → v ≤ b → at counts v ≤ i
-tally-le plane queue i v h av vb = omega (
-  arith,
-  h .entry v av vb,
-  count-le (eqb v) (values plane queue i),
-  length-map (take i queue) (at plane),
-  length-take i queue,
-  min-le-left i (length queue),
-)

@@ -1,7 +1,6 @@
 -- Sums of terms: they grow with their number and with each term, and sums of counts are counts. Assumes nothing.
 use Prim.Native.Nat.{ℕ, zero, suc, _+_, _-_, _*_, _≤_, _<_}
 use mathlib.Core.Path.{_≡_, refl, ap, ap₂, _∙_}
-use mathlib.Core.Logic.{⊎-elim}
 use mathlib.Core.Bool.{Bool, true, false, cond}
 use mathlib.Core.List.{List, [], _∷_}
 use native.Mathlib.Nat.{le-refl, le-antisymm}
@@ -12,7 +11,6 @@ use lib.Dec.{leb, ltb, eqb}
 use borrow.Author.Tests.{ltb-true, ltb-false, lt-ltb, eqb-true, eqb-false, leb-true, le-leb}
 use Rattle.planes.specs.Lists.{count}
 use Rattle.planes.proofs.Counts.{count-cons, count-le, count-mono}
-use Rattle.planes.proofs.Tests.{eq-or-not}
 use Rattle.histograms.specs.Values.{sum, sumTo}
 
 pub sum-mono : (f : ℕ → ℕ) (i : ℕ) {n p : ℕ} → n ≤ p → sum f i n ≤ sum f i p
@@ -38,6 +36,16 @@ sum-none f i zero h = refl
 sum-none f i (suc n) h =
     omega (arith, sum-none f i n (λ v l u. h v l (omega arith)), h (i + n) (omega arith) (omega arith))
 
+-- n terms and p more
+sum-both : (f : ℕ → ℕ) (i n p : ℕ) → sum f i (n + p) ≡ sum f i n + sum f (i + n) p
+sum-both f i n zero =
+    let same : n + 0 ≡ n = omega arith in
+    omega (arith, ap (sum f i) same)
+sum-both f i n (suc p) =
+    let more : n + suc p ≡ suc (n + p) = omega arith in
+    let last : i + (n + p) ≡ i + n + p = omega arith in
+    omega (arith, ap (sum f i) more, sum-both f i n p, ap f last)
+
 -- ## Sums up to a term
 
 pub sumTo-first : (f : ℕ → ℕ) (a : ℕ) → sumTo f a a ≡ f a
@@ -61,20 +69,28 @@ term-le f {a} {v} {b} av vb =
     let last : a + (v - a) ≡ v = omega arith in
     omega (arith, ap f last, sum-mono f a {n = suc (v - a)} {p = b - a + 1} (omega arith))
 
--- where all other terms are 0, the last one is the sum
-pub sumTo-last : (f : ℕ → ℕ) {a v : ℕ} → a ≤ v → ((u : ℕ) → a ≤ u → u < v → f u ≡ 0) → sumTo f a v ≡ f v
-sumTo-last f {a} {v} av none =
-    let number : v - a + 1 ≡ suc (v - a) = omega arith in
-    let last : a + (v - a) ≡ v = omega arith in
-    omega (arith, ap (sum f a) number, sum-none f a (v - a) (λ u au uv. none u au (omega arith)), ap f last)
+-- terms that are 0 may go: those below x, and those above y
+pub sumTo-low : (f : ℕ → ℕ) {a x v : ℕ} → a ≤ x → x ≤ v → ((u : ℕ) → u < x → f u ≡ 0) → sumTo f a v ≡ sumTo f x v
+sumTo-low f {a} {x} {v} ax xv none =
+    let number : v - a + 1 ≡ (x - a) + (v - x + 1) = omega arith in
+    let start : a + (x - a) ≡ x = omega arith in
+    omega (
+      arith,
+      ap (sum f a) number,
+      sum-both f a (x - a) (v - x + 1),
+      sum-none f a (x - a) (λ u au ux. none u (omega arith)),
+      ap (λ e. sum f e (v - x + 1)) start,
+    )
 
--- where all terms but one are 0 and the sum is not, that one is not
-pub not-all-zero : (f : ℕ → ℕ) (a b r : ℕ) → a ≤ b → 1 ≤ sumTo f a b
-    → ((v : ℕ) → a ≤ v → v ≤ b → (v ≡ r → ⊥) → f v ≡ 0) → f r ≡ 0 → ⊥
-not-all-zero f a b r ab pos none z =
-    let all : sumTo f a b ≡ 0 = sum-none f a (b - a + 1) (λ v av vb.
-    ⊎-elim (λ (e : v ≡ r). ap f e ∙ z) (λ o. none v av (omega arith) o) (eq-or-not v r)) in
-    omega arith
+pub sumTo-high : (f : ℕ → ℕ) {a y b : ℕ} → a ≤ y → y ≤ b → ((u : ℕ) → y < u → f u ≡ 0) → sumTo f a b ≡ sumTo f a y
+sumTo-high f {a} {y} {b} ay yb none =
+    let number : b - a + 1 ≡ (y - a + 1) + (b - y) = omega arith in
+    omega (
+      arith,
+      ap (sum f a) number,
+      sum-both f a (y - a + 1) (b - y),
+      sum-none f (a + (y - a + 1)) (b - y) (λ u yu ub. none u (omega arith)),
+    )
 
 -- ## Sums of counts
 

@@ -5,12 +5,13 @@ use mathlib.Core.Path.{_≡_, refl, sym, ap, ap₂, _∙_}
 use mathlib.Core.Logic.{_⊎_, inl, inr, ⊎-elim}
 use mathlib.Core.Bool.{Bool, true, false, cond}
 use mathlib.Core.List.{List, [], _∷_, map}
-use native.Mathlib.Nat.{le-of-lt, min-eq-left, min-eq-right, max-eq-left, max-eq-right, max-zero}
+use native.Mathlib.Nat.{le-of-lt, not-suc-le-zero, le-of-suc-le-suc}
+use native.Mathlib.Nat.{min-eq-left, min-eq-right, max-eq-left, max-eq-right, max-zero}
 use native.Mathlib.Omega.{arith}
 use lib.ListN.{length}
 use lib.Dec.{eqb, ltb, leb}
 use borrow.Author.Tests.{eqb-true, eq-eqb, le-leb, le-ltb}
-use Rattle.planes.specs.Lists.{count}
+use Rattle.planes.specs.Lists.{count, at}
 use Rattle.planes.proofs.Counts.{count-cons}
 use Rattle.planes.proofs.Tests.{less-or-not}
 use Rattle.histograms.specs.Values.{sumTo, greatest, least, spread}
@@ -38,6 +39,12 @@ in-cases v x xs h = go (eqb v x) refl
     go : (t : Bool) → eqb v x ≡ t → (v ≡ x) ⊎ In v xs
     go true e = inl (eqb-true v x e)
     go false e = inr (λ z. h (omega (arith, count-cons (eqb v) x xs, ap one e)))
+
+-- each entry occurs
+pub in-at : (vs : List ℕ) (i : ℕ) → i < length vs → In (at vs i) vs
+in-at [] i h = absurd (not-suc-le-zero h)
+in-at (x ∷ xs) zero h = in-head x xs
+in-at (x ∷ xs) (suc i) h = in-tail (at xs i) x xs (in-at xs i (le-of-suc-le-suc h))
 
 -- a value that occurs in a list that lies in [a, b] lies there
 pub in-inside : {a b v : ℕ} {vs : List ℕ} → Inside a b vs → In v vs → (a ≤ v) × (v ≤ b)

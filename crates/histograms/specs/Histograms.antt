@@ -1,4 +1,4 @@
--- Components as the first entries of a queue, and their counts. Definitions only.
+-- Components as the first entries of a queue, their measures and their counts. Definitions only.
 --
 -- For callers:
 --   values                  the values of a component's pixels, in the queue's order
@@ -6,22 +6,25 @@
 --   Pixels                  the queue's first m entries are pixels of the plane
 --   Component               the queue's first m entries are pixels of the plane, each once, with values in [a, b]
 --   Alike                   two lists have the same values, perhaps in another order
+--   Measured                the number of some values, the least and the greatest of them
+--   Tally                   256 counts, each that of its value
+--   Gathered                a component that is measured, and whose values are counted
 --   Outside                 a list keeps its length and its entries that are not of [a, b]
 --   Confined                counts and table do
--- For the rules:
---   Tally                   256 counts, and those of [a, b] are a list's
---   Inside                  all values of a list lie in [a, b]
---   Histogram               the counts of [a, b], by the list of values
---   Counted                 the counts of [a, b] of some m pixels
---   Lowest, Highest         the least and the greatest value that occurs
 --   Refilled                an array with new entries from a on, and what they are
+-- For the rules:
+--   Inside                  all values of a list lie in [a, b]
+--   Histogram               some values, measured and counted
+--   Ranged                  measures of a component in [a, b]
+--   Counted                 counts that add up to the number of pixels
 use Prim.Native.Nat.{ℕ, _≤_, _<_}
 use mathlib.Core.Path.{_≡_}
 use mathlib.Core.List.{List, map}
 use lib.ListN.{length, take}
 use lib.Dec.{eqb}
 use Rattle.planes.specs.Lists.{count, at}
-use Rattle.histograms.specs.Values.{sumTo}
+use Rattle.histograms.specs.Values.{sumTo, greatest, least}
+use Rattle.histograms.specs.declared.Measures.{Measures}
 
 -- ## Components
 
@@ -50,6 +53,25 @@ pub record Alike (vs ws : List ℕ) : Type 0 where
   pub same : (v : ℕ) → count (eqb v) vs ≡ count (eqb v) ws
   pub size : length vs ≡ length ws
 
+-- ## Measures and counts
+
+-- the number of some values, the least and the greatest of them
+pub record Measured (vs : List ℕ) (c : Measures) : Type 0 where
+  pub size : c .size ≡ length vs
+  pub least-is : c .least ≡ least vs
+  pub greatest-is : c .greatest ≡ greatest vs
+
+-- 256 counts, each that of its value; of no values, all are 0
+pub record Tally (vs counts : List ℕ) : Type 0 where
+  pub size : length counts ≡ 256
+  pub entry : (v : ℕ) → at counts v ≡ count (eqb v) vs
+
+-- a component in [a, b] that is measured, and whose values are counted
+pub record Gathered (plane queue counts : List ℕ) (c : Measures) (a b : ℕ) : Type 0 where
+  pub component : Component plane queue (c .size) a b
+  pub measured : Measured (values plane queue (c .size)) c
+  pub tally : Tally (values plane queue (c .size)) counts
+
 -- ## What stays
 
 -- the length, and the entries that are not of [a, b], are as they were
@@ -61,45 +83,33 @@ pub record Confined (a b : ℕ) (counts table counts' table' : List ℕ) : Type 
   pub counts-rest : Outside a b counts counts'
   pub table-rest : Outside a b table table'
 
--- ## Counts
-
--- of 256 entries, each of [a, b] is the count of its value
-pub record Tally (a b : ℕ) (vs counts : List ℕ) : Type 0 where
-  pub size : length counts ≡ 256
-  pub entry : (v : ℕ) → a ≤ v → v ≤ b → at counts v ≡ count (eqb v) vs
-
-pub record Inside (a b : ℕ) (vs : List ℕ) : Type 0 where
-  pub low : (v : ℕ) → v < a → count (eqb v) vs ≡ 0
-  pub high : (v : ℕ) → b < v → count (eqb v) vs ≡ 0
-
--- the entries of [a, b] are the counts of the values vs, which all lie there
-pub record Histogram (a b : ℕ) (vs counts : List ℕ) : Type 0 where
-  pub entry : (v : ℕ) → a ≤ v → v ≤ b → at counts v ≡ count (eqb v) vs
-  pub inside : Inside a b vs
-
--- of 256 entries, those of [a, b] add up to m, which is neither 0 nor too large
-pub record Counted (counts : List ℕ) (m a b : ℕ) : Type 0 where
-  pub size : length counts ≡ 256
-  pub order : a ≤ b
-  pub some : 1 ≤ m
-  pub few : m ≤ 1048576
-  pub whole : sumTo (at counts) a b ≡ m
-
--- r is the least value of [a, b] that occurs, and the greatest
-pub record Lowest (counts : List ℕ) (a b r : ℕ) : Type 0 where
-  pub from : a ≤ r
-  pub to : r ≤ b
-  pub here : at counts r ≡ 0 → ⊥
-  pub none : (v : ℕ) → a ≤ v → v < r → at counts v ≡ 0
-
-pub record Highest (counts : List ℕ) (a b r : ℕ) : Type 0 where
-  pub from : a ≤ r
-  pub to : r ≤ b
-  pub here : at counts r ≡ 0 → ⊥
-  pub none : (v : ℕ) → r < v → v ≤ b → at counts v ≡ 0
-
 -- the entries from a up to, and not including, e are those of f; the others are as they were
 pub record Refilled (f : ℕ → ℕ) (a e : ℕ) (l l' : List ℕ) : Type 0 where
   pub size : length l' ≡ length l
   pub new : (v : ℕ) → a ≤ v → v < e → at l' v ≡ f v
   pub old : (v : ℕ) → (a ≤ v → v < e → ⊥) → at l' v ≡ at l v
+
+-- ## What a rule goes by
+
+pub record Inside (a b : ℕ) (vs : List ℕ) : Type 0 where
+  pub low : (v : ℕ) → v < a → count (eqb v) vs ≡ 0
+  pub high : (v : ℕ) → b < v → count (eqb v) vs ≡ 0
+
+-- some values, measured and counted
+pub record Histogram (vs counts : List ℕ) (c : Measures) : Type 0 where
+  pub measured : Measured vs c
+  pub tally : Tally vs counts
+
+-- [least, greatest] lies in [a, b]; the number of pixels is neither 0 nor too large
+pub record Ranged (c : Measures) (a b : ℕ) : Type 0 where
+  pub from : a ≤ c .least
+  pub order : c .least ≤ c .greatest
+  pub to : c .greatest ≤ b
+  pub some : 1 ≤ c .size
+  pub few : c .size ≤ 1048576
+
+-- of 256 entries, those of [least, greatest], which lies in [a, b], add up to the number of pixels
+pub record Counted (counts : List ℕ) (c : Measures) (a b : ℕ) : Type 0 where
+  pub size : length counts ≡ 256
+  pub range : Ranged c a b
+  pub whole : sumTo (at counts) (c .least) (c .greatest) ≡ c .size

@@ -7,19 +7,17 @@ use mathlib.Core.Path.{_≡_}
 use mathlib.Core.List.{List}
 use Rattle.planes.specs.Lists.{at}
 use Rattle.histograms.specs.Values.{sumTo}
-use Rattle.histograms.specs.Histograms.{Outside}
+use Rattle.histograms.specs.Histograms.{Outside, Ranged}
+use Rattle.histograms.specs.declared.Measures.{Measures}
 
--- After the summing in place, each entry holds the sum of what it and the entries below it held before. The entries are
--- those of [a, b], where all pixels of the component are counted; what stands outside is no count of it, so that it is
--- in no sum and stays.
+-- After the summing in place, each entry of [a, b] holds the sum of what it and the entries of [a, b] below it held
+-- before. What stands outside is in no sum and stays.
 pub record SummedInPlace (a b : ℕ) (before after : List ℕ) : Type 0 where
   pub entry : (v : ℕ) → a ≤ v → v ≤ b → at after v ≡ sumTo (at before) a v
   pub rest : Outside a b before after
 
--- in [a, b], no entry is above that at b, which is no more than `most`; there are m pixels
-pub record Sums (sums : List ℕ) (most m a b : ℕ) : Type 0 where
-  pub order : a ≤ b
-  pub some : 1 ≤ m
-  pub few : m ≤ 1048576
-  pub rises : (v : ℕ) → a ≤ v → v ≤ b → at sums v ≤ at sums b
-  pub top : at sums b ≤ most
+-- in [least, greatest], which lies in [a, b], no entry is above the last, which is no more than `most`
+pub record Sums (sums : List ℕ) (most : ℕ) (c : Measures) (a b : ℕ) : Type 0 where
+  pub range : Ranged c a b
+  pub rises : (v : ℕ) → c .least ≤ v → v ≤ c .greatest → at sums v ≤ at sums (c .greatest)
+  pub top : at sums (c .greatest) ≤ most

@@ -1,50 +1,106 @@
-// Counts of the values of a component, whose pixels the first m entries of a queue name; their sums; and the one
-// rounding that all tone rules share.
+// Measures and counts of values, of a component or of a plane; sums of counts; and the one rounding that all tone rules
+// share.
 //
-// histogram         count the values
-// sum_up            sums of counts, in place
-// lowest, highest   the least and the greatest value that occurs
-// scale             a part of b - a, rounded
-// clear, nearest    within
+// Measures                              how many values, the least and the greatest of them
+// measure, histogram                    the measures and the counts of a plane
+// clear                                 counts of a component, zeroed
+// sum_up                                sums of counts, in place
+// scale                                 a part of b - a, rounded
+// lesser, greater, zero_range, nearest  within
 //
-// Counts are lent, with any content, and only those of [a, b] are read or written. What clears takes a slice, for an
-// array that is lent as a slice is known to have all its entries.
+// Counts are lent all 0, and cleared after use: those of the values of [least, greatest], for those of all others stay
+// 0. What clears takes a slice, for an array that is lent as a slice is known to have all its entries.
 ghost use mathlib.Core.Path.{_≡_};
-ghost use Prim.Native.Nat.{_+_, _^_, _≤_, _<_};
+ghost use mathlib.Core.List.{[]};
+ghost use Prim.Native.Nat.{_+_, _^_, _≤_, _<_, min, max};
 ghost use lib.ListN.{length};
 ghost use Rattle.planes.specs.Lists.{at};
 ghost use Rattle.planes.specs.Rounding.{rounded};
 ghost use Rattle.histograms.specs.Values.{sumTo, scaled};
-ghost use Rattle.histograms.specs.Histograms.{values, Component, Outside, Tally, Lowest, Highest, Refilled};
+ghost use Rattle.histograms.specs.Histograms.{Measured, Tally, Refilled};
 ghost use Rattle.histograms.specs.Sums.{SummedInPlace};
 
-// Zeroes the counts of the values of [a, b].
-fn clear(counts: &mut [u32], a: u8, b: u8)
-    requires { ⌜ (a ≤ b) × (b < length (now counts)) ⌝ }
-    ensures { λ r. ⌜ Refilled (λ v. 0) a (b + 1) (now (counts .entry)) (now (counts .exit)) ⌝ }
+// What is known of a component: the number of its pixels, its least and its greatest value.
+pub struct Measures {
+    pub size: usize,
+    pub least: u8,
+    pub greatest: u8,
+}
+
+// The lesser of two values.
+fn lesser(x: u8, y: u8) -> u8
+    ensures { λ r. ⌜ r ≡ min x y ⌝ }
 {
-    let last = b as usize;
-    let mut v = a as usize;
+    if x < y { x } else { y }
+}
+
+// The greater of two values.
+fn greater(x: u8, y: u8) -> u8
+    ensures { λ r. ⌜ r ≡ max x y ⌝ }
+{
+    if x < y { y } else { x }
+}
+
+// The measures of all values of a plane.
+pub fn measure(plane: &[u8]) -> Measures
+    requires { ⌜ (1 ≤ length (now plane)) × (length (now plane) ≤ 1048576) ⌝ }
+    ensures { λ r. ⌜ Measured (now (plane .entry)) r ⌝ }
+{
+    let size = plane.len();
+    let mut least = plane[0];
+    let mut greatest = least;
+    let mut i = 1;
+    while i < size {
+        let v = plane[i];
+        least = lesser(least, v);
+        greatest = greater(greatest, v);
+        i += 1;
+    }
+    Measures {
+        size,
+        least,
+        greatest,
+    }
+}
+
+// Counts all values of a plane, in reading order. The counts are 0 before.
+pub fn histogram(plane: &[u8], counts: &mut [u32; 256])
+    requires { ⌜ Tally [] (now counts) × (length (now plane) ≤ 1048576) ⌝ }
+    ensures { λ r. ⌜ Tally (now (plane .entry)) (now (counts .exit)) ⌝ }
+{
+    let n = plane.len();
+    let mut i = 0;
+    while i < n {
+        let v = plane[i] as usize;
+        counts[v] += 1;
+        i += 1;
+    }
+}
+
+// Zeroes the counts from first to last.
+fn zero_range(counts: &mut [u32], first: usize, last: usize)
+    requires { ⌜ (first ≤ last) × (last < length (now counts)) ⌝ }
+    ensures { λ r. ⌜ Refilled (λ v. 0) first (last + 1) (now (counts .entry)) (now (counts .exit)) ⌝ }
+{
+    let mut v = first;
     while v <= last {
         counts[v] = 0;
         v += 1;
     }
 }
 
-// Counts the values of a component, which are of [a, b].
-pub fn histogram(plane: &[u8], queue: &[u32], m: usize, counts: &mut [u32; 256], a: u8, b: u8)
-    requires { ⌜ Component (now plane) (now queue) m a b ⌝ }
-    ensures { λ r. ⌜ Tally a b (values (now (plane .entry)) (now (queue .entry)) m) (now (counts .exit))
-        × Outside a b (now (counts .entry)) (now (counts .exit)) ⌝ }
+// Zeroes the counts of the values of [least, greatest], which is often one value.
+pub fn clear(counts: &mut [u32], c: Measures)
+    requires { ⌜ (c .least ≤ c .greatest) × (c .greatest < length (now counts)) ⌝ }
+    ensures { λ r. ⌜ Refilled (λ v. 0) (c .least) (c .greatest + 1) (now (counts .entry)) (now (counts .exit)) ⌝ }
 {
-    clear(counts, a, b);
-    let mut i = 0;
-    while i < m {
-        let p = queue[i] as usize;
-        let v = plane[p] as usize;
-        counts[v] += 1;
-        i += 1;
+    let first = c.least as usize;
+    let last = c.greatest as usize;
+    if first == last {
+        counts[first] = 0;
+        return;
     }
+    zero_range(counts, first, last);
 }
 
 // Sums the counts of the values of [a, b], in place.
@@ -58,38 +114,6 @@ pub fn sum_up(counts: &mut [u32; 256], a: u8, b: u8)
         counts[v] += counts[v - 1];
         v += 1;
     }
-}
-
-// The least value of [a, b] that occurs.
-pub fn lowest(counts: &[u32; 256], a: u8, b: u8) -> usize
-    requires { ⌜ (a ≤ b) × (1 ≤ sumTo (at (now counts)) a b) ⌝ }
-    ensures { λ r. ⌜ Lowest (now (counts .entry)) a b r ⌝ }
-{
-    let last = b as usize;
-    let mut v = a as usize;
-    while v < last {
-        if counts[v] != 0 {
-            return v;
-        }
-        v += 1;
-    }
-    v
-}
-
-// The greatest value of [a, b] that occurs.
-pub fn highest(counts: &[u32; 256], a: u8, b: u8) -> usize
-    requires { ⌜ (a ≤ b) × (1 ≤ sumTo (at (now counts)) a b) ⌝ }
-    ensures { λ r. ⌜ Highest (now (counts .entry)) a b r ⌝ }
-{
-    let first = a as usize;
-    let mut v = b as usize;
-    while first < v {
-        if counts[v] != 0 {
-            return v;
-        }
-        v -= 1;
-    }
-    v
 }
 
 // x / y to nearest, halves upward.

@@ -9,7 +9,7 @@ use lib.Pow.{pow-pos}
 use lib.Count.{trailingZeros}
 use Rattle.planes.specs.Lists.{at}
 use Rattle.model.proofs.Recursion.{double}
-use Rattle.levels.specs.Levels.{Wide, Deeper}
+use Rattle.levels.specs.Levels.{Wide, Below, Deeper}
 
 -- ## Powers of two
 
@@ -57,24 +57,44 @@ module _ {last a b d k : ℕ} (W : Wide last a b (suc d) k) where
     lowest = W .lowest;
   }
 
--- ## The tests of `deeper`
+-- ## Levels below
 
-pub deeper-yes : {a b last : ℕ} (l : ℕ) → a ≤ b → last ≤ 7
-    → ((k : ℕ) → k ≤ 8 → (b - a) + 1 ≡ 2 ^ k → l ≡ 8 - k) → l < last → Deeper a b last true
-deeper-yes {a} {b} {last} l ab small at-level h = record {
-  some = λ _. go (b - a) refl;
-  yes = λ _ d k W. omega (arith, at-level (d + k) (W .few) (omega (arith, W .width)), W .few, W .lowest);
-  none = λ e. absurd (true≢false e);
-}
-  where
-    go : (x : ℕ) → b - a ≡ x → a < b
-    go zero e = let z : l ≡ 8 - 0 = at-level 0 (omega arith) (omega arith) in absurd (omega arith)
-    go (suc x) e = omega arith
+-- l is the level of a section, by its width
+module _ {a b last l : ℕ} (ab : a ≤ b) (small : last ≤ 7)
+    (at-level : (k : ℕ) → k ≤ 8 → (b - a) + 1 ≡ 2 ^ k → l ≡ 8 - k) where
+  pub below-some : l < last → Below a b last (last - l)
+  below-some h = record {
+    exact = λ d k W. omega (arith, at-level (d + k) (W .few) (omega (arith, W .width)), W .few, W .lowest);
+    some = λ _. go (b - a) refl;
+    few = omega arith;
+  }
+    where
+      go : (x : ℕ) → b - a ≡ x → a < b
+      go zero e = let z : l ≡ 8 - 0 = at-level 0 (omega arith) (omega arith) in absurd (omega arith)
+      go (suc x) e = omega arith
 
-pub deeper-no : {a b last : ℕ} (l : ℕ) → a ≤ b
-    → ((k : ℕ) → k ≤ 8 → (b - a) + 1 ≡ 2 ^ k → l ≡ 8 - k) → last ≤ l → Deeper a b last false
-deeper-no l ab at-level h = record {
-  some = λ e. absurd (false≢true e);
-  yes = λ e. absurd (false≢true e);
-  none = λ _ d k W. omega (arith, at-level (d + k) (W .few) (omega (arith, W .width)), W .few, W .lowest);
-}
+  pub below-none : last ≤ l → Below a b last 0
+  below-none h = record {
+    exact = λ d k W. omega (arith, at-level (d + k) (W .few) (omega (arith, W .width)), W .few, W .lowest);
+    some = λ e. absurd (omega arith);
+    few = omega arith;
+  }
+
+module _ {a b last r : ℕ} (B : Below a b last r) where
+  pub deeper-yes : (r ≡ 0 → ⊥) → Deeper a b last true
+  deeper-yes f = record {
+    some = λ _. B .some (positive r f);
+    yes = λ _ d k W. omega (arith, B .exact d k W, positive r f);
+    none = λ e. absurd (true≢false e);
+  }
+    where
+      positive : (x : ℕ) → (x ≡ 0 → ⊥) → 0 < x
+      positive zero f = absurd (f refl)
+      positive (suc x) f = omega arith
+
+  pub deeper-no : r ≡ 0 → Deeper a b last false
+  deeper-no e = record {
+    some = λ f. absurd (false≢true f);
+    yes = λ f. absurd (false≢true f);
+    none = λ _ d k W. omega (arith, B .exact d k W);
+  }

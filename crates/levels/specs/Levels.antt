@@ -6,6 +6,7 @@
 --   levelRefusal     9, by the last level
 --   settingsRefusal  9, 6, 7, 8, by the settings
 --   Wide             a section's width is a power of two, and so is the last level's
+--   Below            how many levels there are below a section's own
 --   Deeper           whether a section is split
 --   NextIs           the numbers of a section's halves
 --   Numbered         a section has its number, and its branch its interval of numbers
@@ -43,6 +44,12 @@ pub record Wide (last a b d k : ℕ) : Type 0 where
   pub width : b + 1 ≡ a + 2 ^ (d + k)
   pub few : d + k ≤ 8
   pub lowest : last + k ≡ 8
+
+-- the number r of levels below that of the section [a, b], down to the last; a section of one value has none
+pub record Below (a b last r : ℕ) : Type 0 where
+  pub exact : (d k : ℕ) → Wide last a b d k → r ≡ d
+  pub some : 0 < r → a < b
+  pub few : r ≤ 7
 
 -- whether the section [a, b] is split
 pub record Deeper (a b last : ℕ) (r : Bool) : Type 0 where

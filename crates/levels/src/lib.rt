@@ -3,13 +3,14 @@
 //
 // Settings           the last level, the least area and the tone rule, with the house setting
 // settings_refusal   refusals 9, 6, 7, 8 for settings, or 0
+// below              how many levels there are below a section's own
 // deeper             whether a section has halves
 // next_of            the numbers of a section's halves
 // sections           how many sections there are
 ghost use mathlib.Core.Path.{_≡_};
 ghost use mathlib.Core.Bool.{true};
 ghost use Prim.Native.Nat.{ℕ, _+_, _-_, _^_, _≤_};
-ghost use Rattle.levels.specs.Levels.{house, levelRefusal, settingsRefusal, Deeper, NextIs};
+ghost use Rattle.levels.specs.Levels.{house, levelRefusal, settingsRefusal, Below, Deeper, NextIs};
 use painting::Next;
 use planes::refused;
 use tones::Rule;
@@ -85,17 +86,28 @@ fn level(width: u32) -> u32
     if e <= 8 { 8 - e } else { 0 }
 }
 
-// Whether the level of the section [a, b] is less than the last.
-pub fn deeper(a: u8, b: u8, last: u8) -> bool
+// How many levels there are below that of the section [a, b], down to the last.
+pub fn below(a: u8, b: u8, last: u8) -> u32
     requires { ⌜ (a ≤ b) × (last ≤ 7) ⌝ }
-    ensures { λ r. ⌜ Deeper a b last r ⌝ }
+    ensures { λ r. ⌜ Below a b last r ⌝ }
 {
     let width = (b - a) as u32 + 1;
     let l = level(width);
     if l < last as u32 {
-        return true;
+        return last as u32 - l;
     }
-    false
+    0
+}
+
+// Whether there is a level below that of the section [a, b].
+pub fn deeper(a: u8, b: u8, last: u8) -> bool
+    requires { ⌜ (a ≤ b) × (last ≤ 7) ⌝ }
+    ensures { λ r. ⌜ Deeper a b last r ⌝ }
+{
+    if below(a, b, last) == 0 {
+        return false;
+    }
+    true
 }
 
 // The numbers of the halves of a section that has some, else 0. `mid` is the lower half's greatest value.

@@ -1,32 +1,36 @@
--- What counts say of the limited rule: sums of clipped counts, for every list of values that has the counts, and so the
--- table of a component. Assumes nothing.
+-- What measures and counts say of the limited rule: sums of clipped counts, for every list of values that has them, and
+-- so the table of a component. The counts are summed from the least value to the greatest; those of all other values
+-- are 0, so that the sums are those over [a, b]. Assumes nothing.
 use Prim.Native.Nat.{ℕ, _+_, _-_, _*_, _≤_, min}
-use mathlib.Core.Path.{_≡_, refl, ap, ap₂, _∙_}
+use mathlib.Core.Path.{_≡_, refl, sym, ap, ap₂, _∙_}
 use mathlib.Core.Bool.{true}
 use mathlib.Core.List.{List}
 use native.Mathlib.Nat.{min-le-left}
 use native.Mathlib.Omega.{arith}
-use Rattle.planes.specs.Lists.{at}
+use lib.Dec.{eqb}
+use Rattle.planes.specs.Lists.{count, at}
 use Rattle.histograms.specs.Values.{sumTo}
 use Rattle.limited.specs.Limited.{clipped, limitedTone, neverKept, limitedBy}
 use Rattle.limited.specs.Limited.{clippedAt, ClippedSums, Filled}
-use Rattle.histograms.specs.Histograms.{values, Component, Tally, Histogram, Counted, Refilled}
+use Rattle.histograms.specs.Histograms.{Gathered, Refilled, Histogram, Ranged, Counted}
 use Rattle.histograms.specs.Sums.{SummedInPlace, Sums}
 use Rattle.histograms.specs.Tables.{RuleTables}
-use Rattle.histograms.proofs.Sums.{sum-le, sum-same, sum-thousand}
+use Rattle.histograms.specs.declared.Measures.{Measures}
+use Rattle.histograms.proofs.Sums.{sum-le, sum-same, sum-thousand, sumTo-low, sumTo-high}
 use Rattle.histograms.proofs.Stores.{outside-both, refilled-outside}
-use Rattle.histograms.proofs.Histograms.{summed-rise, histogram-size, histogram-of, counted-of}
+use Rattle.histograms.proofs.Measured.{measured-inside}
+use Rattle.histograms.proofs.Histograms.{summed-rise, histogram-of, gathered-range, gathered-within}
 
 -- ## Sums of clipped counts
 
 -- clipped counts are no more than 1000 for each pixel
-pub clips-le : {m a b : ℕ} {counts : List ℕ} (most : ℕ) → Counted counts m a b
-    → sumTo (clippedAt most counts) a b ≤ 1000 * m
-clips-le {m} {a} {b} {counts} most c =
-    let each : sumTo (clippedAt most counts) a b ≤ sumTo (λ v. 1000 * at counts v) a b
-    = sum-le (clippedAt most counts) (λ v. 1000 * at counts v) a (b - a + 1)
+pub clips-le : {a b : ℕ} {counts : List ℕ} {c : Measures} (most : ℕ) → Counted counts c a b
+    → sumTo (clippedAt most counts) (c .least) (c .greatest) ≤ 1000 * c .size
+clips-le {counts = counts} {c} most k =
+    let n = c .greatest - c .least + 1 in
+    let each = sum-le (clippedAt most counts) (λ v. 1000 * at counts v) (c .least) n
     (λ v _ _. min-le-left (1000 * at counts v) most) in
-    omega (arith, each, sum-thousand (at counts) a (b - a + 1), c .whole)
+    omega (arith, each, sum-thousand (at counts) (c .least) n, k .whole)
 
 -- the sums of an array of them
 pub clips-sum : {a b : ℕ} {counts clips : List ℕ} (most : ℕ)
@@ -35,49 +39,63 @@ pub clips-sum : {a b : ℕ} {counts clips : List ℕ} (most : ℕ)
 clips-sum {a} {b} {counts} {clips} most clip v av vb =
     sum-same (at clips) (clippedAt most counts) a (v - a + 1) (λ u au uv. clip .new u au (omega arith))
 
--- clipped at k thousandths of m, then summed in place
-pub clipped-of : {k m a b most : ℕ} {counts clips sums : List ℕ} → most ≡ k * m
-    → Refilled (clippedAt most counts) a (b + 1) counts clips
-    → SummedInPlace a b clips sums
-    → ClippedSums k m a b counts sums
-clipped-of {k} {m} {a} {b} {most} {counts} e clip s = record {
-  entry = λ v av vb.
-      s .entry v av vb
-      ∙ clips-sum most clip v av vb
-      ∙ ap (λ n. sumTo (clippedAt n counts) a v) e;
+-- clipped at k thousandths of all pixels, then summed in place
+pub clipped-of : {k most : ℕ} {c : Measures} {counts clips sums : List ℕ} → most ≡ k * c .size
+    → Refilled (clippedAt most counts) (c .least) (c .greatest + 1) counts clips
+    → SummedInPlace (c .least) (c .greatest) clips sums
+    → ClippedSums k c counts sums
+clipped-of {most = most} {c} {counts} e clip s = record {
+  entry = λ v lv vg.
+      s .entry v lv vg
+      ∙ clips-sum most clip v lv vg
+      ∙ ap (λ n. sumTo (clippedAt n counts) (c .least) v) e;
   rest = outside-both (refilled-outside clip) (s .rest);
 }
 
-module _ {k m a b : ℕ} {counts sums : List ℕ} (c : Counted counts m a b) (s : ClippedSums k m a b counts sums) where
-  -- they never fall, and end at no more than 1000 for each pixel
-  pub clipped-rise : Sums sums (1000 * m) m a b
-  clipped-rise = summed-rise (clippedAt (k * m) counts) c (s .entry) (clips-le (k * m) c)
+-- they never fall, and end at no more than 1000 for each pixel
+pub clipped-rise : {k a b : ℕ} {counts sums : List ℕ} {c : Measures} → Counted counts c a b
+    → ClippedSums k c counts sums → Sums sums (1000 * c .size) c a b
+clipped-rise {k} {counts = counts} {c = c} t s =
+    summed-rise (clippedAt (k * c .size) counts) (t .range) (s .entry) (clips-le (k * c .size) t)
 
-  module _ {vs : List ℕ} (h : Histogram a b vs counts) where
-    -- they are the sums of the limited rule, for every list of values that has the counts
-    pub clipped-sums : (v : ℕ) → a ≤ v → v ≤ b → at sums v ≡ sumTo (clipped k vs) a v
-    unfolding clipped
-    clipped-sums v av vb =
-        let each : (u : ℕ) → a ≤ u → u ≤ b → clippedAt (k * m) counts u ≡ clipped k vs u = λ u au ub.
-        ap₂ (λ (q n : ℕ). min (1000 * q) (k * n)) (h .entry u au ub) (histogram-size h c) in
-        s .entry v av vb
-        ∙ sum-same (clippedAt (k * m) counts) (clipped k vs) a (v - a + 1)
-        (λ u au uv. each u au (omega arith))
+-- a value that does not occur has no clipped count
+clipped-none : (k : ℕ) (vs : List ℕ) (v : ℕ) → count (eqb v) vs ≡ 0 → clipped k vs v ≡ 0
+unfolding clipped
+clipped-none k vs v e = omega arith
 
-    -- and they give its tones
-    pub limited-by-sums : (v : ℕ) → a ≤ v → v ≤ b → limitedBy sums m a b v ≡ limitedTone k a b vs v
-    unfolding limitedTone
-    limited-by-sums v av vb =
-        rw (clipped-sums v av vb, clipped-sums b (c .order) (omega arith), histogram-size h c)
+module _ {k a b : ℕ} {vs counts sums : List ℕ} {c : Measures} (range : Ranged c a b) (s : ClippedSums k c counts sums)
+    (h : Histogram vs counts c) where
+  -- they are the sums of the limited rule, for every list of values that has the measures and the counts
+  pub clipped-sums : (v : ℕ) → c .least ≤ v → v ≤ c .greatest → at sums v ≡ sumTo (clipped k vs) a v
+  unfolding clipped
+  clipped-sums v lv vg =
+      let each : (u : ℕ) → clippedAt (k * c .size) counts u ≡ clipped k vs u = λ u.
+      ap₂ (λ (q n : ℕ). min (1000 * q) (k * n)) (h .tally .entry u) (h .measured .size) in
+      let low = measured-inside (h .measured) .low in
+      s .entry v lv vg
+      ∙ sum-same (clippedAt (k * c .size) counts) (clipped k vs) (c .least) (v - c .least + 1) (λ u _ _. each u)
+      ∙ sym (sumTo-low (clipped k vs) (range .from) lv (λ u ul. clipped-none k vs u (low u ul)))
+
+  -- the last is the sum over [a, b]
+  clipped-whole : at sums (c .greatest) ≡ sumTo (clipped k vs) a b
+  clipped-whole =
+      let high = measured-inside (h .measured) .high in
+      clipped-sums (c .greatest) (range .order) (omega arith)
+      ∙ sym (sumTo-high (clipped k vs) (omega arith) (range .to) (λ u gu. clipped-none k vs u (high u gu)))
+
+  -- and they give its tones
+  pub limited-by-sums : (v : ℕ) → c .least ≤ v → v ≤ c .greatest → limitedBy sums c a b v ≡ limitedTone k a b vs v
+  unfolding limitedTone
+  limited-by-sums v lv vg = rw (clipped-sums v lv vg, clipped-whole, h .measured .size)
 
 -- ## Tables
 
-module _ {plane queue counts table : List ℕ} {m a b : ℕ} (k : Component plane queue m a b)
-    (t : Tally a b (values plane queue m) counts) where
-  -- the limited rule's entries at the component's values
-  pub limited-tables : {c : ℕ} {sums : List ℕ} → ClippedSums c m a b counts sums
-      → Filled (limitedBy sums m a b) plane queue table m
-      → RuleTables neverKept (limitedTone c a b) plane queue table m true
-  limited-tables u f vs s =
-      let tones = limited-by-sums (counted-of k t) u (histogram-of k t s) in
-      record { answer = refl; entry = λ i im. f .entry i im ∙ tones _ (k .within i im .0) (k .within i im .1) }
+-- the limited rule's entries at the component's values
+pub limited-tables : {plane queue counts sums table : List ℕ} {k a b : ℕ} {c : Measures}
+    → Gathered plane queue counts c a b → ClippedSums k c counts sums
+    → Filled (limitedBy sums c a b) plane queue table (c .size)
+    → RuleTables neverKept (limitedTone k a b) plane queue table (c .size) true
+limited-tables g u f vs s =
+    let tones = limited-by-sums (gathered-range g) u (histogram-of g s) in
+    let within = gathered-within g in
+    record { answer = refl; entry = λ i im. f .entry i im ∙ tones _ (within i im .0) (within i im .1) }

@@ -25,7 +25,7 @@ filled-more {f} {plane} {queue} {table} {i} {x} h room eq =
           (λ o. ⊎-elim (λ (e : j ≡ i). absurd (o (ap value e))) (λ n. h .entry j (omega arith)) (eq-or-not j i));
     }
 
--- entries of all values of [a, b] are entries of the listed pixels' values
+-- entries of all values of [a, b], where a component has its values, are entries of the listed pixels' values
 pub filled-all : {f : ℕ → ℕ} {plane queue l table : List ℕ} {m a b : ℕ} → Component plane queue m a b
     → Refilled f a (b + 1) l table → Filled f plane queue table m
 filled-all c h = record { entry = λ i im. h .new _ (c .within i im .0) (omega (arith, c .within i im .1)) }

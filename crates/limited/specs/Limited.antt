@@ -19,6 +19,7 @@ use lib.Dec.{eqb}
 use Rattle.planes.specs.Lists.{count, at}
 use Rattle.histograms.specs.Values.{sumTo, scaled}
 use Rattle.histograms.specs.Histograms.{Outside}
+use Rattle.histograms.specs.declared.Measures.{Measures}
 
 -- ## The rule
 
@@ -42,22 +43,24 @@ neverKept vs = false
 
 -- ## Sums and tables
 
--- the limited rule's tone of v, by the sums of the clipped counts
-abbrev pub limitedBy : List ℕ → ℕ → ℕ → ℕ → ℕ → ℕ
-limitedBy sums m a b v =
+-- the limited rule's tone of v, by the sums of the clipped counts, of which that at the greatest value is the whole
+abbrev pub limitedBy : List ℕ → Measures → ℕ → ℕ → ℕ → ℕ
+limitedBy sums c a b v =
     let w = b - a + 1 in
     let n = v - a + 1 in
-    let all = 1000 * m in
-    scaled a b (w * at sums v + n * (all - at sums b)) (w * all)
+    let all = 1000 * c .size in
+    let e = all - at sums (c .greatest) in
+    scaled a b (w * at sums v + n * e) (w * all)
 
 abbrev pub clippedAt : ℕ → List ℕ → ℕ → ℕ
 clippedAt most counts v = min (1000 * at counts v) most
 
--- each entry of [a, b] holds the sum of what it and the entries below it held before, each clipped; what stands outside
--- is in no sum and stays
-pub record ClippedSums (k m a b : ℕ) (before after : List ℕ) : Type 0 where
-  pub entry : (v : ℕ) → a ≤ v → v ≤ b → at after v ≡ sumTo (clippedAt (k * m) before) a v
-  pub rest : Outside a b before after
+-- each entry of [least, greatest] holds the sum of what it and the entries below it held before, each clipped; what
+-- stands outside is in no sum and stays
+pub record ClippedSums (k : ℕ) (c : Measures) (before after : List ℕ) : Type 0 where
+  pub entry : (v : ℕ) → c .least ≤ v → v ≤ c .greatest
+      → at after v ≡ sumTo (clippedAt (k * c .size) before) (c .least) v
+  pub rest : Outside (c .least) (c .greatest) before after
 
 -- at the value of each of the queue's first m pixels, the entry is that of f
 pub record Filled (f : ℕ → ℕ) (plane queue table : List ℕ) (m : ℕ) : Type 0 where

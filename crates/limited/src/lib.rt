@@ -5,18 +5,20 @@
 // limited_tone                              one tone
 // fill_limited, fill_listed                 entries of the table
 //
-// Counts and table are lent, with any content in the table, and only their entries of [a, b] are read or written. The
-// table divides once for each value of [a, b] or each pixel, whichever are fewer. What fills takes a slice, for an
-// array that is lent as a slice is known to have all its entries.
+// Counts and table are lent, with any content in the table, and only their entries of [least, greatest], from the
+// component's least value to its greatest, are read or written. The table divides once for each value of
+// [least, greatest] or each pixel, whichever are fewer. What fills takes a slice, for an array that is lent as a slice
+// is known to have all its entries.
 ghost use mathlib.Core.Path.{_≡_};
 ghost use Prim.Native.Nat.{_+_, _*_, _^_, _≤_, _<_, min};
 ghost use lib.ListN.{length};
 ghost use Rattle.planes.specs.Lists.{at};
 ghost use Rattle.histograms.specs.Values.{sumTo};
-ghost use Rattle.histograms.specs.Histograms.{values, Component, Outside, Tally, Counted, Refilled};
+ghost use Rattle.histograms.specs.Histograms.{Component, Gathered, Outside, Refilled, Counted};
 ghost use Rattle.histograms.specs.Sums.{Sums};
 ghost use Rattle.histograms.specs.Tables.{RuleTabled};
 ghost use Rattle.limited.specs.Limited.{limitedTone, neverKept, limitedBy, clippedAt, ClippedSums, Filled};
+use histograms::Measures;
 use histograms::scale;
 use histograms::sum_up;
 
@@ -27,69 +29,72 @@ fn lesser(x: u64, y: u64) -> u64
     if x < y { x } else { y }
 }
 
-// The counts of the values of [a, b] in thousandths, none above `most`.
-fn clip(counts: &mut [u32; 256], a: u8, b: u8, most: u64)
-    requires { ⌜ (length (now counts) ≡ 256) × ((a ≤ b) × (sumTo (at (now counts)) a b ≤ 1048576)) ⌝ }
-    ensures { λ r. ⌜ Refilled (clippedAt most (now (counts .entry))) a (b + 1)
+// The counts from first to last in thousandths, none above `most`.
+fn clip(counts: &mut [u32; 256], first: u8, last: u8, most: u64)
+    requires { ⌜ (length (now counts) ≡ 256) × ((first ≤ last) × (sumTo (at (now counts)) first last ≤ 1048576)) ⌝ }
+    ensures { λ r. ⌜ Refilled (clippedAt most (now (counts .entry))) first (last + 1)
         (now (counts .entry)) (now (counts .exit)) ⌝ }
 {
-    let end = b as usize + 1;
-    let mut v = a as usize;
+    let end = last as usize + 1;
+    let mut v = first as usize;
     while v < end {
         counts[v] = lesser(1000 * counts[v] as u64, most) as u32;
         v += 1;
     }
 }
 
-// The limited rule's tone of v, by the sums of the clipped counts.
-pub fn limited_tone(sums: &[u32; 256], m: usize, a: u8, b: u8, v: usize) -> u8
-    requires { ⌜ Sums (now sums) (1000 * m) m a b × ((a ≤ v) × (v ≤ b)) ⌝ }
-    ensures { λ r. ⌜ r ≡ limitedBy (now (sums .entry)) m a b v ⌝ }
+// The limited rule's tone of v, by the sums of the clipped counts. Each value of [a, b] has its share of what the
+// clipping left over.
+fn limited_tone(sums: &[u32; 256], c: Measures, a: u8, b: u8, v: usize) -> u8
+    requires { ⌜ Sums (now sums) (1000 * c .size) c a b × ((c .least ≤ v) × (v ≤ c .greatest)) ⌝ }
+    ensures { λ r. ⌜ r ≡ limitedBy (now (sums .entry)) c a b v ⌝ }
 {
     let first = a as usize;
     let last = b as usize;
+    let top = c.greatest as usize;
     let w = (last - first + 1) as u64;
     let n = (v - first + 1) as u64;
-    let all = 1000 * m as u64;
-    let e = all - sums[last] as u64;
+    let all = 1000 * c.size as u64;
+    let e = all - sums[top] as u64;
     scale(a, b, w * sums[v] as u64 + n * e, w * all)
 }
 
-// The tones of the values of [a, b] by the sums of the clipped counts.
-fn fill_limited(sums: &[u32; 256], table: &mut [u8], m: usize, a: u8, b: u8)
-    requires { ⌜ Sums (now sums) (1000 * m) m a b × (b < length (now table)) ⌝ }
-    ensures { λ r. ⌜ Refilled (limitedBy (now (sums .entry)) m a b) a (b + 1)
+// The tones of the values of [least, greatest] by the sums of the clipped counts.
+fn fill_limited(sums: &[u32; 256], table: &mut [u8], c: Measures, a: u8, b: u8)
+    requires { ⌜ Sums (now sums) (1000 * c .size) c a b × (c .greatest < length (now table)) ⌝ }
+    ensures { λ r. ⌜ Refilled (limitedBy (now (sums .entry)) c a b) (c .least) (c .greatest + 1)
         (now (table .entry)) (now (table .exit)) ⌝ }
 {
-    let end = b as usize + 1;
-    let mut v = a as usize;
-    while v < end {
-        table[v] = limited_tone(sums, m, a, b, v);
+    let last = c.greatest as usize;
+    let mut v = c.least as usize;
+    while v <= last {
+        table[v] = limited_tone(sums, c, a, b, v);
         v += 1;
     }
 }
 
-// The tones of the values of the queue's first m pixels by the sums of the clipped counts.
+// The tones of the values of the component's pixels by the sums of the clipped counts.
 fn fill_listed(
     plane: &[u8],
     queue: &[u32],
-    m: usize,
     sums: &[u32; 256],
     table: &mut [u8],
+    c: Measures,
     a: u8,
     b: u8,
 )
-    requires { ⌜ Component (now plane) (now queue) m a b
-        × (Sums (now sums) (1000 * m) m a b × (b < length (now table))) ⌝ }
-    ensures { λ r. ⌜ Filled (limitedBy (now (sums .entry)) m a b)
-        (now (plane .entry)) (now (queue .entry)) (now (table .exit)) m
-        × Outside a b (now (table .entry)) (now (table .exit)) ⌝ }
+    requires { ⌜ Component (now plane) (now queue) (c .size) (c .least) (c .greatest)
+        × (Sums (now sums) (1000 * c .size) c a b × (c .greatest < length (now table))) ⌝ }
+    ensures { λ r. ⌜ Filled (limitedBy (now (sums .entry)) c a b)
+        (now (plane .entry)) (now (queue .entry)) (now (table .exit)) (c .size)
+        × Outside (c .least) (c .greatest) (now (table .entry)) (now (table .exit)) ⌝ }
 {
+    let m = c.size;
     let mut i = 0;
     while i < m {
         let p = queue[i] as usize;
         let value = plane[p] as usize;
-        table[value] = limited_tone(sums, m, a, b, value);
+        table[value] = limited_tone(sums, c, a, b, value);
         i += 1;
     }
 }
@@ -102,38 +107,38 @@ fn clip_of(k: u16, m: usize) -> u64
     k as u64 * m as u64
 }
 
-// Clips the counts of the values of [a, b], and sums them, in place.
-fn sum_clipped(counts: &mut [u32; 256], m: usize, a: u8, b: u8, k: u16)
-    requires { ⌜ Counted (now counts) m a b ⌝ }
-    ensures { λ r. ⌜ ClippedSums k m a b (now (counts .entry)) (now (counts .exit)) ⌝ }
+// Clips the counts of the values of [least, greatest], and sums them, in place.
+fn sum_clipped(counts: &mut [u32; 256], c: Measures, k: u16)
+    requires { ⌜ Counted (now counts) c (c .least) (c .greatest) ⌝ }
+    ensures { λ r. ⌜ ClippedSums k c (now (counts .entry)) (now (counts .exit)) ⌝ }
 {
-    let most = clip_of(k, m);
-    clip(counts, a, b, most);
-    sum_up(counts, a, b);
+    let most = clip_of(k, c.size);
+    clip(counts, c.least, c.greatest, most);
+    sum_up(counts, c.least, c.greatest);
 }
 
 // The table of the limited rule; whether the component is retoned, which it always is.
 pub fn limited_tones(
     plane: &[u8],
     queue: &[u32],
-    m: usize,
+    c: Measures,
     counts: &mut [u32; 256],
     table: &mut [u8; 256],
     k: u16,
     a: u8,
     b: u8,
 ) -> bool
-    requires { ⌜ Component (now plane) (now queue) m a b
-        × Tally a b (values (now plane) (now queue) m) (now counts) ⌝ }
-    ensures { λ r. ⌜ RuleTabled neverKept (limitedTone k a b) a b (now (plane .entry)) (now (queue .entry))
-        (now (counts .entry)) (now (table .entry)) m r (now (counts .exit)) (now (table .exit)) ⌝ }
+    requires { ⌜ Gathered (now plane) (now queue) (now counts) c a b ⌝ }
+    ensures { λ r. ⌜ RuleTabled neverKept (limitedTone k a b) (c .least) (c .greatest)
+        (now (plane .entry)) (now (queue .entry)) (now (counts .entry)) (now (table .entry))
+        (c .size) r (now (counts .exit)) (now (table .exit)) ⌝ }
 {
-    sum_clipped(counts, m, a, b, k);
-    let d = (b - a) as usize;
-    if m <= d {
-        fill_listed(plane, queue, m, counts, table, a, b);
+    sum_clipped(counts, c, k);
+    let d = (c.greatest - c.least) as usize;
+    if c.size <= d {
+        fill_listed(plane, queue, counts, table, c, a, b);
         return true;
     }
-    fill_limited(counts, table, m, a, b);
+    fill_limited(counts, table, c, a, b);
     true
 }

@@ -1,4 +1,5 @@
 pub mod Numbers
 pub mod Format
+pub mod First
 pub mod Refusals
 pub mod Examples

@@ -1,5 +1,6 @@
 // The byte format of a pass list: where its numbers stand, and the refusals of its head and of a record's form.
 //
+// list_refusal   the refusal of a list: that of its head, then those of its records, or 0
 // head_refusal   16 for fewer bytes than a head has, then 15, then 16, or 0
 // count_of       how many records the list says that it has
 // record_at      a record: 17 for its form, or 0, and its pass
@@ -9,7 +10,7 @@ ghost use lib.ListN.{length};
 ghost use Rattle.tones.specs.Numbers.{formRefusal};
 ghost use Rattle.listformat.specs.Format.{number16, number32, numbersAt, passAt, headLength, recordLength};
 ghost use Rattle.listformat.specs.Format.{recordStart, countOf, greatestCount, misnamed, headRefusal};
-ghost use Rattle.listformat.specs.Refusals.{recordAt};
+ghost use Rattle.listformat.specs.Refusals.{firstRefusal, recordAt, recordRefusal, recordRefusals, listRefusal};
 use model::Pass;
 use planes::refused;
 use tones::RuleNumbers;
@@ -171,4 +172,44 @@ pub fn head_refusal(list: &[u8]) -> u8
         return refused::COUNT;
     }
     0
+}
+
+// 17, then 5 to 8, for record j of a list whose head is not refused, or 0.
+fn record_refusal(list: &[u8], j: usize) -> u8
+    requires { ⌜ (headRefusal (now list) ≡ 0) × (j < countOf (now list)) ⌝ }
+    ensures { λ r. ⌜ r ≡ recordRefusal (now (list .entry)) (recordStart j) ⌝ }
+{
+    let record = record_at(list, j);
+    if record.form != 0 {
+        return record.form;
+    }
+    model::pass_refusal(record.pass)
+}
+
+// The refusal of the first record that is refused, of a list whose head is not, or 0.
+fn records_refusal(list: &[u8]) -> u8
+    requires { ⌜ headRefusal (now list) ≡ 0 ⌝ }
+    ensures { λ r. ⌜ r ≡ firstRefusal (recordRefusals (now (list .entry))) ⌝ }
+{
+    let count = count_of(list);
+    let mut j = 0;
+    while j < count {
+        let refusal = record_refusal(list, j);
+        if refusal != 0 {
+            return refusal;
+        }
+        j += 1;
+    }
+    0
+}
+
+// The refusal of a list: that of its head, then 17, 5, 6, 7, 8 for each record, or 0.
+pub fn list_refusal(list: &[u8]) -> u8
+    ensures { λ r. ⌜ r ≡ listRefusal (now (list .entry)) ⌝ }
+{
+    let head = head_refusal(list);
+    if head != 0 {
+        return head;
+    }
+    records_refusal(list)
 }

@@ -18,8 +18,8 @@ use Rattle.planes.proofs.Lists.{every-same, map-same}
 use Rattle.planes.proofs.Counts.{keep-same}
 use Rattle.planes.proofs.Links.{linked-iff}
 use Rattle.model.specs.declared.Pass.{Pass}
-use Rattle.model.specs.Passes.{within, inside, componentValues, changes, retone, newTone, passed, counted}
-use Rattle.model.specs.Passes.{passCount}
+use Rattle.model.specs.Passes.{within, inside, componentValues, retone, newTone, passed, counted}
+use Rattle.model.specs.Passes.{componentCount}
 use Rattle.model.proofs.Components.{in-tone, out-tone}
 use Rattle.model.proofs.Order.{in-of, in-to, retone-sound, length-passed, passed-at}
 
@@ -77,21 +77,21 @@ module _ (near : Near) (s : Pass) where
     unfolding newTone
     tone-alike i hi w = rw (A .section i hi, w, values-alike i hi w, A .same i hi w)
 
-    pub counted-alike : (x : ℕ) → x < length p → counted near s r x ≡ counted near s p x
-    counted-alike x hx = go (within s (at p x)) refl
+    pub counted-alike : (f : List ℕ → Bool) (x : ℕ) → x < length p → counted f near s r x ≡ counted f near s p x
+    counted-alike f x hx = go (within s (at p x)) refl
       where
-        go : (t : Bool) → within s (at p x) ≡ t → counted near s r x ≡ counted near s p x
-        go true e = ap₂ _&&_ (ap₂ _&&_ (A .section x hx) (ap (changes s) (values-alike x hx e)))
+        go : (t : Bool) → within s (at p x) ≡ t → counted f near s r x ≡ counted f near s p x
+        go true e = ap₂ _&&_ (ap₂ _&&_ (A .section x hx) (ap f (values-alike x hx e)))
             (ap (λ (k : ℕ). first k (inside near s r) x) (A .size)
             ∙ first-alike (length p) (inside near s r) (inside near s p) inside-alike x hx)
         go false e = rw (A .section x hx, e)
 
-    pub count-alike : passCount near s r ≡ passCount near s p
-    unfolding passCount
-    count-alike =
-        ap (λ (k : ℕ). count (counted near s r) (from 0 k)) (A .size)
-        ∙ ap length (keep-same (counted near s r) (counted near s p) 0 (length p)
-        (λ x _ h. counted-alike x (omega arith)))
+    pub count-alike : (f : List ℕ → Bool) → componentCount f near s r ≡ componentCount f near s p
+    unfolding componentCount
+    count-alike f =
+        ap (λ (k : ℕ). count (counted f near s r) (from 0 k)) (A .size)
+        ∙ ap length (keep-same (counted f near s r) (counted f near s p) 0 (length p)
+        (λ x _ h. counted-alike f x (omega arith)))
 
 -- ## Disjoint intervals
 
@@ -163,7 +163,7 @@ module _ (by : Pass → Near) where
       out-tone (by u) u (P v p) i (ap (within u) q ∙ e) ∙ q
 
   module _ (s t : Pass) (d : Disjoint s t) (sb : s .a ≤ s .b) (tb : t .a ≤ t .b) (p : List ℕ) where
-    pub counts-stay : passCount (by s) s (P t p) ≡ passCount (by s) s p
+    pub counts-stay : (f : List ℕ → Bool) → componentCount f (by s) s (P t p) ≡ componentCount f (by s) s p
     counts-stay = count-alike (by s) s p (P t p) (other-alike (by t) s t d tb p)
 
     pub commute : P s (P t p) ≡ P t (P s p)

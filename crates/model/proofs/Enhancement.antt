@@ -11,18 +11,23 @@ use Rattle.tones.specs.declared.Rule.{Rule}
 use Rattle.model.specs.declared.Pass.{Pass}
 use Rattle.model.specs.Neighbourhoods.{passNeighbours}
 use Rattle.model.specs.Effects.{Effect, counts, then, passEffect, runEffect}
-use Rattle.model.specs.Calls.{Call, passRefusal, replyCount, total, AllAccepted, none, more, State}
+use Rattle.model.specs.Calls.{Call, passRefusal, retonedIn, keptIn, total, AllAccepted, none, more, State}
 use Rattle.model.specs.Calls.{start, call, chain, chainEffect}
-use Rattle.model.specs.Runs.{runCount, All, none, more}
+use Rattle.model.specs.Runs.{All, none, more}
 use Rattle.model.specs.Enhancement.{passes, callOf, enhanced, recursive}
 use Rattle.model.proofs.Order.{length-passed}
-use Rattle.model.proofs.Recursion.{effect-same, recursion-listed}
+use Rattle.model.proofs.Recursion.{effect-same, then-assoc, nothing-then, then-nothing, recursion-listed}
 
-total-append : (xs ys : List Reply) → total (xs ++ ys) ≡ total xs + total ys
-total-append [] ys = sym (zero-add (total ys))
-total-append (x ∷ xs) ys =
-    ap (replyCount x +_) (total-append xs ys)
-    ∙ sym (add-assoc (replyCount x) (total xs) (total ys))
+pub total-append : (f : Reply → ℕ) (xs ys : List Reply) → total f (xs ++ ys) ≡ total f xs + total f ys
+total-append f [] ys = sym (zero-add (total f ys))
+total-append f (x ∷ xs) ys = ap (f x +_) (total-append f xs ys) ∙ sym (add-assoc (f x) (total f xs) (total f ys))
+
+-- one more reply adds its counts
+one-total : (f : Reply → ℕ) (s : State) (e : Effect)
+    → total f (s .answers ++ (gives (counts e) ∷ [])) ≡ total f (s .answers) + f (gives (counts e))
+one-total f s e =
+    total-append f (s .answers) (gives (counts e) ∷ [])
+    ∙ ap (total f (s .answers) +_) (add-zero (f (gives (counts e))))
 
 accepted-more : {xs : List Reply} (values : List ℕ) → AllAccepted xs → AllAccepted (xs ++ (gives values ∷ []))
 accepted-more values none = more none
@@ -55,16 +60,16 @@ module _ (z : Shape) (of : Pass → Call) (same : (s : Pass) → of s .pass ≡ 
   pub chain-calls : (ss : List Pass) → All Taken ss → (s : State) → length (s .plane) ≡ pixels z
       → chainEffect (runs s ss) ≡ then (chainEffect s) (runEffect (passNeighbours z) ss (s .plane))
   unfolding chain runEffect
-  chain-calls [] none s l = effect-same refl (sym (add-zero (total (s .answers))))
+  chain-calls [] none s l = sym (then-nothing (chainEffect s))
   chain-calls (t ∷ ss) (more e a) s l =
       let next = after s t in
-      let n = effect t (s .plane) .retoned in
+      let now = effect t (s .plane) in
       let r = chain-calls ss a next (length-passed (passNeighbours z t) t (s .plane) ∙ l) in
-      let sum : total (next .answers) ≡ total (s .answers) + n =
-      total-append (s .answers) (gives (n ∷ []) ∷ []) ∙ ap (total (s .answers) +_) (add-zero n) in
+      let sum : chainEffect next ≡ then (chainEffect s) now =
+      effect-same refl (one-total retonedIn s now) (one-total keptIn s now) in
       ap (λ (x : State). chainEffect (runs x ss)) (one s t l e) ∙ r
-      ∙ effect-same refl (ap (λ (k : ℕ). k + runCount (passNeighbours z) ss (next .plane)) sum
-      ∙ add-assoc (total (s .answers)) n (runCount (passNeighbours z) ss (next .plane)))
+      ∙ ap (λ (x : Effect). then x (runEffect (passNeighbours z) ss (next .plane))) sum
+      ∙ then-assoc (chainEffect s) now (runEffect (passNeighbours z) ss (next .plane))
 
   -- and all of them are accepted
   pub chain-taken : (ss : List Pass) → All Taken ss → (s : State) → length (s .plane) ≡ pixels z
@@ -92,7 +97,7 @@ module _ (z : Shape) where
   -- from a first plane the effect is that of the run
   pub start-runs : (ss : List Pass) → All Accepted ss → (p : List ℕ) → length p ≡ pixels z
       → chainEffect (chain z (start p) (map (callOf (pixels z)) ss)) ≡ runEffect (passNeighbours z) ss p
-  start-runs ss a p size = chain-runs ss a (start p) size ∙ effect-same refl (zero-add _)
+  start-runs ss a p size = chain-runs ss a (start p) size ∙ nothing-then p (runEffect (passNeighbours z) ss p)
 
   -- in an enhancement whose passes are all accepted, all calls are
   pub enhanced-accepted : (last area : ℕ) (rule : Rule) (p : List ℕ) → length p ≡ pixels z

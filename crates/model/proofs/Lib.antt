@@ -7,6 +7,7 @@ pub mod Apart
 pub mod Local
 pub mod Recursion
 pub mod Enhancement
+pub mod Sufficient
 pub mod Sets
 pub mod Parts
 pub mod Pieces

@@ -13,6 +13,7 @@ use native.Mathlib.Omega.{arith}
 use Rattle.planes.specs.Replies.{Reply, refuses, gives, after, overwritten}
 use Rattle.planes.proofs.Lists.{beyond-refl}
 use Rattle.planes.proofs.Replies.{replied-refuses, replied-gives, replied-refused, after-refused}
+use Rattle.model.specs.declared.Counts.{Counts}
 use Rattle.model.specs.declared.Answer.the-variants.{Refused, Done}
 use Rattle.model.specs.Effects.{Effect, counts}
 use Rattle.model.specs.Outcomes.{answerReply, Over, Outcome, OutputOutcome}
@@ -33,12 +34,12 @@ refused-by {n} {e = e} {plane} {marks} {queue} x same some = outcome-number same
   queue-rest = beyond-refl n queue;
 }
 
-pub done-by : {n number r : ℕ} {e : Effect} {plane marks queue plane' marks' queue' : List ℕ} → number ≡ 0
+pub done-by : {n number : ℕ} {r : Counts} {e : Effect} {plane marks queue plane' marks' queue' : List ℕ} → number ≡ 0
     → Over n e marks queue plane' marks' queue' r
     → Outcome n number e plane marks queue (answerReply (Done r)) plane' marks' queue'
 done-by none O = outcome-number (sym none) record {
-  answer = ap (λ (r : ℕ). gives (r ∷ [])) (O .count-is);
-  plane-is = O .plane-is;
+  answer = ap (λ (e : Effect). gives (counts e)) (O .effect-is);
+  plane-is = ap (λ (e : Effect). e .plane) (O .effect-is);
   refused = λ k q. absurd (omega arith);
   marks-rest = O .marks-rest;
   queue-rest = O .queue-rest;
@@ -74,7 +75,7 @@ output-refused-by {bytes = bytes} {output = output} x same some = record {
       ∙ ap (λ (k : ℕ). after k output (overwritten output bytes)) same;
 }
 
-pub output-done-by : {n number r : ℕ} {e : Effect}
+pub output-done-by : {n number : ℕ} {r : Counts} {e : Effect}
     {bytes plane marks queue output plane' marks' queue' output' : List ℕ} → number ≡ 0
     → Over n e marks queue plane' marks' queue' r → output' ≡ overwritten output bytes
     → OutputOutcome n number e bytes plane marks queue output (answerReply (Done r)) plane' marks' queue' output'

@@ -21,14 +21,15 @@ use Rattle.planes.proofs.Counts.{keep-same, count-same, count-none, count-mono-
 use Rattle.planes.proofs.Links.{linked-iff, link-sym}
 use Rattle.tones.specs.Tones.{kept}
 use Rattle.model.specs.declared.Pass.{Pass}
-use Rattle.model.specs.Passes.{within, inside, componentValues, changes, newTone, passed, counted, passCount}
-use Rattle.model.specs.Effects.{Effect, always, runEffect}
-use Rattle.model.specs.Runs.{run, runCount, All, none, more}
+use Rattle.model.specs.Passes.{within, inside, componentValues, sufficient, changes, keptBack, newTone, passed}
+use Rattle.model.specs.Passes.{counted, componentCount}
+use Rattle.model.specs.Effects.{Effect, nothing, then, always, passEffect, runEffect}
+use Rattle.model.specs.Runs.{run, runCount, runKept, All, none, more}
 use Rattle.model.specs.Published.{between}
 use Rattle.model.proofs.Components.{values-length, out-tone, still-tone, inside-sym}
 use Rattle.model.proofs.Order.{length-passed, passed-at}
 use Rattle.model.proofs.Apart.{stays}
-use Rattle.model.proofs.Recursion.{all-map}
+use Rattle.model.proofs.Recursion.{all-map, effect-same, nothing-then}
 use Rattle.model.proofs.Sets.{linked-in, linked-stays, Separate, separate-turn}
 
 -- ## Passes on sections in [lo, hi]
@@ -130,6 +131,15 @@ isolated-one : {near : Near} {n lo hi : ℕ} {A B : ℕ → Bool} {p q r : List 
     → TwoParts n lo hi A B p q r → Isolated near n lo hi A p
 isolated-one w T x y hx hy a b e = T .rest y hy b (never (λ d. true≢false (sym e ∙ w .far x y hx hy a d)))
 
+-- what is retoned or kept back has a sufficient area
+changes-area : (s : Pass) (vs : List ℕ) → sufficient s vs ≡ false → changes s vs ≡ false
+unfolding changes
+changes-area s vs e = ap (_&& not (kept (s .rule) (s .a) (s .b) vs)) e
+
+kept-area : (s : Pass) (vs : List ℕ) → sufficient s vs ≡ false → keptBack s vs ≡ false
+unfolding keptBack
+kept-area s vs e = ap (_&& kept (s .rule) (s .a) (s .b) vs) e
+
 abbrev unit : Bool → ℕ
 unit t = cond t 1 0
 
@@ -172,10 +182,10 @@ module _ (near : Near) (symm : Symmetric near) (n lo hi area : ℕ) where
     unfolding newTone
     tone-part x hx a = rw (values-part x hx a, S .on x hx a)
 
-    counted-part : (x : ℕ) → x < n → A x ≡ true → counted near s m x ≡ counted near s p x
+    counted-part : (f : List ℕ → Bool) (x : ℕ) → x < n → A x ≡ true → counted f near s m x ≡ counted f near s p x
     unfolding first
-    counted-part x hx a = rw (values-part x hx a, S .on x hx a, S .whole, S .size)
-        (ap (within s (at p x) && changes s (componentValues near s m x) &&_) (every-same _ _ 0 x (λ y _ h.
+    counted-part f x hx a = rw (values-part x hx a, S .on x hx a, S .whole, S .size)
+        (ap (within s (at p x) && f (componentValues near s m x) &&_) (every-same _ _ 0 x (λ y _ h.
         ap not (link-sym (inside near s m) (inside-sym near symm s m) n y x
         ∙ sym (link-part x y hx (omega arith) a)
         ∙ link-sym (inside near s p) (inside-sym near symm s p) n x y))))
@@ -184,8 +194,8 @@ module _ (near : Near) (symm : Symmetric near) (n lo hi area : ℕ) where
     still-rest : (x : ℕ) → x < n → A x ≡ false → newTone near s m x ≡ at m x
     still-rest x hx a = out-tone near s m x (range-out F (at m x) (S .off x hx a))
 
-    none-rest : (x : ℕ) → x < n → A x ≡ false → counted near s m x ≡ false
-    none-rest x hx a = rw (range-out F (at m x) (S .off x hx a))
+    none-rest : (f : List ℕ → Bool) (x : ℕ) → x < n → A x ≡ false → counted f near s m x ≡ false
+    none-rest f x hx a = rw (range-out F (at m x) (S .off x hx a))
 
     shows-passed : Shows n lo hi A (passed near s p) (passed near s m)
     shows-passed = record {
@@ -218,39 +228,44 @@ module _ (near : Near) (symm : Symmetric near) (n lo hi area : ℕ) where
           ap (between lo hi) (passed-at near s p x hx′ ∙ out-tone near s p x (range-out F (at p x) out)) ∙ out;
     }
 
-    counts-join : passCount near s p ≡ passCount near s q + passCount near s r
-    unfolding passCount
-    counts-join = rw (T .one .whole, T .one .size, T .other .size)
-        (count-sum (counted near s p) (counted near s q) (counted near s r) 0 n
+    counts-join : (f : List ℕ → Bool)
+        → componentCount f near s p ≡ componentCount f near s q + componentCount f near s r
+    unfolding componentCount
+    counts-join f = rw (T .one .whole, T .one .size, T .other .size)
+        (count-sum (counted f near s p) (counted f near s q) (counted f near s r) 0 n
         (λ x _ h. at-pixel x (omega arith) (decide (A x)) (decide (B x))))
       where
         at-pixel : (x : ℕ) → x < n → (A x ≡ true) ⊎ (A x ≡ false) → (B x ≡ true) ⊎ (B x ≡ false)
-            → unit (counted near s p x) ≡ unit (counted near s q x) + unit (counted near s r x)
+            → unit (counted f near s p x) ≡ unit (counted f near s q x) + unit (counted f near s r x)
         at-pixel x hx (inl a) d =
-            let in-A = ap unit (counted-part A p q (T .one) lone-A s F x hx a) in
-            let not-B = ap unit (none-rest B p r (T .other) lone-B s F x hx (w .disjoint x hx a)) in
+            let in-A = ap unit (counted-part A p q (T .one) lone-A s F f x hx a) in
+            let not-B = ap unit (none-rest B p r (T .other) lone-B s F f x hx (w .disjoint x hx a)) in
             omega arith
         at-pixel x hx (inr a) (inl b) =
-            let not-A = ap unit (none-rest A p q (T .one) lone-A s F x hx a) in
-            let in-B = ap unit (counted-part B p r (T .other) lone-B s F x hx b) in
+            let not-A = ap unit (none-rest A p q (T .one) lone-A s F f x hx a) in
+            let in-B = ap unit (counted-part B p r (T .other) lone-B s F f x hx b) in
             omega arith
         at-pixel x hx (inr a) (inr b) =
-            let nowhere : counted near s p x ≡ false = rw (range-out F (at p x) (T .rest x hx a b)) in
+            let nowhere : counted f near s p x ≡ false = rw (range-out F (at p x) (T .rest x hx a b)) in
             let outside = ap unit nowhere in
-            let not-A = ap unit (none-rest A p q (T .one) lone-A s F x hx a) in
-            let not-B = ap unit (none-rest B p r (T .other) lone-B s F x hx b) in
+            let not-A = ap unit (none-rest A p q (T .one) lone-A s F f x hx a) in
+            let not-B = ap unit (none-rest B p r (T .other) lone-B s F f x hx b) in
             omega arith
 
   -- what a run makes of two parts, it makes of each alone, and the counts add up
   pub parts-run : (A B : ℕ → Bool) → Separate near n A B → (ss : List Pass) → All (InRange lo hi area) ss
       → (p q r : List ℕ) → TwoParts n lo hi A B p q r
       → TwoParts n lo hi A B (run (always near) ss p) (run (always near) ss q) (run (always near) ss r)
-      × (runCount (always near) ss p ≡ runCount (always near) ss q + runCount (always near) ss r)
+      × ((runCount (always near) ss p ≡ runCount (always near) ss q + runCount (always near) ss r)
+      × (runKept (always near) ss p ≡ runKept (always near) ss q + runKept (always near) ss r))
   unfolding runEffect
-  parts-run A B w [] none p q r T = (T, refl)
+  parts-run A B w [] none p q r T = (T, (refl, refl))
   parts-run A B w (s ∷ ss) (more F fits) p q r T =
       let rest = parts-run A B w ss fits _ _ _ (parts-passed A B w p q r T s F) in
-      (rest .0, omega (arith, rest .1, counts-join A B w p q r T s F))
+      let join = counts-join A B w p q r T s F in (
+        rest .0,
+        (omega (arith, rest .1 .0, join (changes s)), omega (arith, rest .1 .1, join (keptBack s))),
+      )
 
   -- ## A part that is too small
 
@@ -263,10 +278,9 @@ module _ (near : Near) (symm : Symmetric near) (n lo hi area : ℕ) where
       | inr a ↦ absurd (true≢false (sym e ∙ range-out F (at m x) (off x hx a)))
     ]
 
-    unchanged : (s : Pass) → InRange lo hi area s → (x : ℕ) → x < n → within s (at m x) ≡ true
-        → changes s (componentValues near s m x) ≡ false
-    unfolding changes
-    unchanged s F x hx e =
+    insufficient : (s : Pass) → InRange lo hi area s → (x : ℕ) → x < n → within s (at m x) ≡ true
+        → sufficient s (componentValues near s m x) ≡ false
+    insufficient s F x hx e =
         let C : ℕ → Bool = linked (inside near s m) n x in
         let all : length (componentValues near s m x) ≡ count C (from 0 n) =
         values-length near s m x ∙ ap (λ (k : ℕ). count (linked (inside near s m) k x) (from 0 k)) size in
@@ -276,40 +290,42 @@ module _ (near : Near) (symm : Symmetric near) (n lo hi area : ℕ) where
         in-part s F y hy (stays near s m n e (linked-iff (inside near s m) n x y hx hy .0 d))) in
         let small : length (componentValues near s m x) < s .area =
         omega (arith, F .least, few x hx (in-part s F x hx e)) in
-        ap (_&& not (kept (s .rule) (s .a) (s .b) (componentValues near s m x))) (lt-leb (s .area) _ small)
+        lt-leb (s .area) _ small
 
-    small-pass : (s : Pass) → InRange lo hi area s → (passed near s m ≡ m) × (passCount near s m ≡ 0)
-    unfolding passCount
+    small-pass : (s : Pass) → InRange lo hi area s → passed near s m ≡ m
     small-pass s F =
-        let same = length-passed near s m in (
-          ext-getD 0 _ _ same (λ x h.
-              passed-at near s m x (omega arith) ∙ still x (omega arith) (decide (within s (at m x)))),
-          rw size (count-same (counted near s m) (λ x. false) n (λ x hx. uncounted x hx (decide (within s (at m x))))
-              ∙ count-none (from 0 n)),
-        )
+        ext-getD 0 _ _ (length-passed near s m) (λ x h.
+        let hx : x < length m = omega (arith, length-passed near s m) in
+        passed-at near s m x hx ∙ still x (omega (arith, size)) (decide (within s (at m x))))
       where
         still : (x : ℕ) → x < n → (within s (at m x) ≡ true) ⊎ (within s (at m x) ≡ false)
             → newTone near s m x ≡ at m x
-        still x hx (inl e) = still-tone near s m x (unchanged s F x hx e)
+        still x hx (inl e) = still-tone near s m x (changes-area s _ (insufficient s F x hx e))
         still x hx (inr e) = out-tone near s m x e
 
+    -- no test that asks for a sufficient area counts a component
+    small-count : (s : Pass) → InRange lo hi area s → (f : List ℕ → Bool)
+        → ((vs : List ℕ) → sufficient s vs ≡ false → f vs ≡ false) → componentCount f near s m ≡ 0
+    unfolding componentCount
+    small-count s F f asks =
+        rw size (count-same (counted f near s m) (λ x. false) n (λ x hx. uncounted x hx (decide (within s (at m x))))
+        ∙ count-none (from 0 n))
+      where
         uncounted : (x : ℕ) → x < n → (within s (at m x) ≡ true) ⊎ (within s (at m x) ≡ false)
-            → counted near s m x ≡ false
+            → counted f near s m x ≡ false
         uncounted x hx (inl e) =
-            and-middle (within s (at m x)) (changes s (componentValues near s m x)) _ (unchanged s F x hx e)
+            and-middle (within s (at m x)) (f (componentValues near s m x)) _ (asks _ (insufficient s F x hx e))
         uncounted x hx (inr e) = rw e
 
-    pub small-run : (ss : List Pass) → All (InRange lo hi area) ss
-        → (run (always near) ss m ≡ m) × (runCount (always near) ss m ≡ 0)
+    pub small-run : (ss : List Pass) → All (InRange lo hi area) ss → runEffect (always near) ss m ≡ nothing m
     unfolding runEffect
-    small-run [] none = (refl, refl)
+    small-run [] none = refl
     small-run (s ∷ ss) (more F fits) =
-        let now = small-pass s F in
-        let rest = small-run ss fits in
-        let from : List ℕ → Effect = runEffect (always near) ss in (
-          ap (λ (q : List ℕ). from q .plane) (now .0) ∙ rest .0,
-          ap₂ _+_ (now .1) (ap (λ (q : List ℕ). from q .retoned) (now .0) ∙ rest .1),
-        )
+        let now : passEffect (always near) s m ≡ nothing m = effect-same (small-pass s F)
+        (small-count s F (changes s) (changes-area s)) (small-count s F (keptBack s) (kept-area s)) in
+        ap (λ (e : Effect). then e (runEffect (always near) ss (e .plane))) now
+        ∙ ap (then (nothing m)) (small-run ss fits)
+        ∙ nothing-then m (nothing m)
 
   -- ## Pixels outside [lo, hi]
 

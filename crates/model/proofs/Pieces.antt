@@ -19,8 +19,9 @@ use Rattle.planes.proofs.Links.{link-sym}
 use Rattle.planes.proofs.Fewer.{first-one, first-of}
 use Rattle.tones.specs.Tones.{tone, kept}
 use Rattle.model.specs.declared.Pass.{Pass}
-use Rattle.model.specs.Passes.{within, inside, componentValues, changes, retone, passed, counted, passCount}
-use Rattle.model.specs.Runs.{run, runCount, All}
+use Rattle.model.specs.Passes.{within, inside, componentValues, sufficient, changes, keptBack, retone, passed}
+use Rattle.model.specs.Passes.{counted, componentCount, passCount, passKept}
+use Rattle.model.specs.Runs.{run, runCount, runKept, All}
 use Rattle.model.specs.Effects.{Effect, always, runEffect}
 use Rattle.model.specs.Published.{between, amid, painted, histogramEqualization}
 use Rattle.model.proofs.Components.{in-tone, inside-sym}
@@ -38,6 +39,7 @@ pub record Does (near : Near) (n : ℕ) (A : ℕ → Bool) (ss : List Pass) (m :
   pub on : (x : ℕ) → x < n → A x ≡ true → at (t′ .plane) x ≡ at (run (always near) ss m) x
   pub off : (x : ℕ) → x < n → A x ≡ false → at (t′ .plane) x ≡ at (t .plane) x
   pub sum : t′ .retoned ≡ t .retoned + runCount (always near) ss m
+  pub kept-sum : t′ .kept ≡ t .kept + runKept (always near) ss m
 
 pub does-same : {near : Near} {n : ℕ} {A B : ℕ → Bool} {ss : List Pass} {m : List ℕ} {t t′ : Effect}
     → ((x : ℕ) → x < n → A x ≡ B x) → Does near n A ss m t t′ → Does near n B ss m t t′
@@ -46,6 +48,7 @@ does-same same D = record {
   on = λ x hx b. D .on x hx (same x hx ∙ b);
   off = λ x hx b. D .off x hx (same x hx ∙ b);
   sum = D .sum;
+  kept-sum = D .kept-sum;
 }
 
 module _ (near : Near) (symm : Symmetric near) (n : ℕ) (A : ℕ → Bool) where
@@ -57,9 +60,10 @@ module _ (near : Near) (symm : Symmetric near) (n : ℕ) (A : ℕ → Bool) wher
       let idle = small-run near symm n lo hi area A few m (S .size) (S .off) ss fits in
       record {
         size = S .whole;
-        on = λ x hx a. sym (ap (λ (q : List ℕ). at q x) (idle .0) ∙ S .on x hx a);
+        on = λ x hx a. sym (ap (λ (e : Effect). at (e .plane) x) idle ∙ S .on x hx a);
         off = λ x hx a. refl;
-        sum = omega (arith, idle .1);
+        sum = omega (arith, ap (λ (e : Effect). e .retoned) idle);
+        kept-sum = omega (arith, ap (λ (e : Effect). e .kept) idle);
       }
 
   -- work after work is the run after the run
@@ -70,6 +74,7 @@ module _ (near : Near) (symm : Symmetric near) (n : ℕ) (A : ℕ → Bool) wher
     on = λ x hx a. E .on x hx a ∙ sym (ap (λ (e : Effect). at (e .plane) x) (run-append (always near) xs ys m));
     off = λ x hx a. E .off x hx a ∙ D .off x hx a;
     sum = omega (arith, D .sum, E .sum, ap (λ (e : Effect). e .retoned) (run-append (always near) xs ys m));
+    kept-sum = omega (arith, D .kept-sum, E .kept-sum, ap (λ (e : Effect). e .kept) (run-append (always near) xs ys m));
   }
 
   pub does-shows : {lo hi area : ℕ} {ss : List Pass} {m : List ℕ} {t t′ : Effect} → Shows n lo hi A (t .plane) m
@@ -149,11 +154,16 @@ module _ (near : Near) (symm : Symmetric near) (n : ℕ) (A : ℕ → Bool) (s :
           (λ d. linked-to near n A x y hx hy a d)
           (λ b. P .joined x y hx hy a b)
 
+  many : sufficient s vs ≡ true
+  many = le-leb (s .area) (length vs) (omega (arith, length-map (pixelsOf n A) (at (t .plane)), large))
+
   changes-are : changes s vs ≡ not back
   unfolding changes
-  changes-are =
-      let many : s .area ≤ length vs = omega (arith, length-map (pixelsOf n A) (at (t .plane)), large) in
-      ap (_&& not back) (le-leb (s .area) (length vs) many)
+  changes-are = ap (_&& not back) many
+
+  kept-are : keptBack s vs ≡ back
+  unfolding keptBack
+  kept-are = ap (_&& back) many
 
   tone-is : (x : ℕ) → x < n → A x ≡ true → at (passed near s m) x ≡ value x (not back)
   unfolding retone
@@ -162,23 +172,24 @@ module _ (near : Near) (symm : Symmetric near) (n : ℕ) (A : ℕ → Bool) (s :
       ∙ in-tone near s m x (in-section x hx ∙ a)
       ∙ rw (values-are x hx a, changes-are, S .on x hx a)
 
-  counted-is : (x : ℕ) → x < n → counted near s m x ≡ (A x && not back && first n In x)
-  counted-is x hx = elim (decide (A x)) [
-    | inl a ↦ rw (in-section x hx, values-are x hx a, changes-are, S .size) refl
+  counted-is : (f : List ℕ → Bool) (x : ℕ) → x < n → counted f near s m x ≡ (A x && f vs && first n In x)
+  counted-is f x hx = elim (decide (A x)) [
+    | inl a ↦ rw (in-section x hx, values-are x hx a, S .size) refl
     | inr a ↦ rw (in-section x hx, a) refl
   ]
 
-  -- a piece counts once, at its first pixel, unless it is kept back
-  count-is : passCount near s m ≡ cond back 0 1
-  unfolding passCount
-  count-is = rw (S .size) (count-same (counted near s m) _ n counted-is ∙ go back)
+  -- a piece counts once, at its first pixel, where its values pass the test
+  count-is : (f : List ℕ → Bool) → componentCount f near s m ≡ cond (f vs) 1 0
+  unfolding componentCount
+  count-is f = rw (S .size) (count-same (counted f near s m) _ n (counted-is f) ∙ go (f vs))
     where
       turn : (i j : ℕ) → In i j ≡ In j i
       turn = inside-sym near symm s m
 
-      go : (k : Bool) → count (λ x. A x && not k && first n In x) (from 0 n) ≡ cond k 0 1
-      go true = count-same _ (λ x. false) n (λ x hx. and-middle (A x) false (first n In x) refl) ∙ count-none (from 0 n)
+      go : (k : Bool) → count (λ x. A x && k && first n In x) (from 0 n) ≡ cond k 1 0
       go false =
+          count-same _ (λ x. false) n (λ x hx. and-middle (A x) false (first n In x) refl) ∙ count-none (from 0 n)
+      go true =
           let y = first-of In turn n (P .pixel) (P .below) in
           let d = sym (links (P .pixel) (y .0) (P .below) (y .1)) ∙ link-sym In turn n (P .pixel) (y .0) ∙ y .2 in
           let a = linked-to near n A (P .pixel) (y .0) (P .below) (y .1) (P .holds) d in
@@ -195,22 +206,39 @@ module _ (near : Near) (symm : Symmetric near) (n : ℕ) (A : ℕ → Bool) (s :
       after = record {
         plane = painted (tone (s .rule) (s .a) (s .b) vs) (pixelsOf n A) (t .plane);
         retoned = t .retoned + 1;
+        kept = t .kept;
       }
+
+      same : Effect
+      same = record { plane = t .plane; retoned = t .retoned; kept = t .kept + 1 }
 
       after-at : (x : ℕ) → x < n → at (after .plane) x ≡ value x (A x)
       after-at x hx = all-at _ (length (t .plane)) x (omega (arith, S .whole)) ∙ ap (value x) (member-keep A n x hx)
 
-      go : (k : Bool) → back ≡ k → Does near n A (s ∷ []) m t (cond k t after)
+      -- how many it counts for, where it is kept back and where it is not
+      retones : (k : Bool) → back ≡ k → passCount near s m ≡ cond k 0 1
+      retones k e = count-is (changes s) ∙ ap (λ (c : Bool). cond c 1 0) (changes-are ∙ ap not e) ∙ turned k
+        where
+          turned : (c : Bool) → _≡_ {A = ℕ} (cond (not c) 1 0) (cond c 0 1)
+          turned true = refl
+          turned false = refl
+
+      keeps : (k : Bool) → back ≡ k → passKept near s m ≡ cond k 1 0
+      keeps k e = count-is (keptBack s) ∙ ap (λ (c : Bool). cond c 1 0) (kept-are ∙ e)
+
+      go : (k : Bool) → back ≡ k → Does near n A (s ∷ []) m t (cond k same after)
       go true e = record {
         size = S .whole;
         on = λ x hx a. sym (tone-is x hx a ∙ ap (λ (k : Bool). value x (not k)) e);
         off = λ x hx a. refl;
-        sum = omega (arith, count-is ∙ ap (λ (k : Bool). cond k 0 1) e);
+        sum = omega (arith, retones true e);
+        kept-sum = omega (arith, keeps true e);
       }
       go false e = record {
         size = length-all _ (length (t .plane)) ∙ S .whole;
         on = λ x hx a.
             after-at x hx ∙ ap (value x) a ∙ sym (tone-is x hx a ∙ ap (λ (k : Bool). value x (not k)) e);
         off = λ x hx a. after-at x hx ∙ ap (value x) a;
-        sum = omega (arith, count-is ∙ ap (λ (k : Bool). cond k 0 1) e);
+        sum = omega (arith, retones false e);
+        kept-sum = omega (arith, keeps false e);
       }

@@ -25,7 +25,7 @@ use Rattle.tones.specs.declared.Rule.{Rule}
 use Rattle.model.specs.declared.Pass.{Pass}
 use Rattle.model.specs.Runs.{run, All, none, more}
 use Rattle.model.specs.Enhancement.{section, passes, deep, recursive}
-use Rattle.model.specs.Effects.{Effect, always, runEffect}
+use Rattle.model.specs.Effects.{Effect, nothing, always, runEffect}
 use Rattle.model.specs.Published.{Procedure, between, levelSet, amid, connectedComponents}
 use Rattle.model.specs.Published.{histogramEqualization, forEach, processLevelSet, recursiveHistogramEqualization}
 use Rattle.model.specs.Published.{Arrangement, readingOrder, Reordered, empty, behind, Reorders}
@@ -133,6 +133,7 @@ module _ (arrange : Arrangement) (reorders : Reorders arrange) (near : Near) (sy
         on = λ x hx d. on x hx d (decide (G x));
         off = λ x hx d. D .off x hx (ap (_&& between lo hi (at (t .plane) x)) d);
         sum = D .sum;
+        kept-sum = D .kept-sum;
       }
         where
           on : (x : ℕ) → x < n → A x ≡ true → (G x ≡ true) ⊎ (G x ≡ false)
@@ -206,7 +207,7 @@ module _ (near : Near) (symm : Symmetric near) (area : ℕ) (rule : Rule) (p : L
   all x = true
 
   abbrev start : Effect
-  start = record { plane = p; retoned = 0 }
+  start = nothing p
 
   shows-all : Shows n 0 255 all p p
   shows-all = record { whole = refl; size = refl; on = λ x hx e. refl; off = λ x hx e. absurd (true≢false e) }
@@ -255,7 +256,8 @@ module _ (near : Near) (symm : Symmetric near) (area : ℕ) (rule : Rule) (p : L
     published-run-in last h =
         let D = published-does last h in
         let size = D .size ∙ sym (length-run (always near) (recursive last area rule) p) in
-        effect-same (ext-getD 0 _ _ size (λ x hx. D .on x (omega (arith, D .size)) refl)) (D .sum ∙ zero-add _)
+        effect-same (ext-getD 0 _ _ size (λ x hx. D .on x (omega (arith, D .size)) refl))
+        (D .sum ∙ zero-add _) (D .kept-sum ∙ zero-add _)
 
   pub published-run : (last : ℕ) → last ≤ 7
       → published near last area rule p ≡ runEffect (always near) (recursive last area rule) p

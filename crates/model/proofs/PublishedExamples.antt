@@ -20,4 +20,7 @@ published-examples = record {
   both = refl;
   larger = refl;
   neither = refl;
+  one-value = refl;
+  one-value-small = refl;
+  one-value-limited = refl;
 }

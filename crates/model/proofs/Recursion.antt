@@ -4,8 +4,9 @@
 use Prim.Native.Nat.{ℕ, zero, suc, _+_, _-_, _^_, _≤_, _<_}
 use mathlib.Core.Path.{_≡_, refl, sym, ap, ap₂, subst, _∙_}
 use mathlib.Core.Logic.{inl}
+use mathlib.Core.Bool.{Bool}
 use mathlib.Core.List.{List, [], _∷_, _++_, append-assoc}
-use native.Mathlib.Nat.{add-assoc, suc-add, zero-add}
+use native.Mathlib.Nat.{add-assoc, add-zero, suc-add, zero-add}
 use native.Mathlib.Omega.{arith}
 use lib.ListN.{length}
 use lib.Pow.{pow-pos}
@@ -14,18 +15,18 @@ use Rattle.planes.specs.Neighbours.{Near}
 use Rattle.planes.proofs.Counts.{count-le, length-from}
 use Rattle.tones.specs.declared.Rule.{Rule}
 use Rattle.model.specs.declared.Pass.{Pass}
-use Rattle.model.specs.Passes.{passed, counted, passCount}
-use Rattle.model.specs.Effects.{Effect, then, passEffect, runEffect, Same}
+use Rattle.model.specs.Passes.{changes, keptBack, passed, counted, componentCount}
+use Rattle.model.specs.Effects.{Effect, nothing, then, passEffect, runEffect, Same}
 use Rattle.model.specs.Runs.{All, none, more}
 use Rattle.model.specs.Enhancement.{section, level, levels, passes, deep, recursive}
 use Rattle.model.proofs.Apart.{Disjoint, turn, commute, counts-stay}
 
 -- ## Runs of passes
 
--- a pass retones no more components than there are pixels
-pub pass-few : (near : Near) (s : Pass) (p : List ℕ) → passCount near s p ≤ length p
-unfolding passCount
-pass-few near s p = omega (arith, count-le (counted near s p) (from 0 (length p)), length-from 0 (length p))
+-- a section has no more components than there are pixels
+pub pass-few : (f : List ℕ → Bool) (near : Near) (s : Pass) (p : List ℕ) → componentCount f near s p ≤ length p
+unfolding componentCount
+pass-few f near s p = omega (arith, count-le (counted f near s p) (from 0 (length p)), length-from 0 (length p))
 
 pub all-append : {P : Pass → Type 0} {xs ys : List Pass} → All P xs → All P ys → All P (xs ++ ys)
 all-append none b = b
@@ -40,12 +41,23 @@ abbrev Away : Pass → Pass → Type 0
 Away s t = (s .a ≤ s .b) × (t .a ≤ t .b) × Disjoint s t
 
 -- effects with equal fields
-pub effect-same : {p q : List ℕ} {j k : ℕ} → p ≡ q → j ≡ k
-    → _≡_ {A = Effect} (record { plane = p; retoned = j }) (record { plane = q; retoned = k })
-effect-same e d = ap₂ (λ (p : List ℕ) (k : ℕ). record { plane = p; retoned = k }) e d
+pub effect-same : {p q : List ℕ} {j k i l : ℕ} → p ≡ q → j ≡ k → i ≡ l
+    → _≡_ {A = Effect} (record { plane = p; retoned = j; kept = i }) (record { plane = q; retoned = k; kept = l })
+effect-same {p} {q} {j} {k} {i} {l} e d c =
+    ap₂ (λ (p : List ℕ) (j : ℕ). record { plane = p; retoned = j; kept = i }) e d
+    ∙ ap (λ (i : ℕ). record { plane = q; retoned = k; kept = i }) c
 
 pub then-assoc : (e f g : Effect) → then (then e f) g ≡ then e (then f g)
-then-assoc e f g = effect-same refl (add-assoc (e .retoned) (f .retoned) (g .retoned))
+then-assoc e f g = effect-same refl
+    (add-assoc (e .retoned) (f .retoned) (g .retoned))
+    (add-assoc (e .kept) (f .kept) (g .kept))
+
+-- nothing before an effect, and nothing after it
+pub nothing-then : (p : List ℕ) (e : Effect) → then (nothing p) e ≡ e
+nothing-then p e = effect-same refl (zero-add (e .retoned)) (zero-add (e .kept))
+
+pub then-nothing : (e : Effect) → then e (nothing (e .plane)) ≡ e
+then-nothing e = effect-same refl (add-zero (e .retoned)) (add-zero (e .kept))
 
 module _ (by : Pass → Near) where
   same-refl : (xs : List Pass) → Same by xs xs
@@ -69,7 +81,7 @@ module _ (by : Pass → Near) where
   pub run-append : (xs ys : List Pass) (p : List ℕ)
       → runEffect by (xs ++ ys) p ≡ then (runEffect by xs p) (runEffect by ys (runEffect by xs p .plane))
   unfolding runEffect
-  run-append [] ys p = effect-same refl (sym (zero-add (runEffect by ys p .retoned)))
+  run-append [] ys p = sym (nothing-then p (runEffect by ys p))
   run-append (x ∷ xs) ys p =
       let now = passEffect by x p in
       let first = runEffect by xs (now .plane) in
@@ -86,21 +98,23 @@ module _ (by : Pass → Near) where
   swap : (s t : Pass) (zs : List Pass) → Away s t → Same by (s ∷ t ∷ zs) (t ∷ s ∷ zs)
   unfolding runEffect
   swap s t zs w = record {
-    effects = λ p. effect-same (ap (λ (q : List ℕ). runEffect by zs q .plane) (one p)) (sums p);
+    effects = λ p. effect-same (ap (λ (q : List ℕ). runEffect by zs q .plane) (one p))
+        (sums changes (λ (e : Effect). e .retoned) p) (sums keptBack (λ (e : Effect). e .kept) p);
   }
     where
       one : (p : List ℕ) → passed (by t) t (passed (by s) s p) ≡ passed (by s) s (passed (by t) t p)
       one p = sym (commute by s t (w .2) (w .0) (w .1) p)
 
-      sums : (p : List ℕ)
-          → passCount (by s) s p + (passCount (by t) t (passed (by s) s p)
-          + runEffect by zs (passed (by t) t (passed (by s) s p)) .retoned)
-          ≡ passCount (by t) t p + (passCount (by s) s (passed (by t) t p)
-          + runEffect by zs (passed (by s) s (passed (by t) t p)) .retoned)
-      sums p =
-          ap₂ (λ (k : ℕ) (q : List ℕ). passCount (by s) s p + (k + runEffect by zs q .retoned))
-          (counts-stay by t s (turn s t (w .2)) (w .1) (w .0) p) (one p)
-          ∙ omega (arith, counts-stay by s t (w .2) (w .0) (w .1) p)
+      -- the count of the components that pass a test, and the effect's number of them
+      sums : (f : Pass → List ℕ → Bool) (k : Effect → ℕ) (p : List ℕ)
+          → componentCount (f s) (by s) s p + (componentCount (f t) (by t) t (passed (by s) s p)
+          + k (runEffect by zs (passed (by t) t (passed (by s) s p))))
+          ≡ componentCount (f t) (by t) t p + (componentCount (f s) (by s) s (passed (by t) t p)
+          + k (runEffect by zs (passed (by s) s (passed (by t) t p))))
+      sums f k p =
+          ap₂ (λ (i : ℕ) (q : List ℕ). componentCount (f s) (by s) s p + (i + k (runEffect by zs q)))
+          (counts-stay by t s (turn s t (w .2)) (w .1) (w .0) p (f t)) (one p)
+          ∙ omega (arith, counts-stay by s t (w .2) (w .0) (w .1) p (f s))
 
   past : (s : Pass) (ys zs : List Pass) → All (Away s) ys → Same by (s ∷ ys ++ zs) (ys ++ s ∷ zs)
   past s [] zs none = same-refl (s ∷ zs)

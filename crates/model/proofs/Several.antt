@@ -17,7 +17,7 @@ use Rattle.planes.specs.Neighbours.{Near, component}
 use Rattle.planes.proofs.Tests.{decide, or-cases, or-none, same-test, never}
 use Rattle.planes.proofs.Counts.{keep-same}
 use Rattle.model.specs.declared.Pass.{Pass}
-use Rattle.model.specs.Runs.{run, runCount, All}
+use Rattle.model.specs.Runs.{run, runCount, runKept, All}
 use Rattle.model.specs.Effects.{Effect, always}
 use Rattle.model.specs.Published.{Procedure, member, between, amid, forEach}
 use Rattle.model.specs.Published.{Reordered, empty, behind, swap, twice}
@@ -123,7 +123,8 @@ module _ (near : Near) (symm : Symmetric near) (area : ℕ) (f : Procedure) (ss 
     off = λ x hx u.
         let out = or-none (A x) (B x) u in
         E .off x hx (out .1) ∙ D .off x hx (out .0);
-    sum = omega (arith, D .sum, E .sum, parts .1);
+    sum = omega (arith, D .sum, E .sum, parts .1 .0);
+    kept-sum = omega (arith, D .kept-sum, E .kept-sum, parts .1 .1);
   }
     where
       m : List ℕ
@@ -133,7 +134,8 @@ module _ (near : Near) (symm : Symmetric near) (area : ℕ) (f : Procedure) (ss 
       r = shown n b B (t .plane)
 
       parts : TwoParts n a b A B (run (always near) ss q) (run (always near) ss m) (run (always near) ss r)
-          × (runCount (always near) ss q ≡ runCount (always near) ss m + runCount (always near) ss r)
+          × ((runCount (always near) ss q ≡ runCount (always near) ss m + runCount (always near) ss r)
+          × (runKept (always near) ss q ≡ runKept (always near) ss m + runKept (always near) ss r))
       parts = parts-run near symm n a b area A B w ss (T .fits) q m r (record {
         one = shown-part (λ x hx e. or-inl (A x) (B x) e) S;
         other = shown-part (λ x hx e. or-inr (A x) (B x) e) S;

@@ -2,13 +2,15 @@
 --
 --   Call         what the model is fed of a call: the pass, and of marks and queue the lengths
 --   passRefusal  the number of the first refusal that applies, 1 to 8 in order; 0 where none does
---   total        the sum of the counts of some replies
+--   retonedIn, keptIn   the counts of a reply
+--   total        the sum of a count over some replies
 --   AllAccepted  replies of calls that were all accepted
 --   State        the model's plane, and the replies so far
 --   call, chain  the state after a call, and after a chain of calls
 --   chainEffect  what a chain of calls comes to
+--   chainSufficient  the components of sufficient area, in the plane as each call finds it
 use Prim.Native.Nat.{ℕ, _+_}
-use mathlib.Core.Bool.{_||_}
+use mathlib.Core.Bool.{cond, _||_}
 use mathlib.Core.List.{List, [], _∷_, _++_}
 use lib.ListN.{length}
 use lib.Dec.{ltb, eqb}
@@ -19,6 +21,7 @@ use Rattle.planes.specs.Replies.{Reply, refuses, gives, replied, after}
 use Rattle.tones.specs.Refusals.{ruleRefusal}
 use Rattle.model.specs.declared.Pass.{Pass}
 use Rattle.model.specs.Neighbourhoods.{passNeighbours}
+use Rattle.model.specs.Passes.{passSufficient}
 use Rattle.model.specs.Effects.{Effect, counts, passEffect}
 
 -- ## Refusals
@@ -47,16 +50,22 @@ passRefusal z plane c = lentRefusal z plane (c .marks) (c .queue) ▷ numbersRef
 
 -- ## Answers
 
--- the number of components that a call retoned; a refused call retones none
-abbrev pub replyCount : Reply → ℕ
-replyCount (refuses k) = 0
-replyCount (gives []) = 0
-replyCount (gives (retoned ∷ rest)) = retoned
+-- the number of components that a call retoned, and that it kept back; a refused call counts none
+abbrev pub retonedIn : Reply → ℕ
+retonedIn (refuses k) = 0
+retonedIn (gives []) = 0
+retonedIn (gives (retoned ∷ rest)) = retoned
 
--- the sum of the counts
-abbrev pub total : List Reply → ℕ
-total [] = 0
-total (x ∷ xs) = replyCount x + total xs
+abbrev pub keptIn : Reply → ℕ
+keptIn (refuses k) = 0
+keptIn (gives []) = 0
+keptIn (gives (retoned ∷ [])) = 0
+keptIn (gives (retoned ∷ kept ∷ rest)) = kept
+
+-- the sum of a count
+abbrev pub total : (Reply → ℕ) → List Reply → ℕ
+total f [] = 0
+total f (x ∷ xs) = f x + total f xs
 
 -- all calls were accepted
 pub data AllAccepted : List Reply → Type 0 where
@@ -73,7 +82,7 @@ pub record State : Type 0 where
 abbrev pub start : List ℕ → State
 start p = record { plane = p; answers = [] }
 
--- a refused call answers its number and leaves the plane; any other answers its count and leaves the plane of its pass
+-- a refused call answers its number and leaves the plane; any other answers its counts and leaves the plane of its pass
 unfoldable pub call : Shape → State → Call → State
 call z s c =
     let refusal = passRefusal z (length (s .plane)) c in
@@ -90,4 +99,15 @@ chain z s (c ∷ cs) = chain z (call z s c) cs
 
 -- what a chain comes to
 abbrev pub chainEffect : State → Effect
-chainEffect s = record { plane = s .plane; retoned = total (s .answers) }
+chainEffect s = record {
+  plane = s .plane;
+  retoned = total retonedIn (s .answers);
+  kept = total keptIn (s .answers);
+}
+
+-- the number of components of sufficient area, summed over the calls that are not refused, in the plane as each finds it
+unfoldable pub chainSufficient : Shape → List ℕ → List Call → ℕ
+chainSufficient z p [] = 0
+chainSufficient z p (c ∷ cs) =
+    let found = passSufficient (passNeighbours z (c .pass)) (c .pass) p in
+    cond (eqb (passRefusal z (length p) c) 0) found 0 + chainSufficient z (call z (start p) c .plane) cs

@@ -14,24 +14,29 @@ use mathlib.Core.Path.{_≡_}
 use mathlib.Core.List.{List, [], _∷_}
 use Rattle.planes.specs.Neighbours.{Near}
 use Rattle.model.specs.declared.Pass.{Pass}
-use Rattle.model.specs.Passes.{passed, passCount}
+use Rattle.model.specs.Passes.{passed, passCount, passKept}
 
--- the plane, and the number of components that were retoned
+-- the plane, the number of components that were retoned, and of those of sufficient area that were kept back
 pub record Effect : Type 0 where
   pub plane : List ℕ
   pub retoned : ℕ
+  pub kept : ℕ
 
 abbrev pub counts : Effect → List ℕ
-counts e = e .retoned ∷ []
+counts e = e .retoned ∷ e .kept ∷ []
 
 abbrev pub nothing : List ℕ → Effect
-nothing p = record { plane = p; retoned = 0 }
+nothing p = record { plane = p; retoned = 0; kept = 0 }
 
 abbrev pub then : Effect → Effect → Effect
-then e f = record { plane = f .plane; retoned = e .retoned + f .retoned }
+then e f = record { plane = f .plane; retoned = e .retoned + f .retoned; kept = e .kept + f .kept }
 
 abbrev pub passEffect : (Pass → Near) → Pass → List ℕ → Effect
-passEffect by s p = record { plane = passed (by s) s p; retoned = passCount (by s) s p }
+passEffect by s p = record {
+  plane = passed (by s) s p;
+  retoned = passCount (by s) s p;
+  kept = passKept (by s) s p;
+}
 
 unfoldable pub runEffect : (Pass → Near) → List Pass → List ℕ → Effect
 runEffect by [] p = nothing p

@@ -2,28 +2,38 @@
 -- a list of passes and an enhancement, by the number of the refusal that it meets with and by the effect that it has
 -- where it meets with none. Definitions only.
 --
+--   came           the effect that a plane and counts stand for
+--   sums           the sums of both counts
 --   answerReply    the reply of each case of an answer
 --   Over           a call that had its effect
 --   Outcome        what a call answers and leaves
 --   OutputOutcome  the same of a call that is lent an output too
-use Prim.Native.Nat.{ℕ, suc}
+use Prim.Native.Nat.{ℕ, suc, _+_}
 use mathlib.Core.Path.{_≡_}
 use mathlib.Core.List.{List, [], _∷_}
 use Rattle.planes.specs.Lists.{Beyond}
 use Rattle.planes.specs.Replies.{Reply, refuses, gives, replied, after, overwritten}
+use Rattle.model.specs.declared.Counts.{Counts}
 use Rattle.model.specs.declared.Answer.{Answer}
 use Rattle.model.specs.declared.Answer.the-variants.{Refused, Done}
 use Rattle.model.specs.Effects.{Effect, counts}
 
--- the requirements' number for the case of a refusal, and the count of retoned components for the other
+-- the effect of a call that left the plane and answered the counts
+abbrev pub came : List ℕ → Counts → Effect
+came plane r = record { plane = plane; retoned = r .retoned; kept = r .kept }
+
+-- the sums of both counts
+abbrev pub sums : Counts → Counts → Counts
+sums x y = record { retoned = x .retoned + y .retoned; kept = x .kept + y .kept }
+
+-- the requirements' number for the case of a refusal, and both counts for the other
 abbrev pub answerReply : Answer → Reply
 answerReply (Refused k) = refuses k
-answerReply (Done count) = gives (count ∷ [])
+answerReply (Done r) = gives (r .retoned ∷ r .kept ∷ [])
 
--- the plane and the count r are the effect's; marks and queue keep their lengths and all entries from n on
-pub record Over (n : ℕ) (e : Effect) (marks queue plane' marks' queue' : List ℕ) (r : ℕ) : Type 0 where
-  pub plane-is : plane' ≡ e .plane
-  pub count-is : r ≡ e .retoned
+-- the plane and the counts are the effect's; marks and queue keep their lengths and all entries from n on
+pub record Over (n : ℕ) (e : Effect) (marks queue plane' marks' queue' : List ℕ) (r : Counts) : Type 0 where
+  pub effect-is : came plane' r ≡ e
   pub marks-rest : Beyond n marks marks'
   pub queue-rest : Beyond n queue queue'
 

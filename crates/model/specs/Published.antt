@@ -24,7 +24,7 @@ use Rattle.planes.specs.Lists.{from, keep, at}
 use Rattle.planes.specs.Neighbours.{Near, linked, component, first}
 use Rattle.tones.specs.declared.Rule.{Rule}
 use Rattle.tones.specs.Tones.{tone, kept}
-use Rattle.model.specs.Effects.{Effect}
+use Rattle.model.specs.Effects.{Effect, nothing}
 
 -- by the ends a and b and the set, from the effect so far to the effect after it
 abbrev pub Procedure : Type 0
@@ -62,8 +62,13 @@ painted f S p = map (λ i. cond (member S i) (f (at p i)) (at p i)) (from 0 (len
 unfoldable pub histogramEqualization : Rule → Procedure
 histogramEqualization rule a b S t =
     let vs = map (at (t .plane)) S in
-    let new : Effect = record { plane = painted (tone rule a b vs) S (t .plane); retoned = t .retoned + 1 } in
-    cond (kept rule a b vs) t new
+    let new : Effect = record {
+      plane = painted (tone rule a b vs) S (t .plane);
+      retoned = t .retoned + 1;
+      kept = t .kept;
+    } in
+    let old : Effect = record { plane = t .plane; retoned = t .retoned; kept = t .kept + 1 } in
+    cond (kept rule a b vs) old new
 
 -- ## Orders of components
 
@@ -115,7 +120,7 @@ module _ (arrange : Arrangement) (near : Near) (area : ℕ) where
 unfoldable pub publishedIn : Arrangement → Near → ℕ → ℕ → Rule → List ℕ → Effect
 publishedIn arrange near last area rule p =
     recursiveHistogramEqualization arrange near area rule last 0 255 (from 0 (length p))
-    (record { plane = p; retoned = 0 })
+    (nothing p)
 
 abbrev pub published : Near → ℕ → ℕ → Rule → List ℕ → Effect
 published = publishedIn readingOrder

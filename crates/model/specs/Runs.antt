@@ -1,12 +1,14 @@
 -- Lists of passes. Definitions only.
 --
---   All             every pass of a list has a property
---   run, runCount   the plane and the count of a run, by name
-use Prim.Native.Nat.{ℕ}
+--   All                      every pass of a list has a property
+--   run, runCount, runKept   the plane and the counts of a run, by name
+--   runSufficient            the components of sufficient area, in the plane as each pass finds it
+use Prim.Native.Nat.{ℕ, _+_}
 use mathlib.Core.List.{List, [], _∷_}
 use Rattle.planes.specs.Neighbours.{Near}
 use Rattle.model.specs.declared.Pass.{Pass}
-use Rattle.model.specs.Effects.{runEffect}
+use Rattle.model.specs.Passes.{passSufficient}
+use Rattle.model.specs.Effects.{passEffect, runEffect}
 
 pub data All (P : Pass → Type 0) : List Pass → Type 0 where
   none : All P []
@@ -19,3 +21,12 @@ run by ss p = runEffect by ss p .plane
 -- the number of components that they retoned
 abbrev pub runCount : (Pass → Near) → List Pass → List ℕ → ℕ
 runCount by ss p = runEffect by ss p .retoned
+
+-- the number of components of sufficient area that they kept back
+abbrev pub runKept : (Pass → Near) → List Pass → List ℕ → ℕ
+runKept by ss p = runEffect by ss p .kept
+
+-- the number of components of sufficient area, summed over the passes, in the plane as each finds it
+unfoldable pub runSufficient : (Pass → Near) → List Pass → List ℕ → ℕ
+runSufficient by [] p = 0
+runSufficient by (s ∷ ss) p = passSufficient (by s) s p + runSufficient by ss (passEffect by s p .plane)

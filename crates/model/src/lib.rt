@@ -1,10 +1,13 @@
 // The model of section passes: what a pass is, what a call of it answers, and the refusals of its numbers.
 //
 // Pass           an interval, a least area and a tone rule
+// Counts, plus   how many components were retoned, and how many kept back
 // Answer         what a pass, a list or an enhancement answers
 // pass_refusal   refusals 5 to 8 for a pass's own numbers, or 0
 // area_refusal   refusal 6 for a least area, or 0
 ghost use mathlib.Core.Path.{_≡_};
+ghost use Prim.Native.Nat.{_+_, _<_};
+ghost use Rattle.model.specs.Outcomes.{sums};
 ghost use Rattle.model.specs.Calls.{areaRefusal, numbersRefusal};
 use planes::refused;
 use tones::Rule;
@@ -17,10 +20,28 @@ pub struct Pass {
     pub rule: Rule,
 }
 
-// The number of a refusal, or the number of components that were retoned.
+// The number of components that were retoned, and of those of sufficient area that were kept back. Together they are
+// the components of sufficient area.
+pub struct Counts {
+    pub retoned: u32,
+    pub kept: u32,
+}
+
+// The number of a refusal, or both counts.
 pub enum Answer {
     Refused(u8),
-    Done(u32),
+    Done(Counts),
+}
+
+// The sums of both counts.
+pub fn plus(x: Counts, y: Counts) -> Counts
+    requires { ⌜ (x .retoned + y .retoned < 4294967296) × (x .kept + y .kept < 4294967296) ⌝ }
+    ensures { λ r. ⌜ r ≡ sums x y ⌝ }
+{
+    Counts {
+        retoned: x.retoned + y.retoned,
+        kept: x.kept + y.kept,
+    }
 }
 
 // The greatest least area: as many pixels as a plane may have.

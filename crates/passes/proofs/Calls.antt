@@ -3,6 +3,7 @@
 use Prim.Native.Nat.{ℕ}
 use mathlib.Core.Path.{_≡_, sym, ap, ap₂, _∙_}
 use mathlib.Core.List.{List, [], _∷_, _++_, append-assoc, append-nil}
+use native.Mathlib.Omega.{arith}
 use lib.ListN.{length}
 use Rattle.planes.specs.Lists.{at}
 use Rattle.planes.specs.Neighbours.{Near}
@@ -15,19 +16,21 @@ use Rattle.model.specs.Outcomes.{Over}
 use Rattle.model.specs.Calls.{Call, State, start, call, chain}
 use Rattle.painting.specs.Painting.{Marked}
 use Rattle.sections.specs.Sections.{Treated}
+use Rattle.sections.specs.declared.Treatment.{Treatment}
+use Rattle.sections.proofs.Marked.{marked-gone}
+use Rattle.model.proofs.Recursion.{effect-same}
 use Rattle.passes.specs.Calls.{callOn, PassOutcome, Sequence, none, more}
 use Rattle.painting.specs.declared.Next.{Next}
 
 -- ## An accepted call
 
 -- a marked section that was treated had the pass
-pub over : (by : Pass → Near) {n code r : ℕ} {s : Pass} {t : Next}
+pub over : (by : Pass → Near) {n : ℕ} {r : Treatment} {s : Pass} {t : Next}
     {plane marks₀ marks queue plane' marks' queue' : List ℕ} → Marked s plane marks₀ marks n
-    → Treated (by s) n code s t plane marks queue plane' marks' queue' r
-    → Over n (passEffect by s plane) marks₀ queue plane' marks' queue' r
-over by M T = record {
-  plane-is = T .plane-is;
-  count-is = T .count-is;
+    → Treated (by s) n 1 s t plane marks queue plane' marks' queue' r
+    → Over n (passEffect by s plane) marks₀ queue plane' marks' queue' (record { retoned = r .retoned; kept = r .kept })
+over by {s = s} M T = record {
+  effect-is = effect-same (T .plane-is) (T .retoned-is) (omega (arith, T .kept-is, marked-gone (by s) M));
   marks-rest = beyond-trans (M .rest) (T .marks-rest);
   queue-rest = T .queue-rest;
 }

@@ -12,12 +12,19 @@ ghost use Rattle.model.specs.Effects.{passEffect};
 ghost use Rattle.model.specs.Outcomes.{answerReply, Over};
 ghost use Rattle.passes.specs.Calls.{callOn, PassOutcome};
 use model::Answer;
+use model::Counts;
 use model::Pass;
 use painting::Next;
 use planes::Shape;
 
-// A pass over a plane with room for it. How many components were retoned.
-pub fn treat(plane: &mut [u8], marks: &mut [u8], queue: &mut [u32], shape: Shape, pass: Pass) -> u32
+// A pass over a plane with room for it. How many components were retoned, and how many kept back.
+pub fn treat(
+    plane: &mut [u8],
+    marks: &mut [u8],
+    queue: &mut [u32],
+    shape: Shape,
+    pass: Pass,
+) -> Counts
     requires { ⌜ Lent shape (length (now plane)) (length (now marks)) (length (now queue)) × (pass .a ≤ pass .b) ⌝ }
     ensures { λ r. ⌜ Over (pixels shape) (passEffect (passNeighbours shape) pass (now (plane .entry)))
         (now (marks .entry)) (now (queue .entry))
@@ -31,7 +38,10 @@ pub fn treat(plane: &mut [u8], marks: &mut [u8], queue: &mut [u32], shape: Shape
         high: 0,
     };
     let t = sections::treat_section(plane, marks, queue, shape, 1, true, pass, gone);
-    t.count
+    Counts {
+        retoned: t.retoned,
+        kept: t.kept,
+    }
 }
 
 // 1 to 8 for a call of a pass, or 0.

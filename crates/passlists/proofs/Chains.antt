@@ -7,7 +7,6 @@
 use Prim.Native.Nat.{ℕ}
 use mathlib.Core.Path.{_≡_, refl, sym, ap, ap₂, subst, _∙_}
 use mathlib.Core.List.{List, [], _∷_, map}
-use native.Mathlib.Nat.{zero-add}
 use lib.ListN.{length}
 use Rattle.planes.specs.Refusals.{_▷_}
 use Rattle.planes.specs.Shapes.{pixels, lentRefusal}
@@ -21,7 +20,7 @@ use Rattle.model.specs.Effects.{Effect, counts, runEffect}
 use Rattle.model.specs.Outcomes.{Outcome}
 use Rattle.model.specs.Calls.{Call, numbersRefusal, passRefusal, AllAccepted, none, State, start, chain, chainEffect}
 use Rattle.model.specs.Runs.{All, none, more}
-use Rattle.model.proofs.Recursion.{all-map, effect-same}
+use Rattle.model.proofs.Recursion.{all-map, nothing-then}
 use Rattle.model.proofs.Enhancement.{chain-calls, chain-taken}
 use Rattle.passes.specs.Calls.{callOn}
 use Rattle.listformat.specs.Format.{passesOf}
@@ -80,7 +79,8 @@ module _ (z : Shape) (plane marks queue : List ℕ) where
   chained-runs : unlent ≡ 0 → (ss : List Pass) → passesRefusal ss ≡ 0
       → runEffect (passNeighbours z) ss plane ≡ chainEffect (chained ss)
   chained-runs e ss f =
-      sym (chain-calls z made (λ s. refl) ss (taken e ss f) (start plane) (whole e) ∙ effect-same refl (zero-add _))
+      sym (chain-calls z made (λ s. refl) ss (taken e ss f) (start plane) (whole e)
+      ∙ nothing-then plane (runEffect (passNeighbours z) ss plane))
 
   module _ (reply : Reply) (plane' marks' queue' : List ℕ) where
     -- passes that are not refused, whatever the refusal's number is called

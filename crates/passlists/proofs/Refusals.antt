@@ -1,5 +1,4 @@
--- The first of some refusals that applies, looked for along the list of them, and the refusals of passes in memory.
--- Assumes nothing.
+-- The refusals of passes in memory. Assumes nothing.
 use Prim.Native.Nat.{ℕ, zero, suc, _+_, _≤_, _<_, zero-le}
 use mathlib.Core.Path.{_≡_, refl, sym, ap, subst, _∙_}
 use mathlib.Core.List.{List, [], _∷_, map}
@@ -17,38 +16,7 @@ use Rattle.model.specs.declared.Pass.{Pass}
 use Rattle.model.specs.Calls.{numbersRefusal}
 use Rattle.listformat.specs.Format.{greatestCount}
 use Rattle.listformat.specs.Refusals.{firstRefusal, passesRefusal}
-
--- ## Along a list of refusals
-
--- none of the first i refusals applies
-pub record Clear (ks : List ℕ) (i : ℕ) : Type 0 where
-  pub upto : i ≤ length ks
-  pub same : firstRefusal (drop i ks) ≡ firstRefusal ks
-
-pub clear-none : (ks : List ℕ) → Clear ks 0
-clear-none ks = record { upto = zero-le; same = refl }
-
-module _ {ks : List ℕ} {i : ℕ} (clear : Clear ks i) where
-  next : i < length ks → at ks i ▷ firstRefusal (drop (i + 1) ks) ≡ firstRefusal ks
-  next h =
-      let e : drop i ks ≡ at ks i ∷ drop (i + 1) ks = rw add-one (drop-cons ks i 0 h) in
-      sym (ap firstRefusal e) ∙ clear .same
-
-  pub clear-more : i < length ks → at ks i ≡ 0 → Clear ks (i + 1)
-  clear-more h e = record { upto = omega arith; same = sym (▷-right (at ks i) _ e) ∙ next h }
-
-  -- the refusal at index i applies, so it is the first
-  pub clear-stop : i < length ks → (at ks i ≡ 0 → ⊥) → at ks i ≡ firstRefusal ks
-  clear-stop h f = sym (▷-left (at ks i) _ f) ∙ next h
-
-  pub clear-all : length ks ≤ i → 0 ≡ firstRefusal ks
-  clear-all h = sym (ap firstRefusal (drop-of-length-le ks h)) ∙ clear .same
-
--- where none applies, the one at index i does not
-pub clear-each : (ks : List ℕ) → firstRefusal ks ≡ 0 → (i : ℕ) → i < length ks → at ks i ≡ 0
-clear-each [] e i h = absurd (omega arith)
-clear-each (k ∷ ks) e zero h = ▷-none k (firstRefusal ks) e .0
-clear-each (k ∷ ks) e (suc i) h = clear-each ks (▷-none k (firstRefusal ks) e .1) i (omega arith)
+use Rattle.listformat.proofs.First.{clear-each}
 
 -- ## The refusals of passes in memory
 

@@ -3,41 +3,29 @@
 use Prim.Native.Nat.{ℕ, _+_, _*_, _≤_, _<_, zero-le}
 use mathlib.Core.Path.{_≡_, refl, sym, ap, subst, _∙_}
 use mathlib.Core.List.{List, [], _∷_}
-use native.Mathlib.Nat.{mul-le-mul, suc-mul, add-zero, zero-add}
+use native.Mathlib.Nat.{mul-le-mul}
 use native.Mathlib.Numerals.{add-one}
 use native.Mathlib.Omega.{arith}
 use lib.ListN.{length, getD, drop, drop-of-length-le}
 use lib.Seq.{drop-cons}
 use Rattle.planes.specs.Lists.{Beyond}
 use Rattle.planes.specs.Refusals.{greatestPixels}
-use Rattle.planes.specs.Neighbours.{Near}
 use Rattle.planes.specs.Shapes.{pixels, Lent}
 use Rattle.planes.specs.declared.Shape.{Shape}
 use Rattle.planes.proofs.Lists.{beyond-refl, beyond-trans}
 use Rattle.model.specs.declared.Pass.{Pass}
-use Rattle.model.specs.Passes.{passed}
 use Rattle.model.specs.Neighbourhoods.{passNeighbours}
 use Rattle.model.specs.Effects.{Effect, nothing, then, passEffect, runEffect}
-use Rattle.model.specs.Runs.{runCount}
 use Rattle.model.specs.Outcomes.{Over}
 use Rattle.model.proofs.Order.{length-passed}
 use Rattle.model.proofs.Chains.{ordered}
-use Rattle.model.proofs.Recursion.{pass-few, effect-same, then-assoc}
+use Rattle.model.proofs.Recursion.{then-assoc, nothing-then, then-nothing}
+use Rattle.model.proofs.Sufficient.{run-few}
 use Rattle.listformat.specs.Format.{greatestCount}
 use Rattle.passturns.specs.Steps.{further, Countable, StepReady, Runnable}
 use Rattle.passlists.proofs.Refusals.{noPass, fine-passes, fine-pass}
 
 -- ## Sums of counts
-
-module _ (by : Pass → Near) where
-  pub run-few : (ss : List Pass) (p : List ℕ) → runCount by ss p ≤ length ss * length p
-  unfolding runEffect
-  run-few [] p = zero-le
-  run-few (s ∷ ss) p =
-      let rest = run-few ss (passed (by s) s p) in
-      let same : length ss * length (passed (by s) s p) ≡ length ss * length p =
-      ap (length ss *_) (length-passed (by s) s p) in
-      omega (arith, pass-few (by s) s p, suc-mul (length ss) (length p))
 
 -- 1,024 passes over 1,048,576 pixels at most
 pub run-fits : (z : Shape) (ss : List Pass) (plane marks queue : List ℕ) → Runnable z ss plane marks queue
@@ -47,13 +35,14 @@ run-fits z ss plane marks queue r =
     let pixels : length plane ≤ greatestPixels = omega (arith, r .lent .whole, r .lent .size .few) in
     let most : length ss * length plane ≤ greatestCount * greatestPixels =
     mul-le-mul {n₂ = greatestCount} {m₂ = greatestPixels} few pixels in
-    omega (arith, run-few (passNeighbours z) ss plane)
+    let all = run-few (passNeighbours z) ss plane in
+    (omega arith, omega arith)
 
 -- ## Along a list of passes
 
 -- what comes first counts no more than all
 pub first-fits : (e f : Effect) → Countable (then e f) → Countable e
-first-fits e f h = omega (arith, h)
+first-fits e f h = (omega (arith, h .0), omega (arith, h .1))
 
 -- what some passes come to
 abbrev pub effectOf : Shape → List Pass → List ℕ → Effect
@@ -72,7 +61,7 @@ module _ {z : Shape} {ss : List Pass} {plane₀ marks₀ queue₀ : List ℕ} wh
   pub along-none : Along z ss plane₀ marks₀ queue₀ 0 (nothing plane₀) marks₀ queue₀
   along-none = record {
     upto = zero-le;
-    effect-is = effect-same refl (zero-add (effectOf z ss plane₀ .retoned));
+    effect-is = nothing-then plane₀ (effectOf z ss plane₀);
     size = refl;
     marks-rest = beyond-refl (pixels z) marks₀;
     queue-rest = beyond-refl (pixels z) queue₀;
@@ -127,16 +116,15 @@ module _ {z : Shape} {ss : List Pass} {plane₀ marks₀ queue₀ : List ℕ} wh
     }
 
     pub along-all : length ss ≤ i → Over (pixels z) (effectOf z ss plane₀) marks₀ queue₀ (e .plane) marks queue
-        (e .retoned)
+        (record { retoned = e .retoned; kept = e .kept })
     unfolding runEffect
     along-all l =
         let none : drop i ss ≡ [] = drop-of-length-le ss l in
         let same : e ≡ effectOf z ss plane₀ =
-        effect-same refl (sym (add-zero (e .retoned)))
+        sym (then-nothing e)
         ∙ ap (λ (r : List Pass). then e (effectOf z r (e .plane))) (sym none) ∙ along .effect-is in
         record {
-          plane-is = ap (λ (f : Effect). f .plane) same;
-          count-is = ap (λ (f : Effect). f .retoned) same;
+          effect-is = same;
           marks-rest = along .marks-rest;
           queue-rest = along .queue-rest;
         }

@@ -33,7 +33,8 @@ use Rattle.passturns.specs.Steps.{soFar, countsSoFar, further, StepReady, StepO
 use Rattle.passturns.specs.Steps.{checked}
 use Rattle.passturns.specs.Steps.{TurnOutcome, checks, steps}
 use Rattle.passturns.specs.declared.Progress.{Progress}
-use Rattle.passlists.proofs.Refusals.{Clear, clear-none, clear-more, clear-stop, clear-all, noPass}
+use Rattle.listformat.proofs.First.{Clear, clear-none, clear-more, clear-stop, clear-all}
+use Rattle.passlists.proofs.Refusals.{noPass}
 use Rattle.passlists.proofs.Runs.{Along, along-none, along-more, along-all, along-ready}
 
 pub record Plan (z : Shape) (plane₀ marks₀ queue₀ : List ℕ) : Type 0 where
@@ -53,10 +54,10 @@ module _ {z : Shape} {plane₀ marks₀ queue₀ : List ℕ} (P : Plan z plane�
 
   -- the pass at index i is due to be checked, or to be run after what the run has come to
   abbrev due : ℕ → Progress
-  due i = record { at = i; end = end; sum = 0; refusal = 0; running = false }
+  due i = record { at = i; end = end; retoned = 0; kept = 0; refusal = 0; running = false }
 
   abbrev runs : ℕ → Effect → Progress
-  runs i e = record { at = i; end = end; sum = e .retoned; refusal = 0; running = true }
+  runs i e = record { at = i; end = end; retoned = e .retoned; kept = e .kept; refusal = 0; running = true }
 
   pub data Inv : Progress → List ℕ → List ℕ → List ℕ → Type 0 where
     checking : {i : ℕ} → P .early ≡ 0 → Clear (P .later) i → i < end → Inv (due i) plane₀ marks₀ queue₀
@@ -106,7 +107,7 @@ module _ {z : Shape} {plane₀ marks₀ queue₀ : List ℕ} (P : Plan z plane�
   begins s is = subst (λ (r : Progress). Inv r plane₀ marks₀ queue₀) (sym is) (go (P .early) refl)
     where
       some : P .early ≡ 0 → (t : Bool) → eqb end 0 ≡ t
-          → Inv (record { at = 0; end = end; sum = 0; refusal = 0; running = t }) plane₀ marks₀ queue₀
+          → Inv (record { at = 0; end = end; retoned = 0; kept = 0; refusal = 0; running = t }) plane₀ marks₀ queue₀
       some e true n =
           let none : length (P .later) ≤ 0 = omega (arith, eqb-true end 0 n, P .each) in
           starts e (clear-all (clear-none (P .later)) none)
@@ -127,7 +128,7 @@ module _ {z : Shape} {plane₀ marks₀ queue₀ : List ℕ} (P : Plan z plane�
       inside = subst (i <_) (sym (P .each)) l
 
       next : Clear (P .later) (i + 1) → (t : Bool) → ltb (i + 1) end ≡ t
-          → Nearer (record { at = cond t (i + 1) 0; end = end; sum = 0; refusal = 0; running = not t }) i
+          → Nearer (record { at = cond t (i + 1) 0; end = end; retoned = 0; kept = 0; refusal = 0; running = not t }) i
       next d true m = (checking e d (ltb-true (i + 1) end m), omega arith)
       next d false m =
           let over = ltb-false (i + 1) end m in

@@ -3,10 +3,15 @@
 // run_list      the passes of a list of bytes, or the refusal that it meets with: 1 to 4, 16 for fewer bytes than a
 //               head has, 15, 16, then for each record 17, 5, 6, 7, 8
 // run_passes    lent passes, or the refusal that they meet with: 1 to 4, 16, then for each pass 5, 6, 7, 8
+// list_refusal  the refusal that a list of bytes meets with, and nothing is run
 //
 // Both are one walk: a run begins, takes a turn for each pass, first to check it and then to run it, and answers. All
 // passes are checked before the first one runs, so a refusal changes nothing.
+ghost use mathlib.Core.Path.{_≡_};
+ghost use Rattle.planes.specs.Refusals.{_▷_};
+ghost use Rattle.planes.specs.Shapes.{lentRefusal};
 ghost use Rattle.model.specs.Outcomes.{answerReply};
+ghost use Rattle.listformat.specs.Refusals.{listRefusal};
 ghost use Rattle.passlists.specs.Outcomes.{ListOutcome, PassesOutcome};
 use model::Answer;
 use model::Pass;
@@ -30,6 +35,17 @@ pub fn run_list(
         s = passturns::turn(plane, marks, queue, shape, record.form, record.pass, s);
     }
     passturns::answer(s)
+}
+
+// The refusal that a list of bytes meets with where memory of these lengths is lent, or 0. Nothing is run.
+pub fn list_refusal(list: &[u8], shape: Shape, plane: usize, marks: usize, queue: usize) -> u8
+    ensures { λ r. ⌜ r ≡ lentRefusal shape plane marks queue ▷ listRefusal (now (list .entry)) ⌝ }
+{
+    let lent = planes::lent_refusal(shape, plane, marks, queue);
+    if lent != 0 {
+        return lent;
+    }
+    listformat::list_refusal(list)
 }
 
 // Lent passes over the lent plane of the shape, one after the other, or the refusal that they meet with. Marks and

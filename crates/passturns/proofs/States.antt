@@ -31,7 +31,7 @@ stopped-checked {k = suc k} s e f = ap stopped e
 
 -- no refusal, and the test for a next pass says t
 pub checked-next : {k : ℕ} (s : Progress) (t : Bool) → k ≡ 0 → ltb (s .at + 1) (s .end) ≡ t
-    → record { at = cond t (s .at + 1) 0; end = s .end; sum = 0; refusal = 0; running = not t } ≡ checked s k
+    → record { at = cond t (s .at + 1) 0; end = s .end; retoned = 0; kept = 0; refusal = 0; running = not t } ≡ checked s k
 checked-next {k} s t e f =
     sym (ap (checked s) e
-    ∙ ap (λ (t : Bool). record { at = cond t (s .at + 1) 0; end = s .end; sum = 0; refusal = 0; running = not t }) f)
+    ∙ ap (λ (t : Bool). record { at = cond t (s .at + 1) 0; end = s .end; retoned = 0; kept = 0; refusal = 0; running = not t }) f)

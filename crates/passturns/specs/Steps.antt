@@ -31,7 +31,7 @@ use Rattle.passturns.specs.declared.Progress.{Progress}
 -- ## What a run has come to
 
 abbrev pub soFar : Progress → List ℕ → Effect
-soFar s plane = record { plane = plane; retoned = s .sum }
+soFar s plane = record { plane = plane; retoned = s .retoned; kept = s .kept }
 
 abbrev pub countsSoFar : Progress → List ℕ
 countsSoFar s = counts (soFar s [])
@@ -41,17 +41,17 @@ further z p e = then e (passEffect (passNeighbours z) p (e .plane))
 
 -- the counts fit 32 bits
 abbrev pub Countable : Effect → Type 0
-Countable e = e .retoned < 4294967296
+Countable e = (e .retoned < 4294967296) × (e .kept < 4294967296)
 
 -- ## The states of a run
 
 -- a run that has met with a refusal
 abbrev pub stopped : ℕ → Progress
-stopped k = record { at = 0; end = 0; sum = 0; refusal = k; running = false }
+stopped k = record { at = 0; end = 0; retoned = 0; kept = 0; refusal = k; running = false }
 
 -- a run of n passes; where there is none, all are checked
 abbrev pub started : ℕ → Progress
-started n = record { at = 0; end = n; sum = 0; refusal = 0; running = eqb n 0 }
+started n = record { at = 0; end = n; retoned = 0; kept = 0; refusal = 0; running = eqb n 0 }
 
 -- a run of n passes, for the refusal that applies before any pass is looked at
 abbrev pub begun : ℕ → ℕ → Progress
@@ -64,7 +64,8 @@ abbrev pub checked : Progress → ℕ → Progress
 checked s zero = record {
   at = cond (ltb (s .at + 1) (s .end)) (s .at + 1) 0;
   end = s .end;
-  sum = 0;
+  retoned = 0;
+  kept = 0;
   refusal = 0;
   running = not (ltb (s .at + 1) (s .end));
 }
@@ -72,7 +73,14 @@ checked s (suc k) = stopped (suc k)
 
 -- after the pass at s .at has run, and the run has come to e
 abbrev pub stepped : Progress → Effect → Progress
-stepped s e = record { at = s .at + 1; end = s .end; sum = e .retoned; refusal = 0; running = true }
+stepped s e = record {
+  at = s .at + 1;
+  end = s .end;
+  retoned = e .retoned;
+  kept = e .kept;
+  refusal = 0;
+  running = true;
+}
 
 -- ## One pass, and all of them
 

@@ -21,16 +21,18 @@ ghost use Rattle.passturns.specs.Steps.{checked};
 ghost use Rattle.passturns.specs.Steps.{TurnOutcome};
 use listformat::COUNT;
 use model::Answer;
+use model::Counts;
 use model::Pass;
 use planes::Shape;
 use planes::refused;
 
 // How far a run has come: the pass that is due, of `end` passes, to be checked or, once all are checked, to be run; the
-// sum of the counts so far; and the refusal that the run has met with, or 0.
+// sums of both counts so far; and the refusal that the run has met with, or 0.
 pub struct Progress {
     pub at: usize,
     pub end: usize,
-    pub sum: u32,
+    pub retoned: u32,
+    pub kept: u32,
     pub refusal: u8,
     pub running: bool,
 }
@@ -42,7 +44,8 @@ fn stop(refusal: u8) -> Progress
     Progress {
         at: 0,
         end: 0,
-        sum: 0,
+        retoned: 0,
+        kept: 0,
         refusal,
         running: false,
     }
@@ -55,7 +58,8 @@ fn start(count: usize) -> Progress
     Progress {
         at: 0,
         end: count,
-        sum: 0,
+        retoned: 0,
+        kept: 0,
         refusal: 0,
         running: count == 0,
     }
@@ -105,11 +109,12 @@ fn step<'a>(
     ensures { λ r. ⌜ StepOutcome shape pass s (now (plane .entry)) (now (marks .entry)) (now (queue .entry)) r
         (now (plane .exit)) (now (marks .exit)) (now (queue .exit)) ⌝ }
 {
-    let count = passes::treat(plane, marks, queue, shape, pass);
+    let counts = passes::treat(plane, marks, queue, shape, pass);
     Progress {
         at: s.at + 1,
         end: s.end,
-        sum: s.sum + count,
+        retoned: s.retoned + counts.retoned,
+        kept: s.kept + counts.kept,
         refusal: 0,
         running: true,
     }
@@ -133,7 +138,8 @@ fn check(form: u8, pass: Pass, s: Progress) -> Progress
         return Progress {
             at: next,
             end: s.end,
-            sum: 0,
+            retoned: 0,
+            kept: 0,
             refusal: 0,
             running: false,
         };
@@ -141,7 +147,8 @@ fn check(form: u8, pass: Pass, s: Progress) -> Progress
     Progress {
         at: 0,
         end: s.end,
-        sum: 0,
+        retoned: 0,
+        kept: 0,
         refusal: 0,
         running: true,
     }
@@ -177,5 +184,8 @@ pub fn answer(s: Progress) -> Answer
     if s.refusal != 0 {
         return Answer::Refused(s.refusal);
     }
-    Answer::Done(s.sum)
+    Answer::Done(Counts {
+        retoned: s.retoned,
+        kept: s.kept,
+    })
 }

@@ -1,49 +1,52 @@
--- What counts say of the plain rule, for every list of values that has them: its tones, and whether they are kept back.
--- Assumes nothing.
+-- What measures and counts say of the plain rule, for every list of values that has them: its tones, and whether they
+-- are kept back. Assumes nothing.
 use Prim.Native.Nat.{ℕ, _+_, _-_, _≤_}
 use mathlib.Core.Path.{_≡_, sym, ap, ap₂, _∙_}
 use mathlib.Core.List.{List, map}
 use native.Mathlib.Omega.{arith}
+use lib.ListN.{length}
 use Rattle.planes.specs.Lists.{at}
-use Rattle.histograms.specs.Values.{sumTo, scaled, least, spread}
+use Rattle.histograms.specs.Values.{scaled, least, spread}
 use Rattle.plain.specs.Plain.{plainTone, keptBy, plainKept}
-use Rattle.histograms.specs.Histograms.{Histogram, Counted, Lowest, Highest, Refilled}
+use Rattle.histograms.specs.Histograms.{Histogram, Ranged, Refilled}
 use Rattle.histograms.specs.Sums.{SummedInPlace}
 use Rattle.histograms.specs.Tables.{Tabled}
-use Rattle.histograms.proofs.Sums.{sumTo-last}
+use Rattle.histograms.specs.declared.Measures.{Measures}
+use Rattle.histograms.proofs.Sums.{sumTo-first}
 use Rattle.histograms.proofs.Values.{spread-map}
-use Rattle.histograms.proofs.Histograms.{histogram-sum, histogram-size, summed-counts}
-use Rattle.histograms.proofs.Histograms.{some-values, lowest-least, highest-greatest}
+use Rattle.histograms.proofs.Histograms.{histogram-sum, summed-counts}
 use Rattle.plain.proofs.Sound.{plain-rises}
 use Rattle.plain.proofs.Ends.{plain-greatest}
 
-module _ {m a b : ℕ} {vs counts : List ℕ} (c : Counted counts m a b) (h : Histogram a b vs counts) where
-  pub plain-by-sum : (v : ℕ) → a ≤ v → v ≤ b → scaled a b (sumTo (at counts) a v) m ≡ plainTone a b vs v
+module _ {a b : ℕ} {vs counts : List ℕ} {c : Measures} (range : Ranged c a b) (h : Histogram vs counts c) where
+  -- the least value's count is its sum, which gives its tone
+  least-tone : scaled a b (at counts (c .least)) (c .size) ≡ plainTone a b vs (least vs)
   unfolding plainTone
-  plain-by-sum v av vb = ap₂ (scaled a b) (histogram-sum h v av vb) (histogram-size h c)
+  least-tone =
+      let count = sym (sumTo-first (at counts) (c .least)) ∙ histogram-sum h (c .least) (omega arith) in
+      ap₂ (scaled a b) count (h .measured .size)
+      ∙ ap (plainTone a b vs) (h .measured .least-is)
 
-  -- the least value's count gives its tone, and the greatest value's tone is b
-  pub kept-by-ends : (low high : ℕ) {x y : ℕ} → Lowest counts a b x → Highest counts a b y
-      → keptBy low high (y - x) (b - scaled a b (at counts x) m) ≡ plainKept low high a b vs
+  -- the greatest value's tone is b
+  pub kept-by-ends : (low high : ℕ)
+      → keptBy low high (c .greatest - c .least) (b - scaled a b (at counts (c .least)) (c .size))
+      ≡ plainKept low high a b vs
   unfolding plainKept
-  kept-by-ends low high {x} {y} l g =
-      let only : sumTo (at counts) a x ≡ at counts x = sumTo-last (at counts) (l .from) (l .none) in
-      let tone : scaled a b (at counts x) m ≡ plainTone a b vs (least vs)
-      = ap (λ s. scaled a b s m) (sym only)
-      ∙ plain-by-sum x (l .from) (l .to)
-      ∙ ap (plainTone a b vs) (lowest-least c h l) in
-      let after : spread (map (plainTone a b vs) vs) ≡ b - scaled a b (at counts x) m
-      = spread-map (plainTone a b vs) (plain-rises a b vs) vs (some-values c h)
-      ∙ ap₂ _-_ (plain-greatest a b vs (c .order) (some-values c h)) (sym tone) in
-      ap₂ (keptBy low high) (ap₂ _-_ (highest-greatest c h g) (lowest-least c h l)) (sym after)
+  kept-by-ends low high =
+      let some : 1 ≤ length vs = omega (arith, h .measured .size) in
+      let before : c .greatest - c .least ≡ spread vs = ap₂ _-_ (h .measured .greatest-is) (h .measured .least-is) in
+      let after : spread (map (plainTone a b vs) vs) ≡ b - scaled a b (at counts (c .least)) (c .size)
+      = spread-map (plainTone a b vs) (plain-rises a b vs) vs some
+      ∙ ap₂ _-_ (plain-greatest a b vs (omega arith) some) (sym least-tone) in
+      ap₂ (keptBy low high) before (sym after)
 
 -- a table filled by the sums of the counts
-pub plain-tabled : {m a b : ℕ} {counts sums table table' : List ℕ} → Counted counts m a b
-    → SummedInPlace a b counts sums
-    → Refilled (λ v. scaled a b (at sums v) m) a (b + 1) table table'
-    → Tabled (plainTone a b) a b counts table'
+pub plain-tabled : (a b : ℕ) {counts sums table table' : List ℕ} {c : Measures}
+    → SummedInPlace (c .least) (c .greatest) counts sums
+    → Refilled (λ v. scaled a b (at sums v) (c .size)) (c .least) (c .greatest + 1) table table'
+    → Tabled (plainTone a b) c counts table'
 unfolding plainTone
-plain-tabled {m} {a} {b} c s t = record {
-  exact = λ vs h v av vb.
-      t .new v av (omega arith) ∙ ap₂ (scaled a b) (summed-counts h s v av vb) (histogram-size h c);
+plain-tabled a b s t = record {
+  exact = λ vs h v lv vg.
+      t .new v lv (omega arith) ∙ ap₂ (scaled a b) (summed-counts h s v lv vg) (h .measured .size);
 }

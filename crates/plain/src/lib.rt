@@ -6,21 +6,20 @@
 // plain_table, fill_plain, fill_same  entries of the table
 // next_tone                           one tone
 //
-// Counts and table are lent, with any content in the table, and only their entries of [a, b] are read or written. The
-// table divides once for each value that occurs. What fills takes a slice, for an array that is lent as a slice is
-// known to have all its entries.
+// Counts and table are lent, with any content in the table, and only their entries of [least, greatest], from the
+// component's least value to its greatest, are read or written. The table divides once for each value that occurs. What
+// fills takes a slice, for an array that is lent as a slice is known to have all its entries.
 ghost use mathlib.Core.Path.{_≡_};
 ghost use mathlib.Core.List.{List};
 ghost use Prim.Native.Nat.{ℕ, _+_, _≤_, _<_};
 ghost use lib.ListN.{length};
 ghost use Rattle.planes.specs.Lists.{at};
 ghost use Rattle.histograms.specs.Values.{scaled};
-ghost use Rattle.histograms.specs.Histograms.{Outside, Confined, Histogram, Counted, Refilled};
+ghost use Rattle.histograms.specs.Histograms.{Outside, Confined, Refilled, Histogram, Counted};
 ghost use Rattle.histograms.specs.Sums.{SummedInPlace, Sums};
 ghost use Rattle.histograms.specs.Tables.{Tabled, Ruled};
 ghost use Rattle.plain.specs.Plain.{plainTone, keptBy, plainKept};
-use histograms::highest;
-use histograms::lowest;
+use histograms::Measures;
 use histograms::scale;
 use histograms::sum_up;
 
@@ -35,29 +34,30 @@ fn next_tone(a: u8, b: u8, last: u32, tone: u8, x: u32, m: usize) -> u8
     scale(a, b, x as u64, m as u64)
 }
 
-// The values of [a, b] themselves.
-fn fill_same(table: &mut [u8], a: u8, b: u8)
-    requires { ⌜ (a ≤ b) × (b < length (now table)) ⌝ }
-    ensures { λ r. ⌜ Refilled (λ v. v) a (b + 1) (now (table .entry)) (now (table .exit)) ⌝ }
+// The values from first to last themselves.
+fn fill_same(table: &mut [u8], first: u8, last: u8)
+    requires { ⌜ (first ≤ last) × (last < length (now table)) ⌝ }
+    ensures { λ r. ⌜ Refilled (λ v. v) first (last + 1) (now (table .entry)) (now (table .exit)) ⌝ }
 {
-    let end = b as usize + 1;
-    let mut v = a as usize;
+    let end = last as usize + 1;
+    let mut v = first as usize;
     while v < end {
         table[v] = v as u8;
         v += 1;
     }
 }
 
-// The tones of the values of [a, b] by the sums of their counts.
-fn fill_plain(sums: &[u32; 256], table: &mut [u8], m: usize, a: u8, b: u8)
-    requires { ⌜ Sums (now sums) m m a b × (b < length (now table)) ⌝ }
-    ensures { λ r. ⌜ Refilled (λ v. scaled a b (at (now (sums .entry)) v) m) a (b + 1)
+// The tones of the values of [least, greatest] by the sums of their counts.
+fn fill_plain(sums: &[u32; 256], table: &mut [u8], c: Measures, a: u8, b: u8)
+    requires { ⌜ Sums (now sums) (c .size) c a b × (c .greatest < length (now table)) ⌝ }
+    ensures { λ r. ⌜ Refilled (λ v. scaled a b (at (now (sums .entry)) v) (c .size)) (c .least) (c .greatest + 1)
         (now (table .entry)) (now (table .exit)) ⌝ }
 {
-    let end = b as usize + 1;
+    let m = c.size;
+    let end = c.greatest as usize + 1;
     let mut last = 0;
     let mut tone = a;
-    let mut v = a as usize;
+    let mut v = c.least as usize;
     while v < end {
         let x = sums[v];
         tone = next_tone(a, b, last, tone, x, m);
@@ -67,15 +67,15 @@ fn fill_plain(sums: &[u32; 256], table: &mut [u8], m: usize, a: u8, b: u8)
     }
 }
 
-// The plain rule's tone of each value of [a, b]; the counts become their sums.
-fn plain_table(counts: &mut [u32; 256], table: &mut [u8; 256], m: usize, a: u8, b: u8)
-    requires { ⌜ Counted (now counts) m a b ⌝ }
-    ensures { λ r. ⌜ SummedInPlace a b (now (counts .entry)) (now (counts .exit))
-        × (Tabled (plainTone a b) a b (now (counts .entry)) (now (table .exit))
-        × Outside a b (now (table .entry)) (now (table .exit))) ⌝ }
+// The plain rule's tone of each value of [least, greatest]; the counts become their sums.
+fn plain_table(counts: &mut [u32; 256], table: &mut [u8; 256], c: Measures, a: u8, b: u8)
+    requires { ⌜ Counted (now counts) c a b ⌝ }
+    ensures { λ r. ⌜ SummedInPlace (c .least) (c .greatest) (now (counts .entry)) (now (counts .exit))
+        × (Tabled (plainTone a b) c (now (counts .entry)) (now (table .exit))
+        × Outside (c .least) (c .greatest) (now (table .entry)) (now (table .exit))) ⌝ }
 {
-    sum_up(counts, a, b);
-    fill_plain(counts, table, m, a, b);
+    sum_up(counts, c.least, c.greatest);
+    fill_plain(counts, table, c, a, b);
 }
 
 // Whether the old values are kept, by the spreads s before and t after.
@@ -92,16 +92,16 @@ fn keeps(low: u16, high: u16, s: u32, t: u32) -> bool
     100 * t < low as u32 * s
 }
 
-// Whether the plain rule keeps the old values. The greatest value would become b, so the least value's tone decides.
-fn plain_keeps(counts: &[u32; 256], m: usize, low: u16, high: u16, a: u8, b: u8) -> bool
-    requires { ⌜ Counted (now counts) m a b ⌝ }
-    ensures { λ r. ⌜ ((vs : List ℕ) → Histogram a b vs (now (counts .entry)) →
+// Whether the plain rule keeps the old values. The greatest value would become b, so the least value's tone decides;
+// its sum is its count.
+fn plain_keeps(counts: &[u32; 256], c: Measures, low: u16, high: u16, a: u8, b: u8) -> bool
+    requires { ⌜ Counted (now counts) c a b ⌝ }
+    ensures { λ r. ⌜ ((vs : List ℕ) → Histogram vs (now (counts .entry)) c →
         r ≡ plainKept low high a b vs) ⌝ }
 {
-    let x = lowest(counts, a, b);
-    let y = highest(counts, a, b);
-    let s = (y - x) as u32;
-    let tone = scale(a, b, counts[x] as u64, m as u64);
+    let first = c.least as usize;
+    let s = (c.greatest - c.least) as u32;
+    let tone = scale(a, b, counts[first] as u64, c.size as u64);
     let t = (b - tone) as u32;
     keeps(low, high, s, t)
 }
@@ -110,20 +110,21 @@ fn plain_keeps(counts: &[u32; 256], m: usize, low: u16, high: u16, a: u8, b: u8)
 pub fn plain_tones(
     counts: &mut [u32; 256],
     table: &mut [u8; 256],
-    m: usize,
+    c: Measures,
     low: u16,
     high: u16,
     a: u8,
     b: u8,
 ) -> bool
-    requires { ⌜ Counted (now counts) m a b ⌝ }
-    ensures { λ r. ⌜ Ruled (plainKept low high a b) (plainTone a b) a b (now (counts .entry)) (now (table .exit)) r
-        × Confined a b (now (counts .entry)) (now (table .entry)) (now (counts .exit)) (now (table .exit)) ⌝ }
+    requires { ⌜ Counted (now counts) c a b ⌝ }
+    ensures { λ r. ⌜ Ruled (plainKept low high a b) (plainTone a b) c (now (counts .entry)) (now (table .exit)) r
+        × Confined (c .least) (c .greatest)
+        (now (counts .entry)) (now (table .entry)) (now (counts .exit)) (now (table .exit)) ⌝ }
 {
-    if plain_keeps(counts, m, low, high, a, b) {
-        fill_same(table, a, b);
+    if plain_keeps(counts, c, low, high, a, b) {
+        fill_same(table, c.least, c.greatest);
         return false;
     }
-    plain_table(counts, table, m, a, b);
+    plain_table(counts, table, c, a, b);
     true
 }

@@ -4,29 +4,31 @@
 use Prim.Native.Nat.{ℕ, _≤_, _<_}
 use mathlib.Core.Path.{_≡_, refl, sym, ap, ap₂, subst, _∙_}
 use mathlib.Core.Logic.{inl, inr}
-use mathlib.Core.Bool.{Bool, true, false, not, _&&_, _||_, and-false}
-use mathlib.Core.List.{List}
+use mathlib.Core.Bool.{Bool, true, false, not, _&&_, _||_, true≢false, and-false}
+use mathlib.Core.List.{List, map}
 use mathlib.Mathlib.Data.Bool.Basic.{or-inl, or-inr, and-elim-left, and-elim-right, and-intro}
 use native.Mathlib.Omega.{arith}
 use lib.ListN.{length}
 use lib.Dec.{leb, ltb, eqb}
-use borrow.Author.Tests.{ltb-true, lt-ltb, lt-leb}
+use borrow.Author.Tests.{eqb-true, ltb-true, lt-ltb, lt-leb}
 use Rattle.planes.specs.Lists.{from, every, count, at}
 use Rattle.planes.specs.Shapes.{Symmetric}
-use Rattle.planes.specs.Neighbours.{Near, linked}
-use Rattle.planes.proofs.Tests.{or-cases}
-use Rattle.planes.proofs.Counts.{count-mono-from}
-use Rattle.planes.proofs.Links.{chain-map, linked-iff}
+use Rattle.planes.specs.Neighbours.{Near, linked, component, first}
+use Rattle.planes.proofs.Tests.{decide, same-test, or-cases, or-none}
+use Rattle.planes.proofs.Counts.{keep-same, count-mono-from}
+use Rattle.planes.proofs.Lists.{every-same, map-same}
+use Rattle.planes.proofs.Links.{link-refl, link-near, link-trans, link-sym, chain-map, linked-iff}
 use Rattle.tones.specs.declared.Rule.{Rule}
 use Rattle.histograms.specs.Histograms.{Alike}
 use Rattle.tones.specs.Tones.{kept}
 use Rattle.tones.specs.Lone.{lone}
-use Rattle.tones.proofs.Lone.{lone-kept, lone-alike, lone-part}
+use Rattle.tones.proofs.Lone.{lone-kept, lone-alike, lone-part, lone-one}
 use Rattle.model.specs.declared.Pass.{Pass}
-use Rattle.model.specs.Passes.{within, inside, componentValues, changes, passed}
-use Rattle.model.proofs.Components.{values-length, every-value, value-every, out-tone, linked-values, still-tone}
+use Rattle.model.specs.Passes.{within, inside, componentValues, sufficient, changes, keptBack, passed}
+use Rattle.model.proofs.Components.{values-length, every-value, value-every, inside-sym, out-tone, linked-values, still-tone}
+use Rattle.model.proofs.Sets.{linked-in}
 use Rattle.model.proofs.Order.{in-of, in-to, length-passed, passed-at}
-use Rattle.sections.specs.Sections.{small, inert}
+use Rattle.sections.specs.Sections.{small, inert, leaves}
 
 -- ## An inert component is not changed
 
@@ -37,6 +39,36 @@ inert-still s vs e = elim (or-cases (ltb (length vs) (s .area)) (lone (s .rule) 
   | inr d ↦ ap (λ (t : Bool). leb (s .area) (length vs) && not t) (lone-kept (s .rule) (s .a) (s .b) vs d)
       ∙ and-false (leb (s .area) (length vs))
 ]
+
+-- one of sufficient area is lone, and so kept back
+
+pub inert-lone : (s : Pass) (vs : List ℕ) → inert s vs ≡ true → sufficient s vs ≡ true → lone (s .rule) vs ≡ true
+unfolding inert small
+inert-lone s vs e many = elim (or-cases (ltb (length vs) (s .area)) (lone (s .rule) vs) e) [
+  | inl d ↦ absurd (true≢false (sym many ∙ lt-leb (s .area) (length vs) (ltb-true _ _ d)))
+  | inr d ↦ d
+]
+
+pub inert-leaves : (s : Pass) (vs : List ℕ) → inert s vs ≡ true → leaves s vs ≡ sufficient s vs
+unfolding leaves
+inert-leaves s vs e = elim (decide (sufficient s vs)) [
+  | inl d ↦ ap₂ _&&_ d (inert-lone s vs e d) ∙ sym d
+  | inr d ↦ ap (_&& lone (s .rule) vs) d ∙ sym d
+]
+
+pub inert-kept : (s : Pass) (vs : List ℕ) → inert s vs ≡ true → keptBack s vs ≡ sufficient s vs
+unfolding keptBack
+inert-kept s vs e = elim (decide (sufficient s vs)) [
+  | inl d ↦ ap₂ _&&_ d (lone-kept (s .rule) (s .a) (s .b) vs (inert-lone s vs e d)) ∙ sym d
+  | inr d ↦ ap (_&& kept (s .rule) (s .a) (s .b) vs) d ∙ sym d
+]
+
+-- a component that is not inert does not leave
+pub lively-stays : (s : Pass) (vs : List ℕ) → inert s vs ≡ false → leaves s vs ≡ false
+unfolding inert leaves
+lively-stays s vs e =
+    let alone = or-none (small s vs) (lone (s .rule) vs) e .1 in
+    ap (sufficient s vs &&_) alone ∙ and-false (sufficient s vs)
 
 -- ## The same values in another order
 
@@ -92,7 +124,7 @@ module _ (near : Near) (symm : Symmetric near) (s t : Pass) (P : Part s t) (p : 
   same-size : length q ≡ n
   same-size = length-passed near s p
 
-  no-larger : (i : ℕ) → i < n → length (componentValues near t q i) ≤ length (componentValues near s p i)
+  pub no-larger : (i : ℕ) → i < n → length (componentValues near t q i) ≤ length (componentValues near s p i)
   no-larger i hi =
       let larger = values-length near s p i in
       let smaller =
@@ -133,3 +165,60 @@ module _ (near : Near) (symm : Symmetric near) (s t : Pass) (P : Part s t) (p : 
 
       ws : List ℕ
       ws = componentValues near t q i
+
+  -- ## A lone component of the section is a component of the part
+
+  module _ (i : ℕ) (hi : i < n) (e : inert s (componentValues near s p i) ≡ true)
+      (alone : lone (s .rule) (componentValues near s p i) ≡ true) (held : within t (at q i) ≡ true) where
+    -- its pixels
+    abbrev Mine : ℕ → Bool
+    Mine = linked (inside near s p) n i
+
+    -- they stay as they are
+    old-value : (x : ℕ) → x < n → Mine x ≡ true → at q x ≡ at p x
+    old-value x hx d =
+        let still : changes s (componentValues near s p x) ≡ false =
+        ap (changes s) (sym (linked-values near symm s p i x hi hx d)) ∙ inert-still s (componentValues near s p i) e in
+        passed-at near s p x hx ∙ still-tone near s p x still
+
+    -- and have one value, which is in the part
+    in-part : (x : ℕ) → x < n → Mine x ≡ true → within t (at q x) ≡ true
+    in-part x hx d =
+        let v : ℕ = at (componentValues near s p i) 0 in
+        let all = lone-one (s .rule) (componentValues near s p i) alone in
+        let self = link-refl (inside near s p) n i in
+        let one : at q x ≡ at q i = old-value x hx d
+        ∙ sym (eqb-true v (at p x) (value-every near s p i (eqb v) all x hx d))
+        ∙ eqb-true v (at p i) (value-every near s p i (eqb v) all i hi self)
+        ∙ sym (old-value i hi self) in
+        ap (within t) one ∙ held
+
+    closed : (x y : ℕ) → x < n → y < n → Mine x ≡ true → inside near s p x y ≡ true → Mine y ≡ true
+    closed x y hx hy d c = link-trans (inside near s p) n i x y hx d (link-near (inside near s p) n c)
+
+    both-in : (x y : ℕ) → inside near s p x y ≡ true → within t (at q x) ≡ true → within t (at q y) ≡ true
+        → inside near t q x y ≡ true
+    unfolding inside
+    both-in x y c wx wy =
+        and-intro (and-intro wx wy) (and-elim-right (within s (at p x) && within s (at p y)) (near x y) c)
+
+    inside-same : (x y : ℕ) → x < n → y < n → Mine x ≡ true → inside near t q x y ≡ inside near s p x y
+    inside-same x y hx hy d = same-test (inside near t q x y) (inside near s p x y)
+        (λ c. inside-part x y hx hy c)
+        (λ c. both-in x y c (in-part x hx d) (in-part y hy (closed x y hx hy d c)))
+
+    links-same : (x : ℕ) → x < n → linked (inside near t q) n i x ≡ linked (inside near s p) n i x
+    links-same x hx = linked-in n (inside near t q) (inside near s p) Mine inside-same closed i x hi hx
+        (link-refl (inside near s p) n i)
+
+    pub lone-values : componentValues near t q i ≡ componentValues near s p i
+    unfolding componentValues component
+    lone-values = rw same-size (ap (map (at q)) (keep-same _ _ 0 n (λ x _ h. links-same x (omega arith)))
+        ∙ map-same Mine (at q) (at p) 0 n (λ x _ h d. old-value x (omega arith) d))
+
+    pub lone-first : first (length q) (inside near t q) i ≡ first n (inside near s p) i
+    unfolding first
+    lone-first = rw same-size (every-same _ _ 0 i (λ x _ h. ap not
+        (link-sym (inside near t q) (inside-sym near symm t q) n x i
+        ∙ links-same x (omega arith)
+        ∙ link-sym (inside near s p) (inside-sym near symm s p) n i x)))

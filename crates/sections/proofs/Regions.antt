@@ -3,11 +3,12 @@
 use Prim.Native.Nat.{ℕ, _<_}
 use mathlib.Core.Path.{_≡_, refl, sym, ap, ap₂, subst, _∙_}
 use mathlib.Core.Logic.{inl, inr}
-use mathlib.Core.Bool.{Bool, true, false, not, _&&_, and-false}
+use mathlib.Core.Bool.{Bool, true, false, not, _&&_}
 use mathlib.Core.List.{List, map}
 use mathlib.Mathlib.Data.Bool.Basic.{and-elim-right, and-intro}
 use native.Mathlib.Omega.{arith}
 use lib.ListN.{length}
+use lib.Dec.{eqb}
 use borrow.Author.Tests.{eq-eqb, ne-eqb}
 use Rattle.planes.specs.Lists.{at, from, keep}
 use Rattle.planes.specs.Shapes.{Symmetric}
@@ -21,10 +22,9 @@ use Rattle.rows.proofs.Codes.{alike-of, alike-from, alike-to, alike-near, alike
 use Rattle.components.specs.Regions.{region, leads}
 use Rattle.components.proofs.Regions.{region-linked}
 use Rattle.model.specs.declared.Pass.{Pass}
-use Rattle.model.specs.Passes.{within, inside, componentValues, changes, counted}
+use Rattle.model.specs.Passes.{within, inside, componentValues, counted}
 use Rattle.model.proofs.Components.{inside-sym, linked-values}
 use Rattle.sections.specs.Sections.{Coded}
-use Rattle.sections.proofs.Inert.{inert-still}
 
 -- the last of three tests comes before the second
 last-first : (s t u : Bool) → (s && t && u) ≡ ((s && u) && t)
@@ -95,24 +95,20 @@ module _ (near : Near) (symm : Symmetric near) (n code : ℕ) (s : Pass) (plane 
       ap not (link-sym Link (alike-sym near code marks symm) n j p ∙ linked-same p j h hj e
       ∙ link-sym In (inside-sym near symm s plane) n p j))
 
-  -- the pass counts a component where its first pixel leads a region and the component is changed
-  pub counted-leads : (p : ℕ) → p < n
-      → counted near s plane p ≡ (leads near n marks code p && changes s (componentValues near s plane p))
+  -- a component that has the code counts where its first pixel leads a region, and its values pass the test
+  pub counted-leads : (f : List ℕ → Bool) (p : ℕ) → p < n
+      → (eqb (at marks p) code && counted f near s plane p)
+      ≡ (leads near n marks code p && f (componentValues near s plane p))
   unfolding leads
-  counted-leads p h = elim (eq-or-not (at marks p) code) [
+  counted-leads f p h = elim (eq-or-not (at marks p) code) [
     | inl e ↦
-        last-first (within s (at plane p)) (changes s (componentValues near s plane p)) (first (length plane) In p)
-        ∙ ap₂ (λ (t u : Bool). (t && u) && changes s (componentValues near s plane p))
+        ap (_&& counted f near s plane p) (eq-eqb (at marks p) code e)
+        ∙ last-first (within s (at plane p)) (f (componentValues near s plane p)) (first (length plane) In p)
+        ∙ ap₂ (λ (t u : Bool). (t && u) && f (componentValues near s plane p))
         (K .coded p h e ∙ sym (eq-eqb (at marks p) code e))
         (ap (λ (k : ℕ). first k In p) whole ∙ sym (first-same p h e))
     | inr e ↦
         let uncoded = ne-eqb (at marks p) code e in
-        none (within s (at plane p)) refl e
-        ∙ sym (ap (λ (t : Bool). (t && first n Link p) && changes s (componentValues near s plane p)) uncoded)
+        ap (_&& counted f near s plane p) uncoded
+        ∙ sym (ap (λ (t : Bool). (t && first n Link p) && f (componentValues near s plane p)) uncoded)
   ]
-    where
-      none : (t : Bool) → within s (at plane p) ≡ t → (at marks p ≡ code → ⊥) → counted near s plane p ≡ false
-      none true d e = ap (λ (t : Bool). within s (at plane p) && t && first (length plane) In p)
-          (inert-still s (componentValues near s plane p) (K .others p h d e))
-          ∙ ap (_&& first (length plane) In p) (and-false (within s (at plane p)))
-      none false d e = ap (λ (t : Bool). t && changes s (componentValues near s plane p) && first (length plane) In p) d

@@ -2,25 +2,29 @@
 -- nothing.
 use Prim.Native.Nat.{ℕ, _≤_}
 use mathlib.Core.Path.{_≡_, refl, sym, ap, subst, _∙_}
+use mathlib.Core.Logic.{inl, inr}
 use mathlib.Core.Bool.{Bool, true, false, cond, not, _&&_, _||_, true≢false}
 use mathlib.Core.List.{List}
 use mathlib.Mathlib.Data.Bool.Basic.{or-inl}
+use native.Mathlib.Omega.{arith}
 use lib.ListN.{length}
 use lib.Dec.{leb, ltb}
-use borrow.Author.Tests.{le-leb}
+use borrow.Author.Tests.{le-leb, lt-leb, ltb-true, ltb-false}
 use Rattle.planes.specs.Lists.{at}
+use Rattle.planes.proofs.Tests.{decide, or-none}
 use Rattle.tones.specs.Tones.{kept, tone}
-use Rattle.histograms.specs.Histograms.{values, Alike}
-use Rattle.histograms.proofs.Components.{values-size}
+use Rattle.histograms.specs.declared.Measures.{Measures}
+use Rattle.histograms.specs.Histograms.{values, Alike, Gathered}
+use Rattle.histograms.proofs.Components.{queue-size}
 use Rattle.tones.specs.Tables.{ToneTable}
 use Rattle.tones.specs.Lone.{lone}
 use Rattle.model.specs.declared.Pass.{Pass}
-use Rattle.model.specs.Passes.{changes, retone}
+use Rattle.model.specs.Passes.{sufficient, changes, keptBack, retone}
 use Rattle.painting.specs.Painting.{number, On, Painted}
 use Rattle.painting.specs.declared.Next.{Next}
-use Rattle.sections.specs.Sections.{small, inert, Toned, Done}
+use Rattle.sections.specs.Sections.{small, inert, oneIf, aloneBy, Toned, Done}
 use Rattle.sections.specs.declared.Treatment.{Treatment}
-use Rattle.sections.proofs.Inert.{inert-still, inert-alike}
+use Rattle.sections.proofs.Inert.{inert-still, inert-leaves, inert-kept, lively-stays, inert-alike}
 
 -- ## One component
 
@@ -28,19 +32,35 @@ cond-not : (t : Bool) (x y : ℕ) → cond t x y ≡ cond (not t) y x
 cond-not true x y = refl
 cond-not false x y = refl
 
+other : (t : Bool) → _≡_ {A = ℕ} (cond t 0 1) (oneIf (not t))
+other true = refl
+other false = refl
+
+twice : (t : Bool) → not (not t) ≡ t
+twice true = refl
+twice false = refl
+
+not-less : (m k : ℕ) → cond (ltb m k) 0 1 ≡ oneIf (leb k m)
+not-less m k = elim (decide (ltb m k)) [
+  | inl d ↦ rw d (sym (ap oneIf (lt-leb k m (ltb-true m k d))))
+  | inr d ↦ rw d (sym (ap oneIf (le-leb k m (ltb-false m k d))))
+]
+
 module _ (s : Pass) (vs : List ℕ) {m : ℕ} (size : length vs ≡ m) where
   large : s .area ≤ m → changes s vs ≡ not (kept (s .rule) (s .a) (s .b) vs)
   unfolding changes
   large h = ap (_&& not (kept (s .rule) (s .a) (s .b) vs)) (ap (leb (s .area)) size ∙ le-leb (s .area) m h)
 
+  kept-large : s .area ≤ m → keptBack s vs ≡ kept (s .rule) (s .a) (s .b) vs
+  unfolding keptBack
+  kept-large h = ap (_&& kept (s .rule) (s .a) (s .b) vs) (ap (leb (s .area)) size ∙ le-leb (s .area) m h)
+
   -- a component of the least area that has the values of the rule's table
-  toned : {plane marks queue plane' marks' table : List ℕ} {t : Next} {low high c : Bool} {x : ℕ} → s .area ≤ m
+  toned : {plane marks queue plane' marks' table : List ℕ} {t : Next} {low high c : Bool} → s .area ≤ m
       → ToneTable (s .rule) (s .a) (s .b) vs plane queue table m c
-      → Painted (at table) t plane marks queue plane' marks' m low high → x ≡ cond c 1 0
-      → Toned s vs plane queue plane' m x
+      → Painted (at table) t plane marks queue plane' marks' m low high → Toned s vs plane queue plane' m
   unfolding retone
-  toned {plane} {queue = queue} h T P e = record {
-    answer = e ∙ ap (λ (t : Bool). cond t 1 0) (T .answer ∙ sym (large h));
+  toned {plane} {queue = queue} h T P = record {
     size = P .size;
     drawn = λ i l. P .drawn i l ∙ T .entry i l ∙ cond-not (kept (s .rule) (s .a) (s .b) vs) _ _
         ∙ ap (λ (t : Bool). cond t (tone (s .rule) (s .a) (s .b) vs (at plane (at queue i))) (at plane (at queue i)))
@@ -49,15 +69,20 @@ module _ (s : Pass) (vs : List ℕ) {m : ℕ} (size : length vs ≡ m) where
   }
 
 module _ (s : Pass) (t : Next) {vs ws : List ℕ} (A : Alike vs ws) where
-  -- an inert component is left as it is
-  pub left-alone : {plane marks queue : List ℕ} {m : ℕ} (r : Treatment) → r .count ≡ 0 → inert s ws ≡ true
-      → Done s t vs plane marks queue plane marks m r
+  -- an inert component is left as it is, and kept back unless it is too small
+  pub left-alone : {plane marks queue : List ℕ} {m : ℕ} (r : Treatment) → length vs ≡ m
+      → r ≡ aloneBy (ltb m (s .area)) → inert s ws ≡ true → Done s t vs plane marks queue plane marks m r
   unfolding retone
-  left-alone r z e =
+  left-alone {m = m} r size told e =
       let inert-too : inert s vs ≡ true = inert-alike s vs ws A ∙ e in
       let still : changes s vs ≡ false = inert-still s vs inert-too in
+      let many : cond (ltb m (s .area)) 0 1 ≡ oneIf (sufficient s vs) =
+      not-less m (s .area) ∙ ap (λ (k : ℕ). oneIf (leb (s .area) k)) (sym size) in
       record {
-        toned = record { answer = z ∙ rw still; size = refl; drawn = λ i l. rw still; stays = λ p f. refl };
+        toned = record { size = refl; drawn = λ i l. rw still; stays = λ p f. refl };
+        retones = ap (λ (r : Treatment). r .retoned) told ∙ rw still;
+        keeps = ap (λ (r : Treatment). r .kept) told ∙ many ∙ ap oneIf (sym (inert-kept s vs inert-too));
+        leaves-it = ap (λ (r : Treatment). r .left) told ∙ many ∙ ap oneIf (sym (inert-leaves s vs inert-too));
         size = refl;
         drawn = λ i l. rw inert-too;
         stays = λ p f. refl;
@@ -67,12 +92,17 @@ module _ (s : Pass) (t : Next) {vs ws : List ℕ} (A : Alike vs ws) where
   -- another gets its tones and its next marks
   pub done : {plane marks queue plane' marks' table : List ℕ} {m : ℕ} {c : Bool} (r : Treatment)
       → length vs ≡ m → s .area ≤ m → inert s ws ≡ false → ToneTable (s .rule) (s .a) (s .b) vs plane queue table m c
-      → Painted (at table) t plane marks queue plane' marks' m (r .low) (r .high) → r .count ≡ cond c 1 0
+      → Painted (at table) t plane marks queue plane' marks' m (r .low) (r .high)
+      → r .retoned ≡ oneIf c → r .kept ≡ cond c 0 1 → r .left ≡ 0
       → Done s t vs plane marks queue plane' marks' m r
-  done r size h e T P z =
+  done {c = c} r size h e T P retoned kept left =
       let not-inert : inert s vs ≡ false = inert-alike s vs ws A ∙ e in
       record {
-        toned = toned s vs size h T P z;
+        toned = toned s vs size h T P;
+        retones = retoned ∙ ap oneIf (T .answer ∙ sym (large s vs size h));
+        keeps = kept ∙ other c ∙ ap (λ (u : Bool). oneIf (not u)) (T .answer)
+            ∙ ap oneIf (twice _ ∙ sym (kept-large s vs size h));
+        leaves-it = left ∙ ap oneIf (sym (lively-stays s vs not-inert));
         size = P .marks-size;
         drawn = λ i l. rw not-inert (P .numbered i l ∙ ap (number t) (sym (P .drawn i l)));
         stays = λ p f. P .stays p f .1;
@@ -81,17 +111,26 @@ module _ (s : Pass) (t : Next) {vs ws : List ℕ} (A : Alike vs ws) where
 
 -- ## Small and lone components
 
-module _ (s : Pass) (plane queue : List ℕ) (m : ℕ) (room : m ≤ length queue) where
-  pub small-is : small s (values plane queue m) ≡ ltb m (s .area)
-  unfolding small
-  small-is = ap (λ (k : ℕ). ltb k (s .area)) (values-size plane queue m room)
+-- a component of m pixels is inert where it is too small, and otherwise where it is lone
+pub small-inert : (s : Pass) (vs : List ℕ) (m : ℕ) → m ≡ length vs → ltb m (s .area) ≡ true → inert s vs ≡ true
+unfolding inert small
+small-inert s vs m size e = or-inl _ _ (ap (λ (k : ℕ). ltb k (s .area)) (sym size) ∙ e)
 
-  pub small-inert : ltb m (s .area) ≡ true → inert s (values plane queue m) ≡ true
-  unfolding inert
-  small-inert e = or-inl _ _ (small-is ∙ e)
+pub large-inert : (s : Pass) (vs : List ℕ) (m : ℕ) → m ≡ length vs → ltb m (s .area) ≡ false
+    → inert s vs ≡ lone (s .rule) vs
+unfolding inert small
+large-inert s vs m size e = ap (_|| lone (s .rule) vs) (ap (λ (k : ℕ). ltb k (s .area)) (sym size) ∙ e)
 
-  -- a component of the least area is inert where it is lone
-  pub large-inert : ltb m (s .area) ≡ false → {t : Bool} → lone (s .rule) (values plane queue m) ≡ t
-      → inert s (values plane queue m) ≡ t
-  unfolding inert
-  large-inert e d = ap (_|| lone (s .rule) (values plane queue m)) (small-is ∙ e) ∙ d
+-- one that is not inert has the least area
+pub lively-large : (s : Pass) (vs : List ℕ) → inert s vs ≡ false → s .area ≤ length vs
+unfolding inert small
+lively-large s vs e = ltb-false (length vs) (s .area) (or-none (ltb (length vs) (s .area)) (lone (s .rule) vs) e .0)
+
+-- ## A gathered component
+
+module _ {plane queue counts : List ℕ} {c : Measures} {a b : ℕ} (G : Gathered plane queue counts c a b) where
+  pub gathered-some : 1 ≤ length (values plane queue (c .size))
+  gathered-some = omega (arith, G .component .some, G .measured .size)
+
+  pub gathered-size : {vs : List ℕ} → Alike vs (values plane queue (c .size)) → length vs ≡ c .size
+  gathered-size A = queue-size plane queue (G .component .room) A

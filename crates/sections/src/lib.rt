@@ -5,27 +5,33 @@
 // treat_plane     the same for a plane whose pixels all have the code
 //
 // A component that is too small, or lone under its rule, is changed neither by the pass nor by any later one on a part
-// of the section: it is left as it is, and gets no next marks.
+// of the section: it is left as it is, and gets no next marks. A lone one of sufficient area is kept back by all of these
+// passes: it is counted once here, and told of as one that leaves.
 ghost use mathlib.Core.Path.{_≡_};
 ghost use mathlib.Core.Bool.{true, false, cond};
 ghost use mathlib.Core.List.{List};
-ghost use Prim.Native.Nat.{ℕ, _<_};
+ghost use Prim.Native.Nat.{ℕ, _≤_, _<_};
+ghost use lib.ListN.{length};
 ghost use lib.Dec.{ltb};
 ghost use Rattle.planes.specs.Lists.{at};
 ghost use Rattle.planes.specs.Shapes.{pixels};
-ghost use Rattle.histograms.specs.Histograms.{values, Component, Alike};
+ghost use Rattle.histograms.specs.Histograms.{values, Measured, Gathered};
 ghost use Rattle.model.specs.Neighbourhoods.{passNeighbours};
 ghost use Rattle.painting.specs.Painting.{Listed};
-ghost use Rattle.sections.specs.Sections.{Done, Section, Treats};
+ghost use Rattle.sections.specs.Sections.{inert, oneIf, aloneBy, DoneBy, Section, Treats};
 use components::Found;
+use histograms::Measures;
 use model::Pass;
 use painting::Next;
 use planes::Shape;
 
-// How many components were retoned, and whether next marks were given for values up to the middle, and above it. A flag
-// that is false says that none was.
+// How many components were retoned, how many of sufficient area were kept back, and how many of these are lone and leave:
+// every pass on a part of the section keeps them back too. And whether next marks were given for values up to the
+// middle, and above it: a flag that is false says that none was.
 pub struct Treatment {
-    pub count: u32,
+    pub retoned: u32,
+    pub kept: u32,
+    pub left: u32,
     pub low: bool,
     pub high: bool,
 }
@@ -41,61 +47,102 @@ fn is_small(m: usize, pass: Pass) -> bool
     false
 }
 
-// A component that is left as it is.
-fn untouched() -> Treatment
-    ensures { λ r. ⌜ r ≡ record { count = 0; low = false; high = false } ⌝ }
+// Whether a component is too small for the pass, or lone under its rule.
+fn is_inert(c: Measures, pass: Pass) -> bool
+    ensures { λ r. ⌜ ((vs : List ℕ) → 1 ≤ length vs → Measured vs c → r ≡ inert pass vs) ⌝ }
 {
-    Treatment {
-        count: 0,
-        low: false,
-        high: false,
+    if is_small(c.size, pass) {
+        return true;
     }
+    let rule = pass.rule;
+    tones::is_lone(rule, c)
 }
 
-// 1 where a component is retoned, else 0.
-fn one_if(retoned: bool) -> u32
-    ensures { λ r. ⌜ r ≡ cond retoned 1 0 ⌝ }
+// 1 where a test holds, else 0.
+fn one_if(holds: bool) -> u32
+    ensures { λ r. ⌜ r ≡ oneIf holds ⌝ }
 {
-    if retoned {
+    if holds {
         return 1;
     }
     0
 }
 
-// Treats the component of the queue's first m pixels: its rule, and its next marks. Counts and table are working
-// memory.
-fn treat_component(
+// 0 where a test holds, else 1.
+fn one_unless(holds: bool) -> u32
+    ensures { λ r. ⌜ r ≡ cond holds 0 1 ⌝ }
+{
+    if holds {
+        return 0;
+    }
+    1
+}
+
+// An inert component is left as it is. It is kept back, and leaves, unless it is too small.
+fn left_alone(c: Measures, pass: Pass) -> Treatment
+    ensures { λ r. ⌜ r ≡ aloneBy (ltb (c .size) (pass .area)) ⌝ }
+{
+    let left = one_unless(is_small(c.size, pass));
+    Treatment {
+        retoned: 0,
+        kept: left,
+        left,
+        low: false,
+        high: false,
+    }
+}
+
+// Gives a component that is not inert its tones and its next marks. The table is working memory.
+fn retone(
     plane: &mut [u8],
     marks: &mut [u8],
     queue: &[u32],
-    m: usize,
+    c: Measures,
     pass: Pass,
     next: Next,
     counts: &mut [u32; 256],
     table: &mut [u8; 256],
 ) -> Treatment
-    requires { ⌜ Component (now plane) (now queue) m (pass .a) (pass .b)
-        × Listed (now marks) (now plane) (now queue) m ⌝ }
-    ensures { λ r. ⌜ ((vs : List ℕ) → Alike vs (values (now (plane .entry)) (now (queue .entry)) m)
-        → Done pass next vs (now (plane .entry)) (now (marks .entry)) (now (queue .entry))
-        (now (plane .exit)) (now (marks .exit)) m r) ⌝ }
+    requires { ⌜ (Gathered (now plane) (now queue) (now counts) c (pass .a) (pass .b)
+        × Listed (now marks) (now plane) (now queue) (c .size))
+        × (inert pass (values (now plane) (now queue) (c .size)) ≡ false) ⌝ }
+    ensures { λ r. ⌜ DoneBy pass next c (now (plane .entry)) (now (marks .entry)) (now (queue .entry))
+        (now (counts .entry)) (now (plane .exit)) (now (marks .exit)) (now (counts .exit)) r ⌝ }
 {
-    if is_small(m, pass) {
-        return untouched();
-    }
     let rule = pass.rule;
-    if tones::is_lone(plane, queue, m, rule) {
-        return untouched();
-    }
     let a = pass.a;
     let b = pass.b;
-    let retoned = tones::tone_table(plane, queue, m, rule, a, b, counts, table);
-    let sides = painting::paint(plane, marks, queue, m, table, next);
+    let retoned = tones::tone_table(plane, queue, c, rule, a, b, counts, table);
+    let sides = painting::paint(plane, marks, queue, c.size, table, next);
     Treatment {
-        count: one_if(retoned),
+        retoned: one_if(retoned),
+        kept: one_unless(retoned),
+        left: 0,
         low: sides.low,
         high: sides.high,
     }
+}
+
+// Treats the component of the queue's first pixels, whose values are counted: its rule, and its next marks.
+fn treat_component(
+    plane: &mut [u8],
+    marks: &mut [u8],
+    queue: &[u32],
+    c: Measures,
+    pass: Pass,
+    next: Next,
+    counts: &mut [u32; 256],
+    table: &mut [u8; 256],
+) -> Treatment
+    requires { ⌜ Gathered (now plane) (now queue) (now counts) c (pass .a) (pass .b)
+        × Listed (now marks) (now plane) (now queue) (c .size) ⌝ }
+    ensures { λ r. ⌜ DoneBy pass next c (now (plane .entry)) (now (marks .entry)) (now (queue .entry))
+        (now (counts .entry)) (now (plane .exit)) (now (marks .exit)) (now (counts .exit)) r ⌝ }
+{
+    if is_inert(c, pass) {
+        return left_alone(c, pass);
+    }
+    retone(plane, marks, queue, c, pass, next, counts, table)
 }
 
 // The first pixel that may have the code: 0 where the section is due, else n.
@@ -125,7 +172,9 @@ pub fn treat_section(
     let inverse = rows::inverse(shape.w);
     let mut counts = [0u32; 256];
     let mut table = [0u8; 256];
-    let mut count = 0;
+    let mut retoned = 0;
+    let mut kept = 0;
+    let mut left = 0;
     let mut low = false;
     let mut high = false;
     let mut from = first_due(due, n);
@@ -133,18 +182,30 @@ pub fn treat_section(
         let found = components::next_pixel(marks, shape, inverse, code, from);
         match found {
             Found::At(p) => {
-                let m = components::flood(marks, queue, shape, inverse, code, p);
+                let c = components::flood(
+                    plane,
+                    marks,
+                    queue,
+                    &mut counts,
+                    shape,
+                    inverse,
+                    code,
+                    p,
+                );
                 let t = treat_component(
                     plane,
                     marks,
                     queue,
-                    m,
+                    c,
                     pass,
                     next,
                     &mut counts,
                     &mut table,
                 );
-                count += t.count;
+                histograms::clear(&mut counts, c);
+                retoned += t.retoned;
+                kept += t.kept;
+                left += t.left;
                 low |= t.low;
                 high |= t.high;
                 from = p + 1;
@@ -154,10 +215,17 @@ pub fn treat_section(
             }
         }
     }
-    Treatment { count, low, high }
+    Treatment {
+        retoned,
+        kept,
+        left,
+        low,
+        high,
+    }
 }
 
-// The same for a plane whose pixels all have the code 1: it is one component.
+// The same for a plane whose pixels all have the code 1: it is one component. Its values are counted only where it is
+// not inert.
 pub fn treat_plane(
     plane: &mut [u8],
     marks: &mut [u8],
@@ -172,8 +240,13 @@ pub fn treat_plane(
         (now (plane .entry)) (now (marks .entry)) (now (queue .entry))
         (now (plane .exit)) (now (marks .exit)) (now (queue .exit)) r ⌝ }
 {
+    let _ = components::take_plane(marks, queue, shape);
+    let c = histograms::measure(plane);
+    if is_inert(c, pass) {
+        return left_alone(c, pass);
+    }
     let mut counts = [0u32; 256];
     let mut table = [0u8; 256];
-    let m = components::take_plane(marks, queue, shape);
-    treat_component(plane, marks, queue, m, pass, next, &mut counts, &mut table)
+    histograms::histogram(plane, &mut counts);
+    retone(plane, marks, queue, c, pass, next, &mut counts, &mut table)
 }

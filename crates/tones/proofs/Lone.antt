@@ -1,24 +1,25 @@
 -- A lone component is kept back, whatever the section. Assumes nothing.
 --
---   lone-kept    the rule keeps a lone component back
---   lone-alike   the order of the values does not matter
---   lone-part    a component whose values all occur in a lone one is lone, too
-use Prim.Native.Nat.{ℕ, zero, suc, _≤_, _<_, zero-le}
-use mathlib.Core.Path.{_≡_, refl, sym, ap, subst, _∙_}
-use mathlib.Core.Bool.{Bool, true, false, _&&_, false≢true, and-false}
+--   lone-kept      the rule keeps a lone component back
+--   lone-alike     the order of the values does not matter
+--   lone-part      a component whose values all occur in a lone one is lone, too
+--   one-measured   all values are one exactly where the least is the greatest
+use Prim.Native.Nat.{ℕ, _≤_, zero-le}
+use mathlib.Core.Path.{_≡_, refl, sym, subst, _∙_}
+use mathlib.Core.Bool.{true, false≢true}
 use mathlib.Core.List.{List, [], _∷_}
-use mathlib.Mathlib.Data.Bool.Basic.{or-inl, and-elim-left, and-elim-right, and-intro}
-use native.Mathlib.Nat.{not-suc-le-zero, le-of-suc-le-suc}
+use mathlib.Mathlib.Data.Bool.Basic.{or-inl, and-elim-left, and-elim-right}
 use native.Mathlib.Omega.{arith}
 use lib.ListN.{length}
 use lib.Dec.{eqb}
-use borrow.Author.Tests.{eqb-true, eq-eqb, ne-eqb}
+use borrow.Author.Tests.{eqb-true, eq-eqb}
 use Rattle.planes.specs.Lists.{every, count, at}
 use Rattle.planes.proofs.Tests.{same-test}
 use Rattle.planes.proofs.Lists.{every-count, count-every}
 use Rattle.histograms.specs.Values.{greatest, least, spread}
-use Rattle.histograms.specs.Histograms.{values, Alike}
-use Rattle.histograms.proofs.Components.{values-size, values-at}
+use Rattle.histograms.specs.Histograms.{Alike}
+use Rattle.histograms.proofs.Values.{In, in-at, count-full, least-le, greatest-ge, greatest-in}
+use Rattle.histograms.proofs.Measured.{alike-turned}
 use Rattle.plain.specs.Plain.{plainKept}
 use Rattle.tones.specs.declared.Rule.{Rule}
 use Rattle.tones.specs.declared.Rule.the-variants.{Plain, Limited}
@@ -60,6 +61,12 @@ lone-kept (Plain low high) a b vs d =
     or-inl _ _ (or-inl _ _ (eq-eqb (spread vs) 0 (spread-one (at vs 0) vs d)))
 lone-kept (Limited k) a b vs d = absurd (false≢true d)
 
+-- all values of a lone component are the first one
+pub lone-one : (rule : Rule) (vs : List ℕ) → lone rule vs ≡ true → every (eqb (at vs 0)) vs ≡ true
+unfolding oneValue
+lone-one (Plain low high) vs e = e
+lone-one (Limited k) vs e = absurd (false≢true e)
+
 same-one : (vs ws : List ℕ) → Alike vs ws → oneValue vs ≡ true → oneValue ws ≡ true
 unfolding oneValue
 same-one vs ws A e =
@@ -67,13 +74,10 @@ same-one vs ws A e =
     let all : count (eqb v) vs ≡ length vs = count-every (eqb v) vs e in
     one-value v ws (every-count (eqb v) ws (sym (A .same v) ∙ all ∙ A .size))
 
-turned : {vs ws : List ℕ} → Alike vs ws → Alike ws vs
-turned A = record { same = λ v. sym (A .same v); size = sym (A .size) }
-
 -- the same values in another order
 pub lone-alike : (rule : Rule) {vs ws : List ℕ} → Alike vs ws → lone rule vs ≡ lone rule ws
 lone-alike (Plain low high) {vs} {ws} A =
-    same-test (oneValue vs) (oneValue ws) (same-one vs ws A) (same-one ws vs (turned A))
+    same-test (oneValue vs) (oneValue ws) (same-one vs ws A) (same-one ws vs (alike-turned A))
 lone-alike (Limited k) A = refl
 
 -- values of which none is new
@@ -83,29 +87,33 @@ unfolding oneValue
 lone-part (Plain low high) vs ws f e = one-value (at vs 0) ws (f (at vs 0) e)
 lone-part (Limited k) vs ws f e = e
 
--- ## Values of the queue's pixels
+-- ## Measures
 
-every-at : (f : ℕ → Bool) (xs : List ℕ) → ((i : ℕ) → i < length xs → f (at xs i) ≡ true) → every f xs ≡ true
-every-at f [] h = refl
-every-at f (x ∷ xs) h = and-intro (h 0 (omega arith)) (every-at f xs (λ i l. h (suc i) (omega arith)))
+-- where the least value is the greatest, every value is the first
+first-only : (vs : List ℕ) → 1 ≤ length vs → least vs ≡ greatest vs → (v : ℕ) → In v vs → at vs 0 ≡ v
+first-only vs some e v i =
+    let first = in-at vs 0 some in
+    omega (
+      arith,
+      least-le v vs i,
+      greatest-ge v vs i,
+      least-le (at vs 0) vs first,
+      greatest-ge (at vs 0) vs first,
+    )
 
-not-every : (f : ℕ → Bool) (xs : List ℕ) (i : ℕ) → i < length xs → f (at xs i) ≡ false → every f xs ≡ false
-not-every f [] i h e = absurd (not-suc-le-zero h)
-not-every f (x ∷ xs) zero h e = ap (_&& every f xs) e
-not-every f (x ∷ xs) (suc i) h e = ap (f x &&_) (not-every f xs i (le-of-suc-le-suc h) e) ∙ and-false (f x)
+-- where every value is v, it is the least and the greatest
+ends-one : (v : ℕ) (vs : List ℕ) → 1 ≤ length vs → every (eqb v) vs ≡ true → least vs ≡ greatest vs
+ends-one v [] some e = absurd (omega arith)
+ends-one v (x ∷ xs) some e =
+    let order = least-le (greatest (x ∷ xs)) (x ∷ xs) (greatest-in (x ∷ xs) some) in
+    omega (arith, greatest-one v (x ∷ xs) e, least-one v x xs e)
 
-module _ (plane queue : List ℕ) (m v : ℕ) (some : 1 ≤ m) (room : m ≤ length queue)
-    (first : v ≡ at plane (at queue 0)) where
-  head : at (values plane queue m) 0 ≡ v
-  head = values-at plane queue m room 0 some ∙ sym first
-
-  pub all-one : ((i : ℕ) → i < m → at plane (at queue i) ≡ v) → oneValue (values plane queue m) ≡ true
-  unfolding oneValue
-  all-one f = every-at _ (values plane queue m) (λ i h.
-      let l : i < m = omega (arith, values-size plane queue m room) in
-      eq-eqb _ _ (head ∙ sym (f i l) ∙ sym (values-at plane queue m room i l)))
-
-  pub not-one : (i : ℕ) → i < m → (at plane (at queue i) ≡ v → ⊥) → oneValue (values plane queue m) ≡ false
-  unfolding oneValue
-  not-one i h f = not-every _ (values plane queue m) i (omega (arith, values-size plane queue m room))
-      (ne-eqb _ _ (λ q. f (sym (values-at plane queue m room i h) ∙ sym q ∙ head)))
+-- all values are one exactly where the least is the greatest
+pub one-measured : (vs : List ℕ) → 1 ≤ length vs → eqb (least vs) (greatest vs) ≡ oneValue vs
+unfolding oneValue
+one-measured vs some =
+    let v : ℕ = at vs 0 in
+    same-test (eqb (least vs) (greatest vs)) (every (eqb v) vs)
+    (λ e. every-count (eqb v) vs (count-full (eqb v) vs (λ u i.
+    eq-eqb v u (first-only vs some (eqb-true (least vs) (greatest vs) e) u i))))
+    (λ e. eq-eqb (least vs) (greatest vs) (ends-one v vs some e))

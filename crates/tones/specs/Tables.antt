@@ -7,6 +7,7 @@ use Prim.Native.Nat.{ℕ}
 use mathlib.Core.Bool.{Bool}
 use mathlib.Core.List.{List}
 use Rattle.histograms.specs.Tables.{RuleTable, RuleTables, RuleTabled}
+use Rattle.histograms.specs.declared.Measures.{Measures}
 use Rattle.tones.specs.declared.Rule.{Rule}
 use Rattle.tones.specs.Tones.{tone, kept}
 
@@ -16,5 +17,7 @@ ToneTable rule a b = RuleTable (kept rule a b) (tone rule a b)
 abbrev pub ToneTables : Rule → ℕ → ℕ → List ℕ → List ℕ → List ℕ → ℕ → Bool → Type 0
 ToneTables rule a b = RuleTables (kept rule a b) (tone rule a b)
 
-abbrev pub ToneTabled : Rule → ℕ → ℕ → List ℕ → List ℕ → List ℕ → List ℕ → ℕ → Bool → List ℕ → List ℕ → Type 0
-ToneTabled rule a b = RuleTabled (kept rule a b) (tone rule a b) a b
+-- free are entries of [least, greatest] only
+abbrev pub ToneTabled : Rule → ℕ → ℕ → Measures → List ℕ → List ℕ → List ℕ → List ℕ → Bool → List ℕ → List ℕ → Type 0
+ToneTabled rule a b c plane queue counts table =
+    RuleTabled (kept rule a b) (tone rule a b) (c .least) (c .greatest) plane queue counts table (c .size)

@@ -6,18 +6,22 @@
 // rule_refusal              refusals 7 and 8 for a rule's own numbers, or 0
 // RuleNumbers               the numbers that stand for a rule in a record of a pass list and in a call from C
 // rule_of, form_refusal     their rule, and refusal 17 where they stand for none, or 0
-// one_value, plain_refusal, limited_refusal    within
+// plain_refusal, limited_refusal    within
 //
-// A component is the pixels that the first m entries of a queue name. Counts and table are lent, with any content, and
-// only their entries of [a, b] are read or written: a component costs time in its pixels and in b - a + 1.
+// A component is the pixels that the first entries of a queue name; it is measured, and its values are counted. Counts
+// and table are lent, the table with any content, and only their entries of [least, greatest], from the component's
+// least value to its greatest, are read or written: a component costs time in its pixels and in the spread of its
+// values.
 ghost use mathlib.Core.Path.{_≡_};
-ghost use Prim.Native.Nat.{_≤_};
-ghost use Rattle.histograms.specs.Histograms.{values, Pixels, Component};
+ghost use mathlib.Core.List.{List};
+ghost use Prim.Native.Nat.{ℕ, _≤_};
+ghost use lib.ListN.{length};
+ghost use Rattle.histograms.specs.Histograms.{Measured, Gathered};
 ghost use Rattle.tones.specs.Tables.{ToneTabled};
-ghost use Rattle.tones.specs.Lone.{oneValue, lone};
+ghost use Rattle.tones.specs.Lone.{lone};
 ghost use Rattle.tones.specs.Refusals.{ruleRefusal};
 ghost use Rattle.tones.specs.Numbers.{ruleOf, formRefusal};
-use histograms::histogram;
+use histograms::Measures;
 use limited::limited_tones;
 use plain::plain_tones;
 use planes::refused;
@@ -49,56 +53,36 @@ const GREATEST_HIGH: u16 = 25500;
 // The greatest clip of the limited rule.
 const GREATEST_CLIP: u16 = 1000;
 
-// Fills the table's entries at the values of the component of the queue's first m pixels with their new values by the
-// rule; whether it is retoned, and so not kept back. Counts and table may come with any content. Of what they are left
-// with, free are the counts of [a, b], and the table's entries of [a, b] that no pixel of the component has for a
-// value; all other entries stay.
+// Fills the table's entries at the values of a component with their new values by the rule; whether it is retoned, and
+// so not kept back. The table may come with any content. Of what counts and table are left with, free are the counts of
+// [least, greatest], and the table's entries of [least, greatest] that no pixel of the component has for a value; all
+// other entries stay.
 pub fn tone_table(
     plane: &[u8],
     queue: &[u32],
-    m: usize,
+    c: Measures,
     rule: Rule,
     a: u8,
     b: u8,
     counts: &mut [u32; 256],
     table: &mut [u8; 256],
 ) -> bool
-    requires { ⌜ Component (now plane) (now queue) m a b ⌝ }
-    ensures { λ r. ⌜ ToneTabled rule a b (now (plane .entry)) (now (queue .entry))
-        (now (counts .entry)) (now (table .entry)) m r (now (counts .exit)) (now (table .exit)) ⌝ }
+    requires { ⌜ Gathered (now plane) (now queue) (now counts) c a b ⌝ }
+    ensures { λ r. ⌜ ToneTabled rule a b c (now (plane .entry)) (now (queue .entry))
+        (now (counts .entry)) (now (table .entry)) r (now (counts .exit)) (now (table .exit)) ⌝ }
 {
-    histogram(plane, queue, m, counts, a, b);
     match rule {
-        Rule::Plain { low, high } => plain_tones(counts, table, m, low, high, a, b),
-        Rule::Limited { k } => limited_tones(plane, queue, m, counts, table, k, a, b),
+        Rule::Plain { low, high } => plain_tones(counts, table, c, low, high, a, b),
+        Rule::Limited { k } => limited_tones(plane, queue, c, counts, table, k, a, b),
     }
 }
 
-// Whether the queue's first m pixels all have one value.
-fn one_value(plane: &[u8], queue: &[u32], m: usize) -> bool
-    requires { ⌜ (1 ≤ m) × Pixels (now plane) (now queue) m ⌝ }
-    ensures { λ r. ⌜ r ≡ oneValue (values (now (plane .entry)) (now (queue .entry)) m) ⌝ }
-{
-    let p = queue[0] as usize;
-    let v = plane[p];
-    let mut i = 1;
-    while i < m {
-        let q = queue[i] as usize;
-        if plane[q] != v {
-            return false;
-        }
-        i += 1;
-    }
-    true
-}
-
-// Whether the rule keeps the component of the queue's first m pixels back, and does so on every part of its section.
-pub fn is_lone(plane: &[u8], queue: &[u32], m: usize, rule: Rule) -> bool
-    requires { ⌜ (1 ≤ m) × Pixels (now plane) (now queue) m ⌝ }
-    ensures { λ r. ⌜ r ≡ lone rule (values (now (plane .entry)) (now (queue .entry)) m) ⌝ }
+// Whether the rule keeps a component with these measures back, and does so on every part of its section.
+pub fn is_lone(rule: Rule, c: Measures) -> bool
+    ensures { λ r. ⌜ ((vs : List ℕ) → 1 ≤ length vs → Measured vs c → r ≡ lone rule vs) ⌝ }
 {
     match rule {
-        Rule::Plain { low: _, high: _ } => one_value(plane, queue, m),
+        Rule::Plain { low: _, high: _ } => c.least == c.greatest,
         Rule::Limited { k: _ } => false,
     }
 }

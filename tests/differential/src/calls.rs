@@ -1,19 +1,50 @@
-//! One call of the library beside the same call of the second implementation: answer, every lent byte and its guards
-//! have to agree, and on what is accepted the order of neighbours, the regional maxima and minima, and the channels.
+//! One call of the library beside the same call of the second implementation: answer, counts, every lent byte and its
+//! guards have to agree; and on what is accepted the order of neighbours, the regional maxima and minima, the channels,
+//! and both counts together with the components of sufficient area.
 
 use crate::guarded::Guarded;
 use crate::inputs::{self, one_in, PassNumbers, RuleNumbers, SettingsNumbers};
+use crate::work::Work;
 use mlhe::ffi;
 use mlhe_reference as reference;
 use mlhe_reference::extrema::{keeps_shapes, reversed_channels};
 use mlhe_reference::random::Random;
-use mlhe_reference::{Pass, Refusal, Rule, Settings};
+use mlhe_reference::{Counts, Pass, Refusal, Rule, Settings};
 
 /// The kinds of case, in the order of `case`.
-pub const KINDS: [&str; 8] = ["intensity", "pass", "recolour", "enhance", "list", "read", "write", "chain"];
+pub const KINDS: [&str; 9] = ["intensity", "pass", "recolour", "enhance", "list", "read", "write", "chain", "levels"];
 
-/// The answers of a case's calls, or what differs.
-pub type Compared = Result<Vec<i64>, String>;
+/// What a call that counts answered: its counts, or the refusal.
+type Counted = Result<Counts, Refusal>;
+
+/// What came of a case: the answers of its calls, and the sums of what they counted.
+#[derive(Default)]
+pub struct Outcome {
+    pub answers: Vec<i64>,
+    pub counts: Counts,
+}
+
+impl Outcome {
+    /// That of one call, which counts nothing.
+    fn of(answer: i64) -> Outcome {
+        Outcome { answers: vec![answer], ..Outcome::default() }
+    }
+
+    /// That of one call.
+    fn counted(answer: Counted) -> Outcome {
+        let mut outcome = Outcome::default();
+        outcome.add(answer);
+        outcome
+    }
+
+    fn add(&mut self, answer: Counted) {
+        self.answers.push(status(answer));
+        self.counts = [self.counts, answer.unwrap_or_default()].into_iter().sum();
+    }
+}
+
+/// What came of a case, or what differs.
+pub type Compared = Result<Outcome, String>;
 
 /// Runs one case of a kind.
 pub fn case(kind: usize, random: &mut Random) -> Compared {
@@ -25,7 +56,8 @@ pub fn case(kind: usize, random: &mut Random) -> Compared {
         4 => single_list(random),
         5 => read(random),
         6 => write(random),
-        _ => chain(random),
+        7 => chain(random),
+        _ => levels(random),
     }
 }
 
@@ -37,7 +69,12 @@ fn encoded<T: Into<u64>>(answer: Result<T, Refusal>) -> i64 {
     }
 }
 
-fn require(holds: bool, what: &str) -> Result<(), String> {
+/// The answer of a C function that counts: 0, or its refusal.
+fn status(answer: Counted) -> i64 {
+    encoded(answer.map(|_| 0u64))
+}
+
+pub fn require(holds: bool, what: &str) -> Result<(), String> {
     if holds {
         Ok(())
     } else {
@@ -49,17 +86,11 @@ fn same_answer(library: i64, expected: i64) -> Result<(), String> {
     require(library == expected, &format!("the answer is {library} and should be {expected}"))
 }
 
-/// Marks and queue of any content, with lengths around n.
-fn work(random: &mut Random, n: usize) -> (Guarded<u8>, Guarded<u32>) {
-    let (marks, queue) = (inputs::length(random, n), inputs::length(random, n));
-    (Guarded::filled(marks, random), Guarded::filled(queue, random))
-}
-
-/// Marks and queue after a call: untouched, or, where it was accepted, kept from the n-th element on.
-fn same_work(marks: &Guarded<u8>, queue: &Guarded<u32>, answer: i64, n: usize) -> Result<(), String> {
-    let kept =
-        if answer < 0 { marks.untouched() && queue.untouched() } else { marks.kept_beyond(n) && queue.kept_beyond(n) };
-    require(kept, "marks or queue are not kept")
+/// Both counts of accepted passes together are the components of sufficient area, each pass's in the plane as the pass
+/// finds it.
+fn sufficient(counts: Counts, passes: &[Pass], first: &[u8], w: usize, h: usize) -> Result<(), String> {
+    let all = reference::sufficient_in_all(passes, first, w, h);
+    require(counts.together() == all, &format!("{counts:?}, but {all} components are of sufficient area"))
 }
 
 /// The lent memory holds what it should, and its guards are untouched.
@@ -95,7 +126,7 @@ fn intensity(random: &mut Random) -> Compared {
     same_answer(library, answer)?;
     same_content("plane", &plane, &expected)?;
     require(frame.untouched(), "the frame is not kept")?;
-    Ok(vec![answer])
+    Ok(Outcome::of(answer))
 }
 
 fn recolour(random: &mut Random) -> Compared {
@@ -106,7 +137,7 @@ fn recolour(random: &mut Random) -> Compared {
     let output_length = inputs::length(random, 3 * w * h);
     let mut output = Guarded::filled(output_length, random);
     let (w, h) = inputs::told_sides(random, w, h);
-    Ok(vec![recolour_call(&frame, w, h, &plane, &mut output)?])
+    Ok(Outcome::of(recolour_call(&frame, w, h, &plane, &mut output)?))
 }
 
 fn recolour_call(
@@ -136,62 +167,74 @@ fn single_pass(random: &mut Random) -> Compared {
     let (w, h) = inputs::sides(random);
     let length = inputs::exact_length(random, w * h);
     let mut plane = Guarded::holding(&inputs::values(random, w, length), random);
-    let (mut marks, mut queue) = work(random, w * h);
+    let mut work = Work::new(random, w * h);
+    let pass = inputs::pass_numbers(random, w * h);
     let (w, h) = inputs::told_sides(random, w, h);
-    let pass = inputs::pass_numbers(random);
-    let answer = pass_call(&mut plane, &mut marks, &mut queue, w, h, pass)?;
-    if answer >= 0 {
+    let answer = pass_call(&mut plane, &mut work, w, h, pass)?;
+    if answer.is_ok() {
         same_shapes(plane.then(), plane.now(), w, h)?;
     }
-    Ok(vec![answer])
+    Ok(Outcome::counted(answer))
 }
 
-fn pass_call(
-    plane: &mut Guarded<u8>,
-    marks: &mut Guarded<u8>,
-    queue: &mut Guarded<u32>,
-    w: usize,
-    h: usize,
-    pass: PassNumbers,
-) -> Result<i64, String> {
-    let mut expected = plane.now().to_vec();
-    let mut by_reference = |pass: &Pass| reference::pass(&mut expected, marks.len(), queue.len(), w, h, pass);
-    let PassNumbers { a, b, area, rule: numbers } = pass;
-    let result = match rule(numbers) {
-        Some(rule) => by_reference(&Pass { a, b, area, rule }),
+/// A pass by the second implementation.
+fn pass_by_reference(plane: &mut [u8], work: &Work, w: usize, h: usize, pass: PassNumbers) -> Counted {
+    let mut run = |pass: &Pass| reference::pass(plane, work.marks.len(), work.queue.len(), w, h, pass);
+    match pass_of(pass) {
+        Some(pass) => run(&pass),
         // The second implementation has no rules but its own. 17 is tested right before 5, so a pass with a above b
         // tells whether anything comes before it.
-        None => by_reference(&Pass { a: 1, b: 0, area: 1, rule: Rule::Limited { k: 0 } }).map_err(|number| {
+        None => run(&Pass { a: 1, b: 0, area: 1, rule: Rule::Limited { k: 0 } }).map_err(|number| {
             if number == 5 {
                 17
             } else {
                 number
             }
         }),
-    };
-    let answer = encoded(result);
+    }
+}
+
+fn pass_of(pass: PassNumbers) -> Option<Pass> {
+    rule(pass.rule).map(|rule| Pass { a: pass.a, b: pass.b, area: pass.area, rule })
+}
+
+fn pass_call(
+    plane: &mut Guarded<u8>,
+    work: &mut Work,
+    w: usize,
+    h: usize,
+    pass: PassNumbers,
+) -> Result<Counted, String> {
+    let first = plane.now().to_vec();
+    let mut expected = first.clone();
+    let answer = work.judged(pass_by_reference(&mut expected, work, w, h, pass));
     // SAFETY: each pointer goes with the length of its own memory.
     let library = unsafe {
         ffi::mlhe_pass(
             plane.mut_ptr(),
             plane.len(),
-            marks.mut_ptr(),
-            marks.len(),
-            queue.mut_ptr(),
-            queue.len(),
+            work.marks.mut_ptr(),
+            work.marks.len(),
+            work.queue.mut_ptr(),
+            work.queue.len(),
             w,
             h,
-            a,
-            b,
-            area,
-            numbers.rule,
-            numbers.first,
-            numbers.second,
+            pass.a,
+            pass.b,
+            pass.area,
+            pass.rule.rule,
+            pass.rule.first,
+            pass.rule.second,
+            work.counts.mut_ptr(),
+            work.counts.len(),
         )
     };
-    same_answer(library, answer)?;
-    same_content("plane", plane, &expected)?;
-    same_work(marks, queue, answer, plane.len())?;
+    same_answer(library, status(answer))?;
+    same_content("plane", plane, if answer.is_ok() { &expected } else { &first })?;
+    work.same(answer, plane.len())?;
+    if let (Ok(counts), Some(pass)) = (answer, pass_of(pass)) {
+        sufficient(counts, &[pass], &first, w, h)?;
+    }
     Ok(answer)
 }
 
@@ -200,27 +243,28 @@ fn single_list(random: &mut Random) -> Compared {
     let (w, h) = if long { (random.between(1, 3), 1) } else { inputs::sides(random) };
     let length = inputs::exact_length(random, w * h);
     let mut plane = Guarded::holding(&inputs::values(random, w, length), random);
-    let (mut marks, mut queue) = work(random, w * h);
-    let list = if long { inputs::long_list(random) } else { inputs::list_bytes(random, 6) };
+    let mut work = Work::new(random, w * h);
+    let list = if long { inputs::long_list(random) } else { inputs::list_bytes(random, 6, w * h) };
     let list = Guarded::holding(&list, random);
     let (w, h) = inputs::told_sides(random, w, h);
-    let answer = list_call(&list, &mut plane, &mut marks, &mut queue, w, h)?;
-    if answer >= 0 {
+    let answer = list_call(&list, &mut plane, &mut work, w, h)?;
+    if answer.is_ok() {
         same_shapes(plane.then(), plane.now(), w, h)?;
     }
-    Ok(vec![answer])
+    Ok(Outcome::counted(answer))
 }
 
 fn list_call(
     list: &Guarded<u8>,
     plane: &mut Guarded<u8>,
-    marks: &mut Guarded<u8>,
-    queue: &mut Guarded<u32>,
+    work: &mut Work,
     w: usize,
     h: usize,
-) -> Result<i64, String> {
-    let mut expected = plane.now().to_vec();
-    let answer = encoded(reference::run_list(list.now(), &mut expected, marks.len(), queue.len(), w, h));
+) -> Result<Counted, String> {
+    let first = plane.now().to_vec();
+    let mut expected = first.clone();
+    let (marks, queue) = (work.marks.len(), work.queue.len());
+    let answer = work.judged(reference::run_list(list.now(), &mut expected, marks, queue, w, h));
     // SAFETY: each pointer goes with the length of its own memory.
     let library = unsafe {
         ffi::mlhe_run_list(
@@ -228,18 +272,23 @@ fn list_call(
             list.len(),
             plane.mut_ptr(),
             plane.len(),
-            marks.mut_ptr(),
-            marks.len(),
-            queue.mut_ptr(),
-            queue.len(),
+            work.marks.mut_ptr(),
+            work.marks.len(),
+            work.queue.mut_ptr(),
+            work.queue.len(),
             w,
             h,
+            work.counts.mut_ptr(),
+            work.counts.len(),
         )
     };
-    same_answer(library, answer)?;
-    same_content("plane", plane, &expected)?;
-    same_work(marks, queue, answer, plane.len())?;
+    same_answer(library, status(answer))?;
+    same_content("plane", plane, if answer.is_ok() { &expected } else { &first })?;
+    work.same(answer, plane.len())?;
     require(list.untouched(), "the list is not kept")?;
+    if let (Ok(counts), Ok(passes)) = (answer, reference::list_passes(list.now())) {
+        sufficient(counts, &passes, &first, w, h)?;
+    }
     Ok(answer)
 }
 
@@ -251,16 +300,83 @@ fn enhance(random: &mut Random) -> Compared {
     let mut plane = Guarded::filled(plane_length, random);
     let output_length = inputs::length(random, 3 * n);
     let mut output = Guarded::filled(output_length, random);
-    let work = work(random, n);
+    let mut work = Work::new(random, n);
+    let settings = inputs::settings_numbers(random, n);
     let (w, h) = inputs::told_sides(random, w, h);
-    let settings = inputs::settings_numbers(random);
-    let answer = enhance_call(&frame, w, h, settings, &mut plane, work, &mut output)?;
-    if answer >= 0 {
+    let answer = enhance_call(&frame, w, h, settings, &mut plane, &mut work, &mut output)?;
+    if let (Ok(counts), Some(settings)) = (answer, settings_of(settings)) {
         let mut first = vec![0; plane.len()];
         reference::intensity(frame.now(), w, h, &mut first).map_err(|_| "the frame is refused")?;
         same_shapes(&first, plane.now(), w, h)?;
+        sufficient(counts, &reference::level_by_level(&settings), &first, w, h)?;
     }
-    Ok(vec![answer])
+    Ok(Outcome::counted(answer))
+}
+
+/// An enhancement by the second implementation.
+fn enhance_by_reference(
+    frame: &[u8],
+    w: usize,
+    h: usize,
+    settings: SettingsNumbers,
+    plane: &mut [u8],
+    work: &Work,
+    output: &mut [u8],
+) -> Counted {
+    let mut run = |settings: &Settings| {
+        reference::enhance(frame, w, h, settings, plane, work.marks.len(), work.queue.len(), output)
+    };
+    match settings_of(settings) {
+        Some(settings) => run(&settings),
+        // As for a pass: 17 is tested right before 9.
+        None => run(&Settings { last_level: 8, area: 1, rule: Rule::Limited { k: 0 } }).map_err(|number| {
+            if number == 9 {
+                17
+            } else {
+                number
+            }
+        }),
+    }
+}
+
+fn enhance_by_library(
+    frame: &Guarded<u8>,
+    w: usize,
+    h: usize,
+    settings: SettingsNumbers,
+    plane: &mut Guarded<u8>,
+    work: &mut Work,
+    output: &mut Guarded<u8>,
+) -> i64 {
+    // SAFETY: each pointer goes with the length of its own memory.
+    unsafe {
+        ffi::mlhe_enhance(
+            frame.ptr(),
+            frame.len(),
+            w,
+            h,
+            settings.last,
+            settings.area,
+            settings.rule.rule,
+            settings.rule.first,
+            settings.rule.second,
+            plane.mut_ptr(),
+            plane.len(),
+            work.marks.mut_ptr(),
+            work.marks.len(),
+            work.queue.mut_ptr(),
+            work.queue.len(),
+            output.mut_ptr(),
+            output.len(),
+            work.counts.mut_ptr(),
+            work.counts.len(),
+        )
+    }
+}
+
+fn settings_of(settings: SettingsNumbers) -> Option<Settings> {
+    let SettingsNumbers { last, area, rule: numbers } = settings;
+    rule(numbers).map(|rule| Settings { last_level: last.into(), area, rule })
 }
 
 fn enhance_call(
@@ -269,51 +385,18 @@ fn enhance_call(
     h: usize,
     settings: SettingsNumbers,
     plane: &mut Guarded<u8>,
-    (mut marks, mut queue): (Guarded<u8>, Guarded<u32>),
+    work: &mut Work,
     output: &mut Guarded<u8>,
-) -> Result<i64, String> {
+) -> Result<Counted, String> {
     let (mut expected, mut recoloured) = (plane.now().to_vec(), output.now().to_vec());
-    let mut by_reference = |settings: &Settings| {
-        let (marks, queue) = (marks.len(), queue.len());
-        reference::enhance(frame.now(), w, h, settings, &mut expected, marks, queue, &mut recoloured)
-    };
-    let SettingsNumbers { last, area, rule: numbers } = settings;
-    let result =
-        match rule(numbers) {
-            Some(rule) => by_reference(&Settings { last_level: last.into(), area, rule }),
-            // As for a pass: 17 is tested right before 9.
-            None => by_reference(&Settings { last_level: 8, area: 1, rule: Rule::Limited { k: 0 } })
-                .map_err(|number| if number == 9 { 17 } else { number }),
-        };
-    let answer = encoded(result);
-    // SAFETY: each pointer goes with the length of its own memory.
-    let library = unsafe {
-        ffi::mlhe_enhance(
-            frame.ptr(),
-            frame.len(),
-            w,
-            h,
-            last,
-            area,
-            numbers.rule,
-            numbers.first,
-            numbers.second,
-            plane.mut_ptr(),
-            plane.len(),
-            marks.mut_ptr(),
-            marks.len(),
-            queue.mut_ptr(),
-            queue.len(),
-            output.mut_ptr(),
-            output.len(),
-        )
-    };
-    same_answer(library, answer)?;
-    same_content("plane", plane, &expected)?;
-    same_content("output", output, &recoloured)?;
-    same_work(&marks, &queue, answer, plane.len())?;
+    let by_reference = enhance_by_reference(frame.now(), w, h, settings, &mut expected, work, &mut recoloured);
+    let answer = work.judged(by_reference);
+    same_answer(enhance_by_library(frame, w, h, settings, plane, work, output), status(answer))?;
+    same_content("plane", plane, if answer.is_ok() { &expected } else { plane.then() })?;
+    same_content("output", output, if answer.is_ok() { &recoloured } else { output.then() })?;
+    work.same(answer, plane.len())?;
     require(frame.untouched(), "the frame is not kept")?;
-    if answer >= 0 {
+    if answer.is_ok() {
         let written = &output.now()[..frame.len()];
         require(reversed_channels(frame.now(), written) == 0, "channels are reversed")?;
     }
@@ -325,8 +408,36 @@ pub fn greatest(w: usize, h: usize, random: &mut Random) -> Compared {
     let n = w * h;
     let frame = Guarded::holding(&inputs::frame_bytes(random, w, 3 * n), random);
     let (mut plane, mut output) = (Guarded::filled(n, random), Guarded::filled(3 * n, random));
-    let work = (Guarded::filled(n, random), Guarded::filled(n, random));
-    Ok(vec![enhance_call(&frame, w, h, inputs::HOUSE, &mut plane, work, &mut output)?])
+    let mut work = Work::exact(random, n);
+    Ok(Outcome::counted(enhance_call(&frame, w, h, inputs::HOUSE, &mut plane, &mut work, &mut output)?))
+}
+
+/// Enhancements of a grey frame with many components of one value, at every last level. The library's own list of the
+/// same passes leaves the same plane and the same counts.
+fn levels(random: &mut Random) -> Compared {
+    let (w, h) = (random.between(1, 12), random.between(1, 12));
+    let n = w * h;
+    let greys = inputs::flat_values(random, w, n);
+    let frame: Vec<u8> = greys.iter().flat_map(|&grey| [grey; 3]).collect();
+    let frame = Guarded::holding(&frame, random);
+    let (area, rule) = inputs::sound_numbers(random, n);
+    let mut outcome = Outcome::default();
+    for last in 0..=7 {
+        let settings = SettingsNumbers { last, area, rule };
+        let (mut plane, mut output) = (Guarded::filled(n, random), Guarded::filled(3 * n, random));
+        let mut work = Work::exact(random, n);
+        let enhanced = enhance_call(&frame, w, h, settings, &mut plane, &mut work, &mut output)?;
+        let settings = settings_of(settings).ok_or("there is no such rule")?;
+        let list = reference::list_bytes(&reference::level_by_level(&settings));
+        let list = Guarded::holding(&list, random);
+        let (mut listed, mut work) = (Guarded::holding(&greys, random), Work::exact(random, n));
+        let run = list_call(&list, &mut listed, &mut work, w, h)?;
+        require(enhanced == run, &format!("an enhancement answers {enhanced:?}, and its list {run:?}"))?;
+        require(plane.now() == listed.now(), "an enhancement and its list leave different planes")?;
+        outcome.add(enhanced);
+        outcome.add(run);
+    }
+    Ok(outcome)
 }
 
 fn read(random: &mut Random) -> Compared {
@@ -346,7 +457,7 @@ fn read(random: &mut Random) -> Compared {
     require(numbers.kept_beyond(numbers.len()), "the guards of the numbers are not kept")?;
     require(numbers.now() == expected, "the numbers differ")?;
     require(bytes.untouched(), "the bytes are not kept")?;
-    Ok(vec![answer])
+    Ok(Outcome::of(answer))
 }
 
 fn write(random: &mut Random) -> Compared {
@@ -372,7 +483,7 @@ fn write(random: &mut Random) -> Compared {
         let offset = answer as usize - raster.len();
         require(back == 0 && numbers == [w, h, offset], "what was written does not read back")?;
     }
-    Ok(vec![answer])
+    Ok(Outcome::of(answer))
 }
 
 /// A frame's intensity, any number of passes and lists on it, accepted or refused, and its recolouring.
@@ -388,15 +499,15 @@ fn chain(random: &mut Random) -> Compared {
     reference::intensity(frame.now(), w, h, &mut first).map_err(|_| "the frame is refused")?;
     same_content("plane", &plane, &first)?;
 
-    let mut answers = vec![0];
+    let mut outcome = Outcome::of(filled);
     for _ in 0..random.between(0, 9) {
         plane.settle();
-        let (mut marks, mut queue) = work(random, n);
-        answers.push(if one_in(random, 6) {
-            let list = Guarded::holding(&inputs::list_bytes(random, 4), random);
-            list_call(&list, &mut plane, &mut marks, &mut queue, w, h)?
+        let mut work = Work::new(random, n);
+        outcome.add(if one_in(random, 6) {
+            let list = Guarded::holding(&inputs::list_bytes(random, 4, n), random);
+            list_call(&list, &mut plane, &mut work, w, h)?
         } else {
-            pass_call(&mut plane, &mut marks, &mut queue, w, h, inputs::pass_numbers(random))?
+            pass_call(&mut plane, &mut work, w, h, inputs::pass_numbers(random, n))?
         });
     }
     same_shapes(&first, plane.now(), w, h)?;
@@ -404,6 +515,6 @@ fn chain(random: &mut Random) -> Compared {
     plane.settle();
     let beyond = random.between(0, 9);
     let mut output = Guarded::filled(3 * n + beyond, random);
-    answers.push(recolour_call(&frame, w, h, &plane, &mut output)?);
-    Ok(answers)
+    outcome.answers.push(recolour_call(&frame, w, h, &plane, &mut output)?);
+    Ok(outcome)
 }

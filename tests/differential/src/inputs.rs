@@ -53,12 +53,23 @@ pub fn exact_length(random: &mut Random, n: usize) -> usize {
 
 /// So many values of one of several kinds of picture, w to a row.
 pub fn values(random: &mut Random, w: usize, count: usize) -> Vec<u8> {
+    let kind = random.below(10);
+    values_of(kind, random, w, count)
+}
+
+/// The same of the kinds that have many components of one value.
+pub fn flat_values(random: &mut Random, w: usize, count: usize) -> Vec<u8> {
+    let kind = random.one_of(&[0, 2, 5, 7, 9, 9, 9]);
+    values_of(kind, random, w, count)
+}
+
+fn values_of(kind: usize, random: &mut Random, w: usize, count: usize) -> Vec<u8> {
     let w = w.max(1);
-    let kind = random.below(9);
     let (base, few) = (random.byte(), random.between(1, 6));
     let palette: Vec<u8> = (0..few).map(|_| random.byte()).collect();
     let (right, down) = (random.between(0, 9), random.between(0, 9));
     let block = random.between(1, 6);
+    let blocks: Vec<u8> = (0..64).map(|_| random.one_of(&palette)).collect();
     let mut walk = base;
     let mut value = |p: usize| {
         let (x, y) = (p % w, p / w);
@@ -72,6 +83,7 @@ pub fn values(random: &mut Random, w: usize, count: usize) -> Vec<u8> {
             6 => ((right * x + down * y) / 4 + random.below(12)) as u8,
             7 if random.below(40) > 0 => base,
             7 => palette[random.below(few)],
+            9 => blocks[(x / block + y / block * 8) % 64],
             _ => {
                 walk = walk.wrapping_add(random.one_of(&[0, 0, 0, 1, 255, 3, 40]));
                 walk
@@ -125,12 +137,13 @@ pub struct SettingsNumbers {
 pub const HOUSE: SettingsNumbers =
     SettingsNumbers { last: 7, area: 20, rule: RuleNumbers { rule: 0, first: 80, second: 300 } };
 
-pub fn settings_numbers(random: &mut Random) -> SettingsNumbers {
+/// Settings for a plane of n pixels.
+pub fn settings_numbers(random: &mut Random, n: usize) -> SettingsNumbers {
     if one_in(random, 8) {
         return HOUSE;
     }
     let last = if one_in(random, 20) { random.one_of(&[8, 9, 255]) } else { random.between(0, 7) as u8 };
-    SettingsNumbers { last, area: area(random), rule: rule_numbers(random) }
+    SettingsNumbers { last, area: area(random, n), rule: rule_numbers(random) }
 }
 
 pub fn rule_numbers(random: &mut Random) -> RuleNumbers {
@@ -151,16 +164,30 @@ pub fn rule_numbers(random: &mut Random) -> RuleNumbers {
     RuleNumbers { rule: 0, first: low, second: high }
 }
 
-pub fn area(random: &mut Random) -> u32 {
+/// A least area: small, about n, and seldom one that is refused.
+pub fn area(random: &mut Random, n: usize) -> u32 {
     match random.below(40) {
         0 => 0,
         1 => random.one_of(&[1_048_575, 1_048_576, 1_048_577, u32::MAX]),
         2..=9 => random.between(2, 40) as u32,
+        10..=12 => (n + random.below(3)).saturating_sub(1) as u32,
         _ => random.between(1, 3) as u32,
     }
 }
 
-pub fn pass_numbers(random: &mut Random) -> PassNumbers {
+/// A least area and a rule that are sound. The area is 1 or about the size of a block of pixels or of the plane.
+pub fn sound_numbers(random: &mut Random, n: usize) -> (u32, RuleNumbers) {
+    let area = random.one_of(&[1, 1, 2, 4, 5, 9, 16, 25, n.saturating_sub(1).max(1), n, n + 1]);
+    let [low, high] = random.one_of(&[[0, 25_500], [80, 300], [80, 300], [0, 100], [100, 100], [300, 25_500]]);
+    let rule = match random.below(5) {
+        0 => RuleNumbers { rule: 1, first: random.one_of(&[0, 10, 300, 1_000]), second: 0 },
+        _ => RuleNumbers { rule: 0, first: low, second: high },
+    };
+    (area as u32, rule)
+}
+
+/// A pass on a plane of n pixels.
+pub fn pass_numbers(random: &mut Random, n: usize) -> PassNumbers {
     let (x, y) = (random.byte(), random.byte());
     let (a, b) = match random.below(16) {
         0 => (x.max(y), x.min(y)),
@@ -170,16 +197,16 @@ pub fn pass_numbers(random: &mut Random) -> PassNumbers {
         8 => (128, 255),
         _ => (x.min(y), x.max(y)),
     };
-    PassNumbers { a, b, area: area(random), rule: rule_numbers(random) }
+    PassNumbers { a, b, area: area(random, n), rule: rule_numbers(random) }
 }
 
-/// A pass list, often with something wrong in it.
-pub fn list_bytes(random: &mut Random, greatest: usize) -> Vec<u8> {
+/// A pass list for a plane of n pixels, often with something wrong in it.
+pub fn list_bytes(random: &mut Random, greatest: usize, n: usize) -> Vec<u8> {
     let count = random.between(0, greatest);
     let mut bytes = b"MLP\x01\x00".to_vec();
     bytes.extend((count as u16).to_le_bytes());
     for _ in 0..count {
-        let pass = pass_numbers(random);
+        let pass = pass_numbers(random, n);
         bytes.extend([pass.a, pass.b, pass.rule.rule, 0]);
         bytes.extend(pass.area.to_le_bytes());
         bytes.extend(pass.rule.first.to_le_bytes());
@@ -191,13 +218,16 @@ pub fn list_bytes(random: &mut Random, greatest: usize) -> Vec<u8> {
     bytes
 }
 
-/// A list of very many passes that change nothing, for the limit of 1,024.
+/// A list of very many passes, which come to the whole plane or to nothing, for the limit of 1,024.
 pub fn long_list(random: &mut Random) -> Vec<u8> {
     let count = random.one_of(&[1_023u16, 1_024, 1_025]);
+    let area: u32 = random.one_of(&[1, 1_048_576]);
     let mut bytes = b"MLP\x01\x00".to_vec();
     bytes.extend(count.to_le_bytes());
     for _ in 0..count {
-        bytes.extend([0, 255, 0, 0, 0, 0, 16, 0, 0, 0, 0x9c, 0x63]);
+        bytes.extend([0, 255, 0, 0]);
+        bytes.extend(area.to_le_bytes());
+        bytes.extend([0, 0, 0x9c, 0x63]);
     }
     bytes
 }

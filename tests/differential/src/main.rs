@@ -7,16 +7,20 @@
 //!
 //! Every case is random from its seed and its number: sides, frames, planes, files and lists, sound and damaged; chains
 //! of passes with refused calls among them; lengths short, exact and long; any content in marks and queue; guards
-//! around all lent memory. Compared are answers, planes, outputs and every byte that has to stay; on all that is
-//! accepted the order of neighbours and the regional maxima and minima, counted from their definition. Ends with status
-//! 1 at the first difference. At the end it has to have seen every refusal and accepted calls of every kind.
+//! around all lent memory. Compared are answers, counts, planes, outputs and every byte that has to stay; on all that
+//! is accepted the order of neighbours, the regional maxima and minima, and the components of sufficient area, each
+//! counted from its definition; and enhancements with the lists of passes that they equal. Ends with status 1 at the
+//! first difference. At the end it has to have seen every refusal, accepted calls of every kind, and components retoned
+//! and kept back by every kind that counts.
 
 mod calls;
 mod guarded;
 mod inputs;
+mod work;
 
-use calls::KINDS;
+use calls::{Outcome, KINDS};
 use mlhe_reference::random::Random;
+use mlhe_reference::Counts;
 use std::env;
 use std::process::ExitCode;
 use std::time::Instant;
@@ -25,20 +29,25 @@ const CASES: u64 = 60_000;
 const LONG: u64 = 5_000_000;
 const SEED: u64 = 20_260;
 
-/// How often each kind of case was tried, accepted, and refused with each number.
+/// The kinds of case whose calls count components.
+const COUNTING: [&str; 5] = ["pass", "enhance", "list", "chain", "levels"];
+
+/// How often each kind of case was tried, accepted, and refused with each number, and what its calls counted.
 #[derive(Default)]
 struct Tally {
     calls: u64,
     tried: [u64; KINDS.len()],
     accepted: [u64; KINDS.len()],
+    counts: [Counts; KINDS.len()],
     refused: [u64; 18],
 }
 
 impl Tally {
-    fn add(&mut self, kind: usize, answers: &[i64]) {
+    fn add(&mut self, kind: usize, Outcome { answers, counts }: &Outcome) {
         self.tried[kind] += 1;
         self.calls += answers.len() as u64;
         self.accepted[kind] += u64::from(answers.iter().all(|&answer| answer >= 0));
+        self.counts[kind] = [self.counts[kind], *counts].into_iter().sum();
         for &answer in answers {
             if answer < 0 {
                 self.refused[answer.unsigned_abs() as usize] += 1;
@@ -48,14 +57,22 @@ impl Tally {
 
     fn print(&self) {
         for (kind, name) in KINDS.iter().enumerate() {
-            println!("{name:10} {:8} cases, {:8} of them with no refusal", self.tried[kind], self.accepted[kind]);
+            let (tried, accepted) = (self.tried[kind], self.accepted[kind]);
+            let Counts { retoned, kept } = self.counts[kind];
+            let counted =
+                if COUNTING.contains(name) { format!("; {retoned} retoned, {kept} kept") } else { String::new() };
+            println!("{name:10} {tried:8} cases, {accepted:8} of them with no refusal{counted}");
         }
         let refused: Vec<String> = (1..=17).map(|number| format!("{number}: {}", self.refused[number])).collect();
         println!("refusals   {}", refused.join(", "));
     }
 
     fn saw_all(&self) -> bool {
-        self.accepted.iter().all(|&count| count > 0) && self.refused[1..].iter().all(|&count| count > 0)
+        let counted =
+            |(name, counts): (&&str, &Counts)| !COUNTING.contains(name) || (counts.retoned > 0 && counts.kept > 0);
+        self.accepted.iter().all(|&count| count > 0)
+            && self.refused[1..].iter().all(|&count| count > 0)
+            && KINDS.iter().zip(&self.counts).all(counted)
     }
 }
 
@@ -69,8 +86,8 @@ fn run(seed: u64, number: u64) -> (usize, calls::Compared) {
 /// Frames of the greatest number of pixels, of three shapes.
 fn greatest_frames(seed: u64, tally: &mut Tally) -> Result<(), String> {
     for (w, h) in [(1_024, 1_024), (4_096, 256), (256, 4_096)] {
-        let answers = calls::greatest(w, h, &mut Random::new(seed + w as u64))?;
-        tally.add(3, &answers);
+        let outcome = calls::greatest(w, h, &mut Random::new(seed + w as u64))?;
+        tally.add(3, &outcome);
     }
     Ok(())
 }
@@ -108,7 +125,7 @@ fn main() -> ExitCode {
     for number in numbers.clone() {
         let (kind, compared) = run(seed, number);
         match compared {
-            Ok(answers) => tally.add(kind, &answers),
+            Ok(outcome) => tally.add(kind, &outcome),
             Err(what) => {
                 println!("DIFFERENT: {}: {what}; again with --case {number} --seed {seed}", KINDS[kind]);
                 return ExitCode::FAILURE;
@@ -128,7 +145,7 @@ fn main() -> ExitCode {
     let seconds = start.elapsed().as_secs_f64();
     println!("{} cases with {} calls agree, seed {seed}, {seconds:.1} s", numbers.end - numbers.start, tally.calls);
     if case.is_none() && cases >= CASES && !tally.saw_all() {
-        println!("some refusal or some kind of accepted call never came up");
+        println!("some refusal, some kind of accepted call, or a component retoned or kept by one never came up");
         return ExitCode::FAILURE;
     }
     ExitCode::SUCCESS

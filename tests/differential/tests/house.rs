@@ -1,7 +1,7 @@
-//! The Rust crate's house setting is the library's: the stored cases with the house setting, which tell it from any that
-//! differs slightly, have the same answers when they are run with `Settings::HOUSE`, refusals too.
+//! The Rust crate's house setting is the library's: the stored cases with the house setting, which tell it from any
+//! that differs slightly, have the same answers when they are run with `Settings::HOUSE`, refusals too.
 
-use mlhe::{lent, Rule, Settings};
+use mlhe::{lent, Counts, Rule, Settings};
 use mlhe_reference::cases::{cases, Case, Kind, OUTPUT_FILL};
 use std::fs;
 use std::path::Path;
@@ -17,9 +17,12 @@ fn line(case: &Case) -> String {
     let (w, h) = (case.w as usize, case.h as usize);
     let house = Settings::HOUSE;
     let answer = lent::enhance(&case.bytes, w, h, &house, &mut plane, &mut marks, &mut queue, &mut output);
-    let number = answer.map_or_else(|refusal| format!("-{}", refusal.number()), |count| format!("+{count}"));
+    let numbers = match answer {
+        Ok(Counts { retoned, kept }) => format!("+{retoned} {kept}"),
+        Err(refusal) => format!("-{}", refusal.number()),
+    };
     let Rule::Plain { low, high } = house.rule else { panic!("the house setting is plain") };
-    format!("{number} {} {} 0 {} {} {low} {high}", hex(&plane), hex(&output), house.last, house.area)
+    format!("{numbers} {} {} 0 {} {} {low} {high}", hex(&plane), hex(&output), house.last, house.area)
 }
 
 #[test]

@@ -1,19 +1,26 @@
 -- `branches::equalise` and `branches::split` meet their contracts. The measure is the width of the section, twice, and
 -- one more for `equalise`. What each call leaves of plane and marks is what the next requires. Assumes nothing.
-use Prim.Native.Nat.{ℕ, _+_, _-_, _*_, _<_}
-use mathlib.Core.Path.{refl}
+use Prim.Native.Nat.{ℕ, _+_, _-_, _*_, _≤_, _<_}
+use mathlib.Core.Path.{refl, sym, ap, subst, _∙_}
 use native.Mathlib.Nat.{le-refl}
 use native.Mathlib.Omega.{arith}
 use borrow.Author.Needs.{needs}
 use borrow.Fn.Kinds.{In}
 use borrow.Fn.PlainCycle.{Measures, is, falls, and}
+use Rattle.model.specs.declared.Counts.{Counts}
+use Rattle.model.specs.Outcomes.{sums}
 use Rattle.levels.proofs.Numbers.{numbered-order, numbered-some, numbered-many, halves-order, halves-room, next-not}
+use Rattle.levels.proofs.Numbers.{low-numbered, high-numbered, half-some, twice}
 use Rattle.levels.proofs.deeper.Reads as deeper
 use Rattle.levels.proofs.next_of.Reads as next-of
+use Rattle.levels.proofs.below.Reads as below
+use Rattle.model.proofs.plus.Reads as plus
 use Rattle.sections.proofs.treat_section.Reads as treat-section
-use Rattle.branches.proofs.Halves.{due-section, apart-leaf, apart-node, next-halves}
-use Rattle.branches.proofs.Halves.{due-low, due-high, apart-both}
-use Rattle.branches.proofs.Branches.{still-ready, small, leaf, node, halves}
+use Rattle.branches.proofs.counts_of.Reads as counts-of
+use Rattle.branches.proofs.Halves.{due-section, apart-leaf, apart-node, next-halves, next-gone}
+use Rattle.branches.proofs.Halves.{due-low, due-high, gone-high, apart-both}
+use Rattle.branches.proofs.Branches.{still-ready, small, told-few, branch-few, halves-few, leaf, node, halves}
+use Rattle.branches.specs.Branches.{Equalised, Halved}
 use Rattle.branches.proofs.equalise.Reads as equalise
 use Rattle.branches.proofs.equalise.Kinds as equalise-kinds
 use Rattle.branches.proofs.+equalise+split.Lts-equalise as equalise-lts
@@ -55,8 +62,14 @@ calls t = (
   next-of.Learnt,
   treat-section.Asked,
   treat-section.Learnt,
+  below.Asked,
+  below.Learnt,
+  counts-of.Asked,
+  counts-of.Learnt,
   split-below t,
   split.Post,
+  plus.Asked,
+  plus.Learnt,
 )
 
 module _ (t : ℕ) where
@@ -83,10 +96,10 @@ module _ (t : ℕ) where
   entry v = v .before .before .before .before .before .before .before .before .before
 
   abbrev inner-treated : Inner → Treated
-  inner-treated c = c .before .before .before .before .before .before .before
+  inner-treated c = c .before .before .before .before .before .before .before .before .before
 
   abbrev leaf-treated : Leaf → Treated
-  leaf-treated c = c .before .before .before .before .before .before .before
+  leaf-treated c = c .before .before .before .before .before .before .before .before .before
 
   abbrev divided-inner : Divided → Inner
   divided-inner c = c .before .before .before .before
@@ -114,6 +127,18 @@ module _ (t : ℕ) where
       let pre = numbers .before .before .before .before .before .pre .1 in
       due-section (pre .0) (pre .1) (next-not (numbers .next-of .ensures) (pre .1 .numbered .real))
 
+  equalise-below-requires : equalise-lts.Need-below-requires (calls t) (equalise-at t) equalise.Post
+  equalise-below-requires c κs =
+      let pre = entry (c .before .before .before .before .before .before) .pre .1 in
+      (numbered-order (pre .1 .numbered), pre .0 .last)
+
+  equalise-counts-of-requires : equalise-lts.Need-counts-of-requires (calls t) (equalise-at t) equalise.Post
+  equalise-counts-of-requires c κs =
+      let v = c .before .before .before .before .before .before .before in
+      let lent = entry v .pre .1 .0 .lent in
+      let all = small (lent .size .few) (lent .whole) (v .treat-section .ensures .treated) in
+      (all .1 .0, (all .1 .1, c .below .ensures .few))
+
   equalise-split-requires : equalise-lts.Need-split-requires (calls t) (equalise-at t) equalise.Post
   equalise-split-requires c κs =
       let inner = c .before .before .before in
@@ -135,14 +160,26 @@ module _ (t : ℕ) where
         ),
       )
 
-  equalise-add-result : equalise-lts.Need-add-result (calls t) (equalise-at t) equalise.Post
-  equalise-add-result c =
+  equalise-plus-requires : equalise-lts.Need-plus-requires (calls t) (equalise-at t) equalise.Post
+  equalise-plus-requires c κs =
       let divided = c .before .before .before .before .before .before in
-      let v = inner-treated (divided-inner divided) in
+      let inner = divided-inner divided in
+      let v = inner-treated inner in
       let s = entry v in
       let lent = s .pre .1 .0 .lent in
-      let most = small (lent .size .few) (lent .whole) (v .treat-section .ensures .treated) in
-      omega (arith, divided .split .ensures .bound, s .fits .a, s .fits .b)
+      let due = s .pre .1 .1 in
+      let N = due .numbered in
+      let D = v .before .before .before .before .before .deeper .ensures in
+      let some = D .yes (inner .if1 .taken) (due .d) (N .k) (N .wide) in
+      let here = told-few (lent .size .few) (lent .whole) (inner .before .before .below .ensures .few)
+      (v .treat-section .ensures .treated) in
+      let below = halves-few (due .d) some N (omega (arith, v .treat-section, lent .whole)) (lent .size .few)
+      (divided .split .ensures) in
+      let counts = inner .before .counts-of .ensures in
+      let spans : s .args .span * 1048576 ≤ 255 * 1048576 = omega (arith, N .fits, N .real) in (
+        omega (arith, here .0, below .0, ap (λ (x : Counts). x .retoned) counts),
+        omega (arith, here .1, below .1, ap (λ (x : Counts). x .kept) counts),
+      )
 
   equalise-same-length : equalise-lts.Need-same-length (calls t) (equalise-at t) equalise.Post
   equalise-same-length c = search needs
@@ -155,7 +192,7 @@ module _ (t : ℕ) where
 
   equalise-returns : equalise-lts.Need-returns (calls t) (equalise-at t) equalise.Post
   equalise-returns c =
-      let divided = c .before .before .before .before .before .before in
+      let divided = c .before .before .before .before .before .before .before in
       let inner = divided-inner divided in
       let v = inner-treated inner in
       let s = entry v in
@@ -167,9 +204,16 @@ module _ (t : ℕ) where
       let X = v .before .before .before .before .next-of .ensures in
       let e = inner .if1 .taken in
       let H = divided .split .ensures in
-      let many = numbered-many (due .d) N (D .yes e (due .d) (N .k) (N .wide)) in
-      node (s .args .shape) (s .args .settings) (lent .size .few) (lent .whole) (numbered-order N) T D e H
-      (apart-node (numbered-order N) (lent .whole) T (N .real) many (due .marks-are) (X .halves e) (H .apart))
+      let some = D .yes e (due .d) (N .k) (N .wide) in
+      let many = numbered-many (due .d) N some in
+      let left = next-gone (s .args .shape) (s .args .settings) (lent .whole) (v .treat-section .ensures) (due .coded)
+      (due .marks-are) (X .middle) (X .halves e) (le-refl _) refl (due .d) some N in
+      let E = node (s .args .shape) (s .args .settings) (inner .before .before .below .ensures) T D e H left
+      (apart-node (numbered-order N) (lent .whole) T (N .real) many (due .marks-are) (X .halves e) (H .apart)) in
+      subst (Equalised (s .args .shape) (s .args .a) (s .args .b) (s .args .code) (s .args .span) (s .args .settings)
+      (s .args .plane .now) (s .args .marks .now) (s .args .queue .now)
+      (divided .split .last .0) (divided .split .last .1 .0) (divided .split .last .1 .1 .0))
+      (sym (c .plus .ensures ∙ ap (λ (x : Counts). sums x (divided .split .result)) (inner .before .counts-of .ensures))) E
 
   equalise-same-length-4 : equalise-lts.Need-same-length-4 (calls t) (equalise-at t) equalise.Post
   equalise-same-length-4 c = search needs
@@ -191,13 +235,17 @@ module _ (t : ℕ) where
       let D = v .before .before .before .before .before .deeper .ensures in
       let X = v .before .before .before .before .next-of .ensures in
       let e = c .if1 .left in
-      leaf (s .args .shape) (s .args .settings) (lent .size .few) (lent .whole) (numbered-order N) T D e
-      (apart-leaf (numbered-order N) (lent .whole) T (N .real) (numbered-some N) (due .marks-are) (X .none e))
+      let E = leaf (s .args .shape) (s .args .settings) (c .before .before .below .ensures) T D e
+      (apart-leaf (numbered-order N) (lent .whole) T (N .real) (numbered-some N) (due .marks-are) (X .none e)) in
+      subst (Equalised (s .args .shape) (s .args .a) (s .args .b) (s .args .code) (s .args .span) (s .args .settings)
+      (s .args .plane .now) (s .args .marks .now) (s .args .queue .now)
+      (v .treat-section .last .0) (v .treat-section .last .1 .0) (v .treat-section .last .1 .1 .0))
+      (sym (c .before .counts-of .ensures)) E
 
 -- ## `split`, of measure t
 
 abbrev split-calls : ℕ → split-lts.Claims
-split-calls t = (equalise-below t, equalise.Post)
+split-calls t = (equalise-below t, equalise.Post, plus.Asked, plus.Learnt)
 
 module _ (t : ℕ) where
   -- where the lower half is done, and where the upper half is
@@ -258,12 +306,20 @@ module _ (t : ℕ) where
         ),
       )
 
-  split-add-result : split-lts.Need-add-result (split-calls t) (split-at t) split.Post
-  split-add-result c =
+  split-plus-requires : split-lts.Need-plus-requires (split-calls t) (split-at t) split.Post
+  split-plus-requires c κs =
       let upper = c .before .before .before .before .before .before in
       let lower = lower-of upper in
       let s = split-entry lower in
-      omega (arith, lower .equalise .ensures .bound, upper .equalise2 .ensures .bound, s .fits .a, s .fits .b)
+      let lent = s .pre .1 .0 .lent in
+      let N = s .pre .1 .1 .numbered in
+      let low = branch-few (low-numbered N) (lent .whole) (lent .size .few) (lower .equalise .ensures) in
+      let high = branch-few (high-numbered N) (omega (arith, lower .equalise, lent .whole)) (lent .size .few)
+      (upper .equalise2 .ensures) in
+      let spans : s .args .span * 1048576 ≤ 255 * 1048576 = omega (arith, N .fits, N .real) in (
+        omega (arith, low .0, high .0, half-some N, twice N),
+        omega (arith, low .1, high .1, half-some N, twice N),
+      )
 
   split-same-length : split-lts.Need-same-length (split-calls t) (split-at t) split.Post
   split-same-length c = search needs
@@ -276,13 +332,18 @@ module _ (t : ℕ) where
 
   split-returns : split-lts.Need-returns (split-calls t) (split-at t) split.Post
   split-returns c =
-      let upper = c .before .before .before .before .before .before in
+      let upper = c .before .before .before .before .before .before .before in
       let v = lower-of upper in
       let s = split-entry v in
       let low = v .equalise .ensures in
       let high = upper .equalise2 .ensures in
-      halves low high
-      (apart-both (s .pre .1 .1) (s .pre .1 .0 .lent .whole) (omega (arith, v .equalise)) (low .apart) (high .apart))
+      let whole = s .pre .1 .0 .lent .whole in
+      let H = halves low high (gone-high (s .pre .1 .1) whole (omega (arith, v .equalise)) (low .apart))
+      (apart-both (s .pre .1 .1) whole (omega (arith, v .equalise)) (low .apart) (high .apart)) in
+      subst (Halved (s .args .shape) (s .args .a) (s .args .b) (s .args .code) (s .args .span) (s .args .settings)
+      (s .args .plane .now) (s .args .marks .now) (s .args .queue .now)
+      (upper .equalise2 .last .0) (upper .equalise2 .last .1 .0) (upper .equalise2 .last .1 .1 .0))
+      (sym (c .plus .ensures)) H
 
 -- ## The cycle
 
@@ -297,8 +358,10 @@ pub +equalise+split-spec : {M : Type 1} → statement M
     (equalise-deeper-requires t)
     (equalise-next-of-requires t)
     (equalise-treat-section-requires t)
+    (equalise-below-requires t)
+    (equalise-counts-of-requires t)
     (equalise-split-requires t)
-    (equalise-add-result t)
+    (equalise-plus-requires t)
     (equalise-same-length t)
     (equalise-same-length-2 t)
     (equalise-same-length-3 t)
@@ -320,7 +383,7 @@ pub +equalise+split-spec : {M : Type 1} → statement M
     (split-add-equalise-3 t)
     (split-add-equalise-4 t)
     (split-equalise-requires-2 t)
-    (split-add-result t)
+    (split-plus-requires t)
     (split-same-length t)
     (split-same-length-2 t)
     (split-same-length-3 t)

@@ -1,10 +1,14 @@
 -- `capi::mlhe_enhance` meets its contract: refused with nothing changed, or as the call. Assumes nothing.
 use mathlib.Core.Path.{sym, _∙_}
 use Rattle.cnumbers.proofs.Numbers.{returned}
-use Rattle.capi.proofs.Calls.{enhance-refused, enhance-made}
+use Rattle.capi.proofs.Calls.{enhance-refused, enhance-short, enhance-made}
 use borrow.Author.Needs.{needs}
 use Rattle.capi.proofs.mlhe_enhance.Statement.{statement}
 use Rattle.capi.proofs.mlhe_enhance.Tie as tie
+
+-- the entry, from where the form is tested
+abbrev start : tie.After-enhance-form-refusal → tie.Start
+start c = c .before .before .before .before .before .before .before
 
 enhance-form-refusal-requires : tie.Need-enhance-form-refusal-requires
 enhance-form-refusal-requires c κs = search needs
@@ -15,20 +19,38 @@ refused-requires c κs = search needs
 returns : tie.Need-returns
 returns c =
     let tested = c .before .before in
-    let args = tested .before .before .before .before .before .before .args in
+    let args = start tested .args in
     enhance-refused (args .w) (args .h) (args .last) (args .area) (args .rule) (args .first) (args .second)
-    (args .frame .now) (args .plane .now) (args .marks .now) (args .queue .now) (args .output .now)
+    (args .frame .now) (args .plane .now) (args .marks .now) (args .queue .now) (args .output .now) (args .counts .now)
     (tested .enhance-form-refusal .ensures) (c .before .if1 .taken)
     (returned (c .refused .ok) (c .refused .ensures))
 
 rule-of-requires : tie.Need-rule-of-requires
 rule-of-requires c κs = search needs
 
+settings-refusal-requires : tie.Need-settings-refusal-requires
+settings-refusal-requires c κs = search needs
+
+short-counts-requires : tie.Need-short-counts-requires
+short-counts-requires c κs = search needs
+
+returns-2 : tie.Need-returns-2
+returns-2 c =
+    let few = c .before .before in
+    let ruled = few .before in
+    let tested = ruled .before .before in
+    let args = start tested .args in
+    enhance-short (args .w) (args .h) (args .last) (args .area) (args .rule) (args .first) (args .second)
+    (args .frame .now) (args .plane .now) (args .marks .now) (args .queue .now) (args .output .now) (args .counts .now)
+    (sym (tested .enhance-form-refusal .ensures) ∙ ruled .before .if1 .left) (ruled .rule-of .ensures)
+    (few .if2 .taken) (c .before .settings-refusal .ensures)
+    (returned (c .short-counts .ok) (c .short-counts .ensures))
+
 enhance-requires : tie.Need-enhance-requires
 enhance-requires c κs = search needs
 
-answer-number-requires : tie.Need-answer-number-requires
-answer-number-requires c κs = search needs
+put-counts-requires : tie.Need-put-counts-requires
+put-counts-requires c κs = search needs
 
 same-length : tie.Need-same-length
 same-length c = search needs
@@ -42,17 +64,22 @@ same-length-3 c = search needs
 same-length-4 : tie.Need-same-length-4
 same-length-4 c = search needs
 
-returns-2 : tie.Need-returns-2
-returns-2 c =
-    let called = c .before .before .before .before .before .before .before .before .before in
-    let ruled = called .before .before .before .before .before in
+same-length-5 : tie.Need-same-length-5
+same-length-5 c = search needs
+
+returns-3 : tie.Need-returns-3
+returns-3 c =
+    let put = c .before .before in
+    let called = c .before .before .before .before .before .before .before .before .before .before .before .before in
+    let enough = called .before .before .before .before .before in
+    let ruled = enough .before in
     let tested = ruled .before .before in
-    let args = tested .before .before .before .before .before .before .args in
+    let args = start tested .args in
     enhance-made (args .w) (args .h) (args .last) (args .area) (args .rule) (args .first) (args .second)
-    (args .frame .now) (args .plane .now) (args .marks .now) (args .queue .now) (args .output .now)
+    (args .frame .now) (args .plane .now) (args .marks .now) (args .queue .now) (args .output .now) (args .counts .now)
     (called .enhance .result) (sym (tested .enhance-form-refusal .ensures) ∙ ruled .before .if1 .left)
-    (ruled .rule-of .ensures) (called .enhance .ensures)
-    (returned (c .answer-number .ok) (c .answer-number .ensures))
+    (enough .if2 .left) (ruled .rule-of .ensures) (called .enhance .ensures)
+    (returned (put .put-counts .ok) (put .put-counts .ensures .0)) (put .put-counts .ensures .1)
 
 pub mlhe-enhance-spec : {M : Type 1} → statement M
 mlhe-enhance-spec =
@@ -62,10 +89,14 @@ mlhe-enhance-spec =
     refused-requires
     returns
     rule-of-requires
+    settings-refusal-requires
+    short-counts-requires
+    returns-2
     enhance-requires
-    answer-number-requires
+    put-counts-requires
     same-length
     same-length-2
     same-length-3
     same-length-4
-    returns-2)
+    same-length-5
+    returns-3)

@@ -1,10 +1,14 @@
 -- `capi::mlhe_pass` meets its contract: refused with nothing changed, or as the call. Assumes nothing.
 use mathlib.Core.Path.{sym, _∙_}
 use Rattle.cnumbers.proofs.Numbers.{returned}
-use Rattle.capi.proofs.Calls.{pass-refused, pass-made}
+use Rattle.capi.proofs.Calls.{pass-refused, pass-short, pass-made}
 use borrow.Author.Needs.{needs}
 use Rattle.capi.proofs.mlhe_pass.Statement.{statement}
 use Rattle.capi.proofs.mlhe_pass.Tie as tie
+
+-- the entry, from where the form is tested
+abbrev start : tie.After-pass-form-refusal → tie.Start
+start c = c .before .before .before .before .before
 
 pass-form-refusal-requires : tie.Need-pass-form-refusal-requires
 pass-form-refusal-requires c κs = search needs
@@ -14,20 +18,37 @@ refused-requires c κs = search needs
 
 returns : tie.Need-returns
 returns c =
-    let args = c .before .before .before .before .before .before .args in
+    let tested = c .before .before in
+    let args = start tested .args in
     pass-refused (args .w) (args .h) (args .a) (args .b) (args .area) (args .rule) (args .first) (args .second)
-    (args .plane .now) (args .marks .now) (args .queue .now)
-    (c .before .before .pass-form-refusal .ensures) (c .before .if1 .taken)
-    (returned (c .refused .ok) (c .refused .ensures))
+    (args .plane .now) (args .marks .now) (args .queue .now) (args .counts .now)
+    (tested .pass-form-refusal .ensures) (c .before .if1 .taken) (returned (c .refused .ok) (c .refused .ensures))
 
 rule-of-requires : tie.Need-rule-of-requires
 rule-of-requires c κs = search needs
 
+pass-refusal-requires : tie.Need-pass-refusal-requires
+pass-refusal-requires c κs = search needs
+
+short-counts-requires : tie.Need-short-counts-requires
+short-counts-requires c κs = search needs
+
+returns-2 : tie.Need-returns-2
+returns-2 c =
+    let few = c .before .before in
+    let ruled = few .before in
+    let tested = ruled .before .before in
+    let args = start tested .args in
+    pass-short (args .w) (args .h) (args .a) (args .b) (args .area) (args .rule) (args .first) (args .second)
+    (args .plane .now) (args .marks .now) (args .queue .now) (args .counts .now)
+    (sym (tested .pass-form-refusal .ensures) ∙ ruled .before .if1 .left) (ruled .rule-of .ensures) (few .if2 .taken)
+    (c .before .pass-refusal .ensures) (returned (c .short-counts .ok) (c .short-counts .ensures))
+
 pass-requires : tie.Need-pass-requires
 pass-requires c κs = search needs
 
-answer-number-requires : tie.Need-answer-number-requires
-answer-number-requires c κs = search needs
+put-counts-requires : tie.Need-put-counts-requires
+put-counts-requires c κs = search needs
 
 same-length : tie.Need-same-length
 same-length c = search needs
@@ -38,16 +59,21 @@ same-length-2 c = search needs
 same-length-3 : tie.Need-same-length-3
 same-length-3 c = search needs
 
-returns-2 : tie.Need-returns-2
-returns-2 c =
-    let called = c .before .before .before .before .before .before .before in
-    let ruled = called .before .before .before .before in
+same-length-4 : tie.Need-same-length-4
+same-length-4 c = search needs
+
+returns-3 : tie.Need-returns-3
+returns-3 c =
+    let put = c .before .before in
+    let called = c .before .before .before .before .before .before .before .before .before in
+    let enough = called .before .before .before .before .before in
+    let ruled = enough .before in
     let tested = ruled .before .before in
-    let args = tested .before .before .before .before .args in
+    let args = start tested .args in
     pass-made (args .w) (args .h) (args .a) (args .b) (args .area) (args .rule) (args .first) (args .second)
-    (args .plane .now) (args .marks .now) (args .queue .now) (called .pass .result)
-    (sym (tested .pass-form-refusal .ensures) ∙ ruled .before .if1 .left) (ruled .rule-of .ensures)
-    (called .pass .ensures) (returned (c .answer-number .ok) (c .answer-number .ensures))
+    (args .plane .now) (args .marks .now) (args .queue .now) (args .counts .now) (called .pass .result)
+    (sym (tested .pass-form-refusal .ensures) ∙ ruled .before .if1 .left) (enough .if2 .left) (ruled .rule-of .ensures)
+    (called .pass .ensures) (returned (put .put-counts .ok) (put .put-counts .ensures .0)) (put .put-counts .ensures .1)
 
 pub mlhe-pass-spec : {M : Type 1} → statement M
 mlhe-pass-spec =
@@ -57,9 +83,13 @@ mlhe-pass-spec =
     refused-requires
     returns
     rule-of-requires
+    pass-refusal-requires
+    short-counts-requires
+    returns-2
     pass-requires
-    answer-number-requires
+    put-counts-requires
     same-length
     same-length-2
     same-length-3
-    returns-2)
+    same-length-4
+    returns-3)

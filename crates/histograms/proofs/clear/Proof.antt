@@ -1,58 +1,49 @@
--- `histograms::clear` meets its contract. The invariant: the entries from a to below v are 0, and the others are as
--- they were. The measure is what is left up to b. Assumes nothing.
-use Prim.Native.Nat.{_+_, _-_, _≤_}
-use mathlib.Core.Path.{_≡_, refl}
-use Rattle.histograms.specs.Histograms.{Refilled}
-use Rattle.histograms.proofs.Stores.{refilled-none, refilled-more}
+-- `histograms::clear` meets its contract: one store for one value, the range for more. Assumes nothing.
+use mathlib.Core.Path.{refl, sym}
 use native.Mathlib.Omega.{arith}
+use Rattle.histograms.proofs.Stores.{refilled-none, refilled-more}
+use borrow.Author.Needs.{needs}
 use Rattle.histograms.proofs.clear.Statement.{statement}
 use Rattle.histograms.proofs.clear.Tie as tie
 
-abbrev Inv-loop : tie.InvT-loop
-Inv-loop counts₀ a b last v₀ counts v = (a ≤ v) × ((v ≤ b + 1) × Refilled (λ k. 0) a v counts₀ counts)
+cast-first : tie.Need-cast-first
+cast-first c = search needs
 
-abbrev μ-loop : tie.MeasureT-loop
-μ-loop counts₀ a b last v₀ counts v = b + 1 - v
+cast-last : tie.Need-cast-last
+cast-last c = search needs
 
-loop-holds : tie.Need-loop-holds Inv-loop μ-loop
-loop-holds c = (omega arith, (omega arith, refilled-none _))
+mul-counts : tie.Need-mul-counts
+mul-counts c = search needs
 
-mul-counts : tie.Need-mul-counts Inv-loop μ-loop
-mul-counts c = omega arith
+slice-write-counts : tie.Need-slice-write-counts
+slice-write-counts c = search needs
 
-slice-write-counts : tie.Need-slice-write-counts Inv-loop μ-loop
-slice-write-counts c = omega (arith, c .before .loop .inv .1 .1 .size)
+same-length : tie.Need-same-length
+same-length c = search needs
 
-add-v : tie.Need-add-v Inv-loop μ-loop
-add-v c = omega arith
-
-loop-less : tie.Need-loop-less Inv-loop μ-loop
-loop-less c = omega arith
-
-loop-again : tie.Need-loop-again Inv-loop μ-loop
-loop-again c =
-    let inv = c .before .loop .inv in
-    (omega arith, (omega arith, refilled-more (inv .1 .1) (inv .0) (omega arith) refl))
-
-same-length : tie.Need-same-length Inv-loop μ-loop
-same-length c = c .before .loop .inv .1 .1 .size
-
-returns : tie.Need-returns Inv-loop μ-loop
+returns : tie.Need-returns
 returns c =
-    let end : c .before .loop .v ≡ c .before .before .args .b + 1 = omega arith in
-    rw end at (c .before .loop .inv .1 .1)
+    rw (sym (c .if1 .taken)) (refilled-more (refilled-none _) (omega arith) (omega arith) refl)
+
+zero-range-requires : tie.Need-zero-range-requires
+zero-range-requires c κs = search needs
+
+same-length-2 : tie.Need-same-length-2
+same-length-2 c = search needs
+
+returns-2 : tie.Need-returns-2
+returns-2 c = search needs
 
 pub clear-spec : {M : Type 1} → statement M
 clear-spec =
     tie.close
     (tie.spec
-    Inv-loop
-    μ-loop
-    loop-holds
+    cast-first
+    cast-last
     mul-counts
     slice-write-counts
-    add-v
-    loop-less
-    loop-again
     same-length
-    returns)
+    returns
+    zero-range-requires
+    same-length-2
+    returns-2)

@@ -1,79 +1,50 @@
--- `histograms::histogram` meets its contract. The invariant: the entries of [a, b] count the values of the queue's
--- first i pixels, and the others stay. The measure is what is left of m. Assumes nothing.
-use Prim.Native.Nat.{ℕ, _-_, _≤_, _<_}
+-- `histograms::histogram` meets its contract. The invariant: the counts are those of the plane's first i values. The
+-- measure is what is left of the plane. Assumes nothing.
+use Prim.Native.Nat.{_-_, _≤_, _<_}
 use mathlib.Core.Path.{_≡_}
-use borrow.Author.Needs.{needs}
 use native.Mathlib.Omega.{arith}
+use lib.ListN.{length, take}
+use lib.Seq.{length-take-le, take-length}
 use Rattle.planes.specs.Lists.{at}
-use Rattle.histograms.specs.Histograms.{values, Outside, Tally}
-use Rattle.histograms.proofs.Stores.{tally-none, tally-more, tally-le}
-use Rattle.histograms.proofs.Stores.{outside-none, outside-more, outside-both, refilled-outside}
+use Rattle.histograms.specs.Histograms.{Tally}
+use Rattle.histograms.proofs.Measured.{tally-taken, tally-few}
 use Rattle.histograms.proofs.histogram.Statement.{statement}
 use Rattle.histograms.proofs.histogram.Tie as tie
 
 abbrev Inv-loop : tie.InvT-loop
-Inv-loop plane queue m counts₀ a b i₀ counts i =
-    (i ≤ m) × (Tally a b (values plane queue i) counts × Outside a b counts₀ counts)
+Inv-loop plane counts₀ n i₀ counts i = (i ≤ length plane) × Tally (take i plane) counts
 
 abbrev μ-loop : tie.MeasureT-loop
-μ-loop plane queue m counts₀ a b i₀ counts i = m - i
-
-clear-requires : tie.Need-clear-requires Inv-loop μ-loop
-clear-requires c κs = search needs
+μ-loop plane counts₀ n i₀ counts i = length plane - i
 
 loop-holds : tie.Need-loop-holds Inv-loop μ-loop
-loop-holds c =
-    let a = c .before .before .before .before .args in
-    let zeros = c .clear .ensures in (
-      omega arith,
-      (
-        tally-none (a .plane .now) (a .queue .now) (omega (arith, zeros .size))
-            (λ v av vb. zeros .new v (omega arith) (omega arith)),
-        outside-none _,
-      ),
-    )
-
-mul-p : tie.Need-mul-p Inv-loop μ-loop
-mul-p c = omega arith
-
-shared-slice-read-p : tie.Need-shared-slice-read-p Inv-loop μ-loop
-shared-slice-read-p c = omega arith
-
-cast-p : tie.Need-cast-p Inv-loop μ-loop
-cast-p c = omega (arith, c .shared-slice-known3 .given (c .before .before .loop .i))
-
--- where a turn's value is read: the start, the value, and that it is of [a, b]
-abbrev start : tie.After-shared-slice-known4 Inv-loop μ-loop → tie.Start Inv-loop μ-loop
-start c = c .before .before .before .before .before .before .before .before
-
-abbrev value : tie.After-shared-slice-known4 Inv-loop μ-loop → ℕ
-value c = at (start c .args .plane .now) (at (start c .args .queue .now) (c .before .before .before .loop .i))
-
-within : (c : tie.After-shared-slice-known4 Inv-loop μ-loop) →
-    (start c .args .a ≤ value c) × (value c ≤ start c .args .b)
-within c = start c .pre .within (c .before .before .before .loop .i) (omega arith)
+loop-holds c = (omega arith, c .pre .0)
 
 shared-slice-read-v : tie.Need-shared-slice-read-v Inv-loop μ-loop
-shared-slice-read-v c = start c .pre .pixels (c .before .before .before .loop .i) (omega arith)
+shared-slice-read-v c = omega arith
+
+-- the value that is read is a byte
+byte : (c : tie.After-shared-slice-known Inv-loop μ-loop) →
+    at (c .before .before .before .args .plane .now) (c .before .before .loop .i) < 256
+byte c = omega (arith, c .shared-slice-known .given (c .before .before .loop .i))
 
 cast-v : tie.Need-cast-v Inv-loop μ-loop
-cast-v c = omega (arith, within c)
+cast-v c = omega (arith, byte c)
 
 mul-counts : tie.Need-mul-counts Inv-loop μ-loop
-mul-counts c = omega (arith, within c)
+mul-counts c = omega (arith, byte c)
 
 element-copy-out-counts : tie.Need-element-copy-out-counts Inv-loop μ-loop
-element-copy-out-counts c = omega (arith, within c)
+element-copy-out-counts c = byte c
 
 add-counts : tie.Need-add-counts Inv-loop μ-loop
 add-counts c =
-    let a = start (c .before) .args in
-    let s = c .before .before .before .before .loop in
-    let v = within (c .before) in
-    omega (arith, tally-le (a .plane .now) (a .queue .now) (s .i) (value (c .before)) (s .inv .1 .0) (v .0) (v .1))
+    let s = c .before .before .before .loop in
+    let vs = c .before .before .before .before .args .plane .now in
+    omega (arith, tally-few (at vs (s .i)) (s .inv .1), length-take-le (s .i) vs (s .inv .0))
 
 element-write-counts : tie.Need-element-write-counts Inv-loop μ-loop
-element-write-counts c = omega (arith, within (c .before))
+element-write-counts c = byte (c .before)
 
 add-i : tie.Need-add-i Inv-loop μ-loop
 add-i c = omega arith
@@ -83,18 +54,14 @@ loop-less c = omega arith
 
 loop-again : tie.Need-loop-again Inv-loop μ-loop
 loop-again c =
-    let a = start (c .before) .args in
-    let s = c .before .before .before .before .loop in
-    let v = within (c .before) in
-    let byte : value (c .before) < 256 = omega arith in
-    let tally = tally-more (a .plane .now) (a .queue .now) (s .i) (s .inv .1 .0) (omega arith) (v .0) (v .1) byte in
-    (omega arith, (tally, outside-more _ (s .inv .1 .1) (v .0) (v .1)))
+    let s = c .before .before .before .loop in
+    (omega arith, tally-taken _ (s .i) (s .inv .1) (omega arith) (byte (c .before)))
 
 returns : tie.Need-returns Inv-loop μ-loop
 returns c =
-    let all : c .before .loop .i ≡ c .before .before .before .before .before .before .args .m = omega arith in
-    let cleared = c .before .before .clear .ensures in
-    (rw all at (c .before .loop .inv .1 .0), outside-both (refilled-outside cleared) (c .before .loop .inv .1 .1))
+    let vs = c .before .before .args .plane .now in
+    let all : c .before .loop .i ≡ length vs = omega arith in
+    rw (all, take-length vs) at (c .before .loop .inv .1)
 
 pub histogram-spec : {M : Type 1} → statement M
 histogram-spec =
@@ -102,11 +69,7 @@ histogram-spec =
     (tie.spec
     Inv-loop
     μ-loop
-    clear-requires
     loop-holds
-    mul-p
-    shared-slice-read-p
-    cast-p
     shared-slice-read-v
     cast-v
     mul-counts

@@ -1,5 +1,5 @@
--- `limited::clip` meets its contract. The invariant: the entries from a to below v are clipped, and the others are as
--- they were. The measure is what is left up to b. Assumes nothing.
+-- `limited::clip` meets its contract. The invariant: the entries from first to below v are clipped, and the others are
+-- as they were. The measure is what is left up to last. Assumes nothing.
 use Prim.Native.Nat.{_+_, _-_, _*_, _≤_, min}
 use mathlib.Core.Path.{_≡_, ap, _∙_}
 use native.Mathlib.Nat.{min-le-left}
@@ -14,11 +14,11 @@ use Rattle.limited.proofs.clip.Statement.{statement}
 use Rattle.limited.proofs.clip.Tie as tie
 
 abbrev Inv-loop : tie.InvT-loop
-Inv-loop counts₀ a b most end v₀ counts v =
-    (a ≤ v) × ((v ≤ b + 1) × Refilled (clippedAt most counts₀) a v counts₀ counts)
+Inv-loop counts₀ first last most end v₀ counts v =
+    (first ≤ v) × ((v ≤ last + 1) × Refilled (clippedAt most counts₀) first v counts₀ counts)
 
 abbrev μ-loop : tie.MeasureT-loop
-μ-loop counts₀ a b most end v₀ counts v = b + 1 - v
+μ-loop counts₀ first last most end v₀ counts v = last + 1 - v
 
 add-end : tie.Need-add-end Inv-loop μ-loop
 add-end c = omega arith
@@ -41,7 +41,7 @@ few : (c : tie.In-loop Inv-loop μ-loop) → at (c .before .before .args .counts
 few c =
     let a = c .before .before .args in
     let v = c .before .loop .v in
-    omega (arith, term-le (at (a .counts .now)) {a = a .a} {v = v} {b = a .b} (omega arith) (omega arith))
+    omega (arith, term-le (at (a .counts .now)) {a = a .first} {v = v} {b = a .last} (omega arith) (omega arith))
 
 cast-lesser : tie.Need-cast-lesser Inv-loop μ-loop
 cast-lesser c = omega (arith, old (c .before), few (c .before))
@@ -86,7 +86,7 @@ loop-again c =
 
 returns : tie.Need-returns Inv-loop μ-loop
 returns c =
-    let end : c .before .loop .v ≡ c .before .before .args .b + 1 = omega arith in
+    let end : c .before .loop .v ≡ c .before .before .args .last + 1 = omega arith in
     rw end at (c .before .loop .inv .1 .1)
 
 pub clip-spec : {M : Type 1} → statement M

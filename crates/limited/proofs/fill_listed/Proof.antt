@@ -1,5 +1,5 @@
 -- `limited::fill_listed` meets its contract. The invariant: the entries at the values of the queue's first i pixels are
--- tones, and no entry outside [a, b] changes. The measure is what is left of m. Assumes nothing.
+-- tones, and no entry outside [least, greatest] changes. The measure is what is left of m. Assumes nothing.
 use Prim.Native.Nat.{ℕ, _-_, _≤_}
 use mathlib.Core.Path.{_≡_}
 use Rattle.planes.specs.Lists.{at}
@@ -12,11 +12,11 @@ use Rattle.limited.proofs.fill_listed.Statement.{statement}
 use Rattle.limited.proofs.fill_listed.Tie as tie
 
 abbrev Inv-loop : tie.InvT-loop
-Inv-loop plane queue m sums table₀ a b i₀ table i =
-    (i ≤ m) × (Outside a b table₀ table × Filled (limitedBy sums m a b) plane queue table i)
+Inv-loop plane queue sums table₀ c a b m i₀ table i =
+    (i ≤ m) × (Outside (c .least) (c .greatest) table₀ table × Filled (limitedBy sums c a b) plane queue table i)
 
 abbrev μ-loop : tie.MeasureT-loop
-μ-loop plane queue m sums table₀ a b i₀ table i = m - i
+μ-loop plane queue sums table₀ c a b m i₀ table i = m - i
 
 loop-holds : tie.Need-loop-holds Inv-loop μ-loop
 loop-holds c = (omega arith, (outside-none _, filled-none _ _ _))
@@ -30,7 +30,7 @@ shared-slice-read-p c = omega arith
 cast-p : tie.Need-cast-p Inv-loop μ-loop
 cast-p c = omega (arith, c .shared-slice-known3 .given (c .before .before .loop .i))
 
--- where a turn's value is read: the start, and that the value is of [a, b]
+-- where a turn's value is read: the start, and that the value is of [least, greatest]
 abbrev start : tie.After-shared-slice-known4 Inv-loop μ-loop → tie.Start Inv-loop μ-loop
 start c = c .before .before .before .before .before .before .before
 
@@ -38,7 +38,7 @@ abbrev value : tie.After-shared-slice-known4 Inv-loop μ-loop → ℕ
 value c = at (start c .args .plane .now) (at (start c .args .queue .now) (c .before .before .before .loop .i))
 
 within : (c : tie.After-shared-slice-known4 Inv-loop μ-loop) →
-    (start c .args .a ≤ value c) × (value c ≤ start c .args .b)
+    (start c .args .c .least ≤ value c) × (value c ≤ start c .args .c .greatest)
 within c = start c .pre .0 .within (c .before .before .before .loop .i) (omega arith)
 
 shared-slice-read-value : tie.Need-shared-slice-read-value Inv-loop μ-loop
@@ -73,7 +73,7 @@ same-length c = c .before .loop .inv .1 .0 .size
 
 returns : tie.Need-returns Inv-loop μ-loop
 returns c =
-    let all : c .before .loop .i ≡ c .before .before .before .before .before .args .m = omega arith in
+    let all : c .before .loop .i ≡ c .before .before .before .before .before .args .c .size = omega arith in
     (rw all at (c .before .loop .inv .1 .1), c .before .loop .inv .1 .0)
 
 pub fill-listed-spec : {M : Type 1} → statement M

@@ -3,8 +3,8 @@ use Prim.Native.Nat.{ℕ, _+_, _-_, _*_, _^_, _≤_, _<_}
 use native.Mathlib.Nat.{mul-le-mul-right}
 use Rattle.planes.specs.Lists.{at}
 use Rattle.limited.proofs.Sound.{shares-le}
-use borrow.Author.Needs.{needs}
 use native.Mathlib.Omega.{arith}
+use borrow.Author.Needs.{needs}
 use Rattle.limited.proofs.limited_tone.Statement.{statement}
 use Rattle.limited.proofs.limited_tone.Tie as tie
 
@@ -17,18 +17,23 @@ record Shares (w s n e all : ℕ) : Type 0 where
 share : (c : tie.Start) →
     let a = c .args in
     let sums = a .sums .now in
-    Shares (a .b - a .a + 1) (at sums (a .v)) (a .v - a .a + 1) (1000 * a .m - at sums (a .b)) (1000 * a .m)
+    let all = 1000 * a .c .size in
+    Shares (a .b - a .a + 1) (at sums (a .v)) (a .v - a .a + 1) (all - at sums (a .c .greatest)) all
 share c =
     let a = c .args in
     let sums = a .sums .now in
     let w = a .b - a .a + 1 in
-    let all = 1000 * a .m in
+    let n = a .v - a .a + 1 in
+    let all = 1000 * a .c .size in
     let rises = c .pre .0 .rises (a .v) (c .pre .1 .0) (c .pre .1 .1) in
     record {
-      both = shares-le (at sums (a .v)) (at sums (a .b)) (a .v - a .a + 1) w all rises (c .pre .0 .top) (omega arith);
+      both = shares-le (at sums (a .v)) (at sums (a .c .greatest)) n w all rises (c .pre .0 .top) (omega arith);
       some = omega (arith, mul-le-mul-right {m = 1} {n = w} all (omega arith));
       fits = omega (arith, mul-le-mul-right {m = w} {n = 256} all (omega arith));
     }
+
+cast-top : tie.Need-cast-top
+cast-top c = search needs
 
 sub-w : tie.Need-sub-w
 sub-w c = search needs
@@ -64,24 +69,26 @@ element-copy-out-scale : tie.Need-element-copy-out-scale
 element-copy-out-scale c = search needs
 
 cast-scale : tie.Need-cast-scale
-cast-scale c = omega (arith, c .before .before .pre .0 .rises (c .before .before .args .v) (omega arith) (omega arith))
+cast-scale c =
+    let s = c .before .before .before in
+    omega (arith, s .pre .0 .rises (s .args .v) (s .pre .1 .0) (s .pre .1 .1))
 
 mul-scale-2 : tie.Need-mul-scale-2
-mul-scale-2 c = let s = share (c .before .before) in omega arith
+mul-scale-2 c = let s = share (c .before .before .before) in omega arith
 
 mul-scale-3 : tie.Need-mul-scale-3
-mul-scale-3 c = let s = share (c .before .before) in omega arith
+mul-scale-3 c = let s = share (c .before .before .before) in omega arith
 
 add-scale : tie.Need-add-scale
-add-scale c = let s = share (c .before .before) in omega arith
+add-scale c = let s = share (c .before .before .before) in omega arith
 
 mul-scale-4 : tie.Need-mul-scale-4
-mul-scale-4 c = let s = share (c .before .before) in omega arith
+mul-scale-4 c = let s = share (c .before .before .before) in omega arith
 
 scale-requires : tie.Need-scale-requires
 scale-requires c κs =
-    let s = share (c .before .before) in
-    (c .before .before .pre .0 .order, (s .both, (s .some, s .fits)))
+    let s = share (c .before .before .before) in
+    (omega arith, (s .both, (s .some, s .fits)))
 
 returns : tie.Need-returns
 returns c = search needs
@@ -90,6 +97,7 @@ pub limited-tone-spec : {M : Type 1} → statement M
 limited-tone-spec =
     tie.close
     (tie.spec
+    cast-top
     sub-w
     add-w
     sub-n

@@ -9,7 +9,9 @@ use Rattle.limited.proofs.sum_clipped.Statement.{statement}
 use Rattle.limited.proofs.sum_clipped.Tie as tie
 
 clip-of-requires : tie.Need-clip-of-requires
-clip-of-requires c κs = omega (arith, mul-le-mul-left {m = c .args .m} {n = 1048576} (c .args .k) (c .pre .few))
+clip-of-requires c κs =
+    let few = c .pre .range .few in
+    omega (arith, mul-le-mul-left {m = c .args .c .size} {n = 1048576} (c .args .k) few)
 
 clip-requires : tie.Need-clip-requires
 clip-requires c κs = search needs
@@ -19,8 +21,8 @@ sum-up-requires c κs =
     let pre = c .before .before .before .before .pre in
     let clip = c .before .clip .ensures in
     let most = c .before .before .before .clip-of .result in
-    let sum = clips-sum most clip _ (pre .order) (omega arith) in
-    (clip .size ∙ pre .size, (pre .order, omega (arith, clips-le most pre, sum, pre .few)))
+    let sum = clips-sum most clip _ (pre .range .order) (omega arith) in
+    (clip .size ∙ pre .size, (pre .range .order, omega (arith, clips-le most pre, sum, pre .range .few)))
 
 returns : tie.Need-returns
 returns c =

@@ -1,5 +1,5 @@
--- `plain::fill_same` meets its contract. The invariant: the entries from a to below v are the values themselves. The
--- measure is what is left up to b. Assumes nothing.
+-- `plain::fill_same` meets its contract. The invariant: the entries from first to below v are the values themselves.
+-- The measure is what is left up to last. Assumes nothing.
 use Prim.Native.Nat.{_+_, _-_, _≤_}
 use mathlib.Core.Path.{_≡_, refl}
 use Rattle.histograms.specs.Histograms.{Refilled}
@@ -9,10 +9,10 @@ use Rattle.plain.proofs.fill_same.Statement.{statement}
 use Rattle.plain.proofs.fill_same.Tie as tie
 
 abbrev Inv-loop : tie.InvT-loop
-Inv-loop table₀ a b end v₀ table v = (a ≤ v) × ((v ≤ b + 1) × Refilled (λ k. k) a v table₀ table)
+Inv-loop table₀ first last end v₀ table v = (first ≤ v) × ((v ≤ last + 1) × Refilled (λ k. k) first v table₀ table)
 
 abbrev μ-loop : tie.MeasureT-loop
-μ-loop table₀ a b end v₀ table v = b + 1 - v
+μ-loop table₀ first last end v₀ table v = last + 1 - v
 
 add-end : tie.Need-add-end Inv-loop μ-loop
 add-end c = omega arith
@@ -42,7 +42,7 @@ same-length c = c .before .loop .inv .1 .1 .size
 
 returns : tie.Need-returns Inv-loop μ-loop
 returns c =
-    let end : c .before .loop .v ≡ c .before .before .args .b + 1 = omega arith in
+    let end : c .before .loop .v ≡ c .before .before .args .last + 1 = omega arith in
     rw end at (c .before .loop .inv .1 .1)
 
 pub fill-same-spec : {M : Type 1} → statement M

@@ -14,14 +14,14 @@ fill-plain-requires : tie.Need-fill-plain-requires
 fill-plain-requires c κs =
     let counted = c .before .before .before .before .pre in
     let summed = c .before .before .sum-up .ensures in
-    (summed-rise _ counted (summed .entry) (omega (arith, counted .whole)), omega arith)
+    (summed-rise _ (counted .range) (summed .entry) (omega (arith, counted .whole)), omega arith)
 
 returns : tie.Need-returns
 returns c =
-    let counted = c .before .before .before .before .before .pre in
+    let a = c .before .before .before .before .before .args in
     let summed = c .before .before .before .sum-up .ensures in
     let filled = c .fill-plain .ensures in
-    (summed, (plain-tabled counted summed filled, refilled-outside filled))
+    (summed, (plain-tabled (a .a) (a .b) summed filled, refilled-outside filled))
 
 pub plain-table-spec : {M : Type 1} → statement M
 plain-table-spec = tie.close (tie.spec sum-up-requires fill-plain-requires returns)

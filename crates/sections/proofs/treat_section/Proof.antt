@@ -1,20 +1,27 @@
 -- `sections::treat_section` meets its contract. The invariant: the components with a pixel before `from` are retoned
 -- and counted, and have their next marks (`Passing`). The measure is what is left of n. Assumes nothing.
 use mathlib.Core.Path.{_≡_, refl, ap, subst, _∙_}
-use Prim.Native.Nat.{ℕ, _-_, _≤_}
+use Prim.Native.Nat.{ℕ, _+_, _-_, _≤_, _<_}
 use mathlib.Core.Bool.{cond}
-use mathlib.Core.List.{List}
+use mathlib.Core.List.{List, []}
 use native.Mathlib.Omega.{arith}
 use borrow.Author.Needs.{needs}
 use lib.ListN.{length}
 use Rattle.planes.specs.Shapes.{pixels}
+use Rattle.histograms.specs.Histograms.{Tally, Gathered}
+use Rattle.histograms.proofs.Measured.{blank, tally-byte, cleared}
+use Rattle.histograms.proofs.Histograms.{gathered-range}
 use Rattle.components.specs.Search.{foundReply, FirstFrom, NextPixel}
 use Rattle.components.specs.declared.Found.{Found}
 use Rattle.components.specs.declared.Found.the-variants.{At}
 use Rattle.model.specs.Neighbourhoods.{passNeighbours}
+use Rattle.model.specs.Passes.{componentValues}
+use Rattle.sections.specs.Sections.{Done}
+use Rattle.sections.specs.declared.Treatment.{Treatment}
 use Rattle.sections.proofs.Passing.{Treatable, Passing, treatable, pass-start, size-le, go-on, pass-end}
-use Rattle.sections.proofs.Passing.{by-pass}
-use Rattle.sections.proofs.Passing.{component, alike, listed, at-most-one, take-one}
+use Rattle.sections.proofs.Steps.{gathered-some}
+use Rattle.sections.proofs.Passing.{by-pass, gauged-by-pass, gathered}
+use Rattle.sections.proofs.Passing.{alike, listed, at-most-one, take-one}
 use Rattle.sections.proofs.treat_section.Statement.{statement}
 use Rattle.sections.proofs.treat_section.Tie as tie
 
@@ -24,14 +31,15 @@ next-of : {marks : List ℕ} {code low n p : ℕ} {r : Found} → r ≡ At p →
 next-of {marks} {code} {low} {n} e f = subst (λ r. NextPixel marks code low n (foundReply r)) e f
 
 abbrev Inv-loop : tie.InvT-loop
-Inv-loop plane₀ marks₀ queue₀ shape code due pass next n inverse counts₀ table₀ count₀ low₀ high₀ from₀
-    plane marks queue counts table count low high from =
-    Passing (passNeighbours shape pass) (pixels shape) code pass next plane₀ marks₀ queue₀
-    plane marks queue from count low high
+Inv-loop plane₀ marks₀ queue₀ shape code due pass next n inverse counts₀ table₀ retoned₀ kept₀ left₀ low₀ high₀ from₀
+    plane marks queue counts table retoned kept left low high from =
+    Passing (passNeighbours shape pass) (pixels shape) code pass next plane₀ marks₀ queue₀ plane marks queue from
+    (record { retoned = retoned; kept = kept; left = left; low = low; high = high })
+    × Tally [] counts
 
 abbrev μ-loop : tie.MeasureT-loop
-μ-loop plane₀ marks₀ queue₀ shape code due pass next n inverse counts₀ table₀ count₀ low₀ high₀ from₀
-    plane marks queue counts table count low high from =
+μ-loop plane₀ marks₀ queue₀ shape code due pass next n inverse counts₀ table₀ retoned₀ kept₀ left₀ low₀ high₀ from₀
+    plane marks queue counts table retoned kept left low high from =
     n - from
 
 -- ## Places, from the entry to the end of a turn
@@ -54,18 +62,24 @@ Found-one = tie.After-found Inv-loop μ-loop
 abbrev found-in : Found-one → Loop
 found-in c = searching (c .before .before)
 
--- and from where its component is flooded, and treated
+-- and from where its component is flooded, treated, and its counts are cleared
 abbrev Flooded-one : Type 0
 Flooded-one = tie.After-flood Inv-loop μ-loop
 
 abbrev flooded-in : Flooded-one → Found-one
-flooded-in c = c .before .before .before .before
+flooded-in c = c .before .before .before .before .before .before
 
 abbrev Treated-one : Type 0
 Treated-one = tie.After-treat-component Inv-loop μ-loop
 
 abbrev treated-in : Treated-one → Flooded-one
 treated-in c = c .before .before .before .before .before .before .before .before .before .before
+
+abbrev Cleared-one : Type 0
+Cleared-one = tie.After-clear Inv-loop μ-loop
+
+abbrev cleared-in : Cleared-one → Treated-one
+cleared-in c = c .before .before .before .before .before .before
 
 -- ## What is known there
 
@@ -76,18 +90,28 @@ known : (l : Loop) → (
 known l = treatable (start l .pre)
 
 covered : (l : Loop) → pixels (start l .args .shape) ≤ length (l .loop .marks)
-covered l = omega (arith, start l .pre .lent .covered, l .loop .inv .marks-size)
+covered l = omega (arith, start l .pre .lent .covered, l .loop .inv .0 .marks-size)
 
 -- n is the number of pixels
 number : (l : Loop) → l .before .before .before .pixels .result ≡ pixels (start l .args .shape)
 number l = l .before .before .before .pixels .ensures
 
--- the pixel that was found, and that all before it is done
+-- the pixel that was found
 next : (c : Found-one) → (
     let l = found-in c in
     FirstFrom (l .loop .marks) (start l .args .code) (l .loop .from) (pixels (start l .args .shape))
     (c .found .given .0 .0))
 next c = next-of (c .found .given .1) (c .before .before .next-pixel .ensures)
+
+-- what was told before it
+abbrev so-far : Loop → Treatment
+so-far l = record {
+  retoned = l .loop .retoned;
+  kept = l .loop .kept;
+  left = l .loop .left;
+  low = l .loop .low;
+  high = l .loop .high;
+}
 
 -- all before it is done
 reached : (c : Found-one) → (
@@ -95,26 +119,85 @@ reached : (c : Found-one) → (
     let s = start l .args in
     Passing (passNeighbours (s .shape) (s .pass)) (pixels (s .shape)) (s .code) (s .pass) (s .next)
     (s .plane .now) (s .marks .now) (s .queue .now) (l .loop .plane) (l .loop .marks) (l .loop .queue)
-    (c .found .given .0 .0) (l .loop .count) (l .loop .low) (l .loop .high))
+    (c .found .given .0 .0) (so-far l))
 reached c =
     let l = found-in c in
     let f = next c in
-    go-on (known l) (l .loop .inv) _ (f .past) (omega (arith, f .below)) (f .none)
+    go-on (known l) (l .loop .inv .0) _ (f .past) (omega (arith, f .below)) (f .none)
+
+-- its component is gathered
+whole : (c : Flooded-one) → (
+    let l = found-in (flooded-in c) in
+    let s = start l .args in
+    Gathered (l .loop .plane) (c .flood .last .1 .1 .0) (c .flood .last .1 .1 .1 .0) (c .flood .result)
+    (s .pass .a) (s .pass .b))
+whole c =
+    let found = flooded-in c in
+    let l = found-in found in
+    let f = next found in
+    let z = start l .args .shape in
+    let s = start l .args .pass in
+    gathered (known l) (reached found) (f .below) (f .has) (by-pass z s (c .flood .ensures .0))
+    (gauged-by-pass z s (c .flood .ensures .1))
+
+-- what became of it
+done : (c : Treated-one) → (
+    let flooded = treated-in c in
+    let l = found-in (flooded-in flooded) in
+    let s = start l .args in
+    Done (s .pass) (s .next) (componentValues (passNeighbours (s .shape) (s .pass)) (s .pass) (s .plane .now)
+    (flooded-in flooded .found .given .0 .0))
+    (l .loop .plane) (flooded .flood .last .1 .0) (flooded .flood .last .1 .1 .0)
+    (c .treat-component .last .0) (c .treat-component .last .1 .0) (flooded .flood .result .size)
+    (c .treat-component .result))
+done c =
+    let flooded = treated-in c in
+    let found = flooded-in flooded in
+    let l = found-in found in
+    let f = next found in
+    let F = by-pass (start l .args .shape) (start l .args .pass) (flooded .flood .ensures .0) in
+    c .treat-component .ensures .done _ (alike (known l) (reached found) (f .below) (f .has) F)
+
+-- no count is above the pixels that were passed
+counts-fit : (c : Cleared-one) → (
+    let l = found-in (flooded-in (treated-in (cleared-in c))) in
+    let r = cleared-in c .treat-component .result in
+    (l .loop .retoned + r .retoned < 4294967296)
+    × ((l .loop .kept + r .kept < 4294967296) × (l .loop .left + r .left < 4294967296)))
+counts-fit c =
+    let treated = cleared-in c in
+    let flooded = treated-in treated in
+    let found = flooded-in flooded in
+    let l = found-in found in
+    let f = next found in
+    let F = by-pass (start l .args .shape) (start l .args .pass) (flooded .flood .ensures .0) in
+    let one = at-most-one (known l) (reached found) (f .below) (f .has) F (done treated) in
+    let sums = size-le (known l) (reached found) in (
+      omega (arith, one .0, sums .0, f .below, start l .pre .lent .size .few),
+      (
+        omega (arith, one .1 .0, sums .1 .0, f .below, start l .pre .lent .size .few),
+        omega (arith, one .1 .1, sums .1 .1, f .below, start l .pre .lent .size .few),
+      ),
+    )
 
 pixels-requires : tie.Need-pixels-requires Inv-loop μ-loop
-pixels-requires c κs = omega (arith, c .before .before .before .pre .lent .size .few)
+pixels-requires c κs =
+    omega (arith, c .before .before .before .pre .lent .size .few)
 
 inverse-requires : tie.Need-inverse-requires Inv-loop μ-loop
-inverse-requires c κs = c .before .before .before .before .pre .lent .size .wide
+inverse-requires c κs =
+    c .before .before .before .before .pre .lent .size .wide
 
 first-due-requires : tie.Need-first-due-requires Inv-loop μ-loop
-first-due-requires c κs = search needs
+first-due-requires c κs =
+    search needs
 
 loop-holds : tie.Need-loop-holds Inv-loop μ-loop
 loop-holds c =
     let s = c .before .before .before .before .before .before in
     let n = c .before .before .pixels .ensures in
-    pass-start _ (treatable (s .pre)) _ _ (c .first-due .ensures ∙ ap (cond (s .args .due) 0) n) (s .pre .found)
+    let due = c .first-due .ensures ∙ ap (cond (s .args .due) 0) n in
+    (pass-start _ (treatable (s .pre)) _ _ due (s .pre .found), blank _ refl refl)
 
 next-pixel-requires : tie.Need-next-pixel-requires Inv-loop μ-loop
 next-pixel-requires c κs =
@@ -127,22 +210,25 @@ next-pixel-requires c κs =
     }
 
 enum-known-found : tie.Need-enum-known-found Inv-loop μ-loop
-enum-known-found c = search needs
+enum-known-found c =
+    search needs
 
 flood-requires : tie.Need-flood-requires Inv-loop μ-loop
 flood-requires c κs =
-    let found = c .before .before .before in
+    let found = c .before .before .before .before .before in
     let l = found-in found in
-    let s = start l in
-    record {
-      size = s .pre .lent .size;
-      inverse-is = l .before .before .inverse .ensures;
-      covered = covered l;
-      spare = omega (arith, s .pre .lent .spare, l .loop .inv .queue-rest .size);
-      real = s .pre .real;
-      inside = next found .below;
-      has = next found .has;
-    }
+    let s = start l in (
+      record {
+        size = s .pre .lent .size;
+        inverse-is = l .before .before .inverse .ensures;
+        covered = covered l;
+        spare = omega (arith, s .pre .lent .spare, l .loop .inv .0 .queue-rest .size);
+        real = s .pre .real;
+        inside = next found .below;
+        has = next found .has;
+      },
+      (omega (arith, s .pre .lent .whole, l .loop .inv .0 .size-is), l .loop .inv .1),
+    )
 
 treat-component-requires : tie.Need-treat-component-requires Inv-loop μ-loop
 treat-component-requires c κs =
@@ -150,56 +236,69 @@ treat-component-requires c κs =
     let found = flooded-in flooded in
     let l = found-in found in
     let f = next found in
-    let F = by-pass (start l .args .shape) (start l .args .pass) (flooded .flood .ensures) in (
-      component (known l) (reached found) (f .below) (f .has) F,
-      listed (known l) (reached found) (f .below) (f .has) F (covered l),
-    )
+    let F = by-pass (start l .args .shape) (start l .args .pass) (flooded .flood .ensures .0) in
+    (whole flooded, listed (known l) (reached found) (f .below) (f .has) F (covered l))
 
-add-count : tie.Need-add-count Inv-loop μ-loop
-add-count c =
+slice-aggregate-clear : tie.Need-slice-aggregate-clear Inv-loop μ-loop
+slice-aggregate-clear c =
     let treated = c .before .before .before .before .before in
-    let flooded = treated-in treated in
-    let found = flooded-in flooded in
-    let l = found-in found in
-    let f = next found in
-    let F = by-pass (start l .args .shape) (start l .args .pass) (flooded .flood .ensures) in
-    let R = treated .treat-component .ensures _ (alike (known l) (reached found) (f .below) (f .has) F) in
-    omega (
-      arith,
-      at-most-one (known l) (reached found) (f .below) (f .has) F R,
-      size-le (known l) (reached found),
-      f .below,
-      start l .pre .lent .size .few,
-    )
+    omega (arith, treated .treat-component .ensures .counts-rest .size, whole (treated-in treated) .tally .size)
+
+clear-requires : tie.Need-clear-requires Inv-loop μ-loop
+clear-requires c κs =
+    let treated = c .before .before .before .before .before in
+    let one = whole (treated-in treated) in
+    let range = gathered-range one in
+    let byte = tally-byte (gathered-some one) (one .measured) (one .tally) in
+    (range .order, omega (arith, treated .treat-component .ensures .counts-rest .size, one .tally .size))
+
+add-retoned : tie.Need-add-retoned Inv-loop μ-loop
+add-retoned c =
+    let cleared = c .before .before in
+    omega (arith, counts-fit cleared .0)
+
+add-kept : tie.Need-add-kept Inv-loop μ-loop
+add-kept c =
+    let cleared = c .before .before .before in
+    omega (arith, counts-fit cleared .1 .0)
+
+add-left : tie.Need-add-left Inv-loop μ-loop
+add-left c =
+    let cleared = c .before .before .before .before in
+    omega (arith, counts-fit cleared .1 .1)
 
 add-from : tie.Need-add-from Inv-loop μ-loop
 add-from c =
-    let found = flooded-in (treated-in (c .before .before .before .before .before .before .before)) in
+    let found = flooded-in (treated-in (cleared-in (c .before .before .before .before .before .before))) in
     omega (arith, next found .below, start (found-in found) .pre .lent .size .few)
 
 loop-less : tie.Need-loop-less Inv-loop μ-loop
 loop-less c =
-    let found = flooded-in (treated-in (c .before .before .before .before .before .before .before)) in
+    let found = flooded-in (treated-in (cleared-in (c .before .before .before .before .before .before))) in
     omega (arith, next found .past, next found .below, number (found-in found))
 
 loop-again : tie.Need-loop-again Inv-loop μ-loop
 loop-again c =
-    let treated = c .before .before .before .before .before .before .before in
+    let emptied = c .before .before .before .before .before .before in
+    let treated = cleared-in emptied in
     let flooded = treated-in treated in
     let found = flooded-in flooded in
     let l = found-in found in
     let f = next found in
-    let F = by-pass (start l .args .shape) (start l .args .pass) (flooded .flood .ensures) in
-    let R = treated .treat-component .ensures _ (alike (known l) (reached found) (f .below) (f .has) F) in
-    take-one (known l) (reached found) (f .below) (f .has) F R
+    let F = by-pass (start l .args .shape) (start l .args .pass) (flooded .flood .ensures .0) in
+    let one = whole flooded in (
+      take-one (known l) (reached found) (f .below) (f .has) F (done treated),
+      cleared (one .measured) (one .tally) (treated .treat-component .ensures .counts-rest) (emptied .clear .ensures),
+    )
 
 enum-told : tie.Need-enum-told Inv-loop μ-loop
-enum-told c = search needs
+enum-told c =
+    search needs
 
 loop-less-2 : tie.Need-loop-less-2 Inv-loop μ-loop
 loop-less-2 c =
     let l = searching (c .before .before) in
-    omega (arith, l .loop .inv .swept .order, c .before .before .before .before .loop-test .taken)
+    omega (arith, l .loop .inv .0 .swept .order, c .before .before .before .before .loop-test .taken)
 
 loop-again-2 : tie.Need-loop-again-2 Inv-loop μ-loop
 loop-again-2 c =
@@ -207,23 +306,26 @@ loop-again-2 c =
     let s = start l in
     let answer = NextPixel (l .loop .marks) (s .args .code) (l .loop .from) (pixels (s .args .shape)) in
     let f = subst (λ r. answer (foundReply r)) (c .enum-told .given .1) (c .before .before .next-pixel .ensures) in
-    let all = go-on (known l) (l .loop .inv) _ (l .loop .inv .swept .order) (omega arith) f in
-    rw (number l) all
+    let all = go-on (known l) (l .loop .inv .0) _ (l .loop .inv .0 .swept .order) (omega arith) f in
+    (rw (number l) all, l .loop .inv .1)
 
 same-length : tie.Need-same-length Inv-loop μ-loop
-same-length c = c .before .loop .inv .size-is
+same-length c =
+    c .before .loop .inv .0 .size-is
 
 same-length-2 : tie.Need-same-length-2 Inv-loop μ-loop
-same-length-2 c = c .before .loop .inv .marks-size
+same-length-2 c =
+    c .before .loop .inv .0 .marks-size
 
 same-length-3 : tie.Need-same-length-3 Inv-loop μ-loop
-same-length-3 c = c .before .loop .inv .queue-rest .size
+same-length-3 c =
+    c .before .loop .inv .0 .queue-rest .size
 
 returns : tie.Need-returns Inv-loop μ-loop
 returns c =
     let l = c .before in
-    let done : pixels (start l .args .shape) ≤ l .loop .from = omega (arith, c .loop-test .left, number l) in
-    pass-end (known l) (l .loop .inv) done _ refl refl refl
+    let end : pixels (start l .args .shape) ≤ l .loop .from = omega (arith, c .loop-test .left, number l) in
+    pass-end (known l) (l .loop .inv .0) end _ refl refl refl refl refl
 
 pub treat-section-spec : {M : Type 1} → statement M
 treat-section-spec =
@@ -239,7 +341,11 @@ treat-section-spec =
     enum-known-found
     flood-requires
     treat-component-requires
-    add-count
+    slice-aggregate-clear
+    clear-requires
+    add-retoned
+    add-kept
+    add-left
     add-from
     loop-less
     loop-again

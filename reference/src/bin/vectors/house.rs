@@ -19,6 +19,9 @@ const NEARLY: [(u8, u32, [u16; 2]); 7] = [
 
 pub fn cases() -> Vec<Case> {
     let mut cases = vec![house_grey(&[10, 20], 2), house_grey(&[40, 100, 255], 3), house_grey(&[7; 30], 6)];
+    // Of one value, with the least area and with one pixel less; and a ramp that is retoned and not split.
+    cases.extend([house_grey(&[100; 64], 8), house_grey(&[100; 20], 5), house_grey(&[100; 19], 19)]);
+    cases.push(house_grey(&[0, 25, 50, 75, 100, 125, 150, 175, 200, 225], 10));
     let mut random = Random::new(100);
     for (last_level, area, numbers) in NEARLY {
         cases.push(telling(&mut random, last_level, area, numbers));
@@ -44,7 +47,8 @@ pub fn cases() -> Vec<Case> {
     cases
 }
 
-/// A picture that the house setting enhances otherwise than these settings do: bands of a few values, from dark to light.
+/// A picture that the house setting enhances otherwise than these settings do: bands of a few values, from dark to
+/// light.
 fn telling(random: &mut Random, last_level: u8, area: u32, numbers: [u16; 2]) -> Case {
     for _ in 0..100_000 {
         let (base, step) = (random.below(150), random.between(1, 60));
@@ -52,10 +56,17 @@ fn telling(random: &mut Random, last_level: u8, area: u32, numbers: [u16; 2]) ->
         let mut greys: Vec<u8> = (0..144).map(|_| random.one_of(&values).min(random.one_of(&values))).collect();
         greys.sort_unstable();
         let house = house_grey(&greys, 12);
-        let other = answers(&encode(&enhance_grey(&greys, 12, last_level, area, 0, numbers)));
-        if !answers(&encode(&house)).starts_with(other.trim_end()) {
+        let other = enhance_grey(&greys, 12, last_level, area, 0, numbers);
+        if !retoned(&house).starts_with(&retoned(&other)) {
             return house;
         }
     }
     panic!("no picture tells the house setting from {last_level}, {area}, {numbers:?}");
+}
+
+/// The line that answers an enhancement, without the components kept back.
+fn retoned(case: &Case) -> String {
+    let line = answers(&encode(case));
+    let words = line.trim_end().split(' ').enumerate();
+    words.filter(|&(place, _)| place != 1).map(|(_, word)| format!("{word} ")).collect()
 }

@@ -2,7 +2,7 @@
 
 use crate::chance::{random_plane, random_rule, random_section, random_sides};
 use crate::faults::{faulty, faulty_records, memory_test, plane_test, size_tests, Test};
-use crate::sound::sound;
+use crate::sound::{sound, ISLANDS};
 use mlhe_reference::cases::{Case, Kind};
 use mlhe_reference::random::Random;
 use mlhe_reference::{level_by_level, list_bytes, Pass, Rule, Settings};
@@ -15,6 +15,21 @@ pub const STILL: Pass = Pass { a: 7, b: 7, area: 1, rule: Rule::Plain { low: 0, 
 
 /// Example E's plane.
 pub const PARTS: [u8; 5] = [10, 20, 200, 10, 10];
+
+/// Passes over [0, 127], [40, 60] and [200, 200] by each rule, and a pass that finds nothing.
+pub fn counted() -> Vec<Pass> {
+    let plain = |low, high| Rule::Plain { low, high };
+    let over = |a, b, area, rule| Pass { a, b, area, rule };
+    vec![
+        over(0, 127, 4, plain(0, 100)),
+        over(0, 127, 1, plain(80, 25_500)),
+        over(40, 60, 1, plain(0, 25_500)),
+        STILL,
+        over(200, 200, 2, plain(80, 300)),
+        over(200, 200, 2, Rule::Limited { k: 500 }),
+        over(0, 127, 3, Rule::Limited { k: 1_000 }),
+    ]
+}
 
 /// A random pass of a list that runs on this plane.
 fn random_record(random: &mut Random, plane: &[u8]) -> Pass {
@@ -63,7 +78,11 @@ fn written() -> Vec<Case> {
         list(2, 1, &level_by_level(&free), &[10, 20]),
         list(5, 1, &level_by_level(&Settings { last_level: 5, area: 2, ..free }), &PARTS),
         list(2, 2, &[STILL; 1_024], &[1, 2, 3, 4]),
+        list(2, 2, &[STILL; 1_024], &[7; 4]),
         list(2, 2, &[STILL; 1_025], &[1, 2, 3, 4]),
+        list(5, 4, &counted(), &ISLANDS),
+        list(8, 8, &level_by_level(&Settings::HOUSE), &[100; 64]),
+        list(8, 8, &level_by_level(&Settings { area: 65, ..Settings::HOUSE }), &[100; 64]),
         short(b""),
         short(b"MLP"),
         short(b"MLQ\x01\0\0\0"),

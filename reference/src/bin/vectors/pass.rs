@@ -2,7 +2,7 @@
 
 use crate::chance::random_pass;
 use crate::faults::{area_test, faulty, memory_test, plane_test, rule_tests, size_tests};
-use crate::sound::{pass_on, FREE};
+use crate::sound::{pass_on, FREE, ISLANDS};
 use mlhe_reference::cases::Case;
 use mlhe_reference::random::Random;
 
@@ -12,6 +12,7 @@ const ROW: [u8; 4] = [10, 10, 20, 30];
 pub fn cases() -> Vec<Case> {
     let mut random = Random::new(20);
     let mut cases = written();
+    cases.extend(counted());
     cases.extend((0..560).map(|_| random_pass(&mut random, 5, 3)));
     cases.extend((0..60).map(|_| random_pass(&mut random, 16, 16)));
     // Noise, which has many components in a section.
@@ -58,6 +59,26 @@ fn written() -> Vec<Case> {
     for area in 14..=16 {
         let plane: Vec<u8> = (0..15).map(|p| 10 * p).collect();
         cases.push(pass_on(&plane, 5, [0, 255], area, 0, FREE));
+    }
+    cases
+}
+
+/// Components of one value among others, of sufficient area and too small: kept back by the plain rule, retoned by the
+/// limited one.
+fn counted() -> Vec<Case> {
+    let mut cases = Vec::new();
+    for (rule, numbers) in [(0, FREE), (0, [80, 300]), (0, [0, 100]), (1, [300, 0])] {
+        for area in 1..=5 {
+            cases.push(pass_on(&ISLANDS, 5, [0, 127], area, rule, numbers));
+        }
+        for section in [[40, 60], [200, 200], [71, 199], [0, 255]] {
+            cases.push(pass_on(&ISLANDS, 5, section, 1, rule, numbers));
+        }
+        // Retoned, and as it was.
+        cases.push(pass_on(&[0, 1, 1], 3, [0, 1], 1, rule, numbers));
+        for area in 14..=16 {
+            cases.push(pass_on(&[7; 15], 5, [0, 255], area, rule, numbers));
+        }
     }
     cases
 }

@@ -1,8 +1,8 @@
 //! Cases of `run_passes`.
 
 use crate::faults::{faulty, faulty_records, memory_test, plane_test, size_tests, Test};
-use crate::list::{random_lists, EXAMPLE, PARTS, STILL};
-use crate::sound::sound;
+use crate::list::{counted, random_lists, EXAMPLE, PARTS, STILL};
+use crate::sound::{sound, ISLANDS};
 use mlhe_reference::cases::{Case, Kind};
 use mlhe_reference::random::Random;
 use mlhe_reference::{level_by_level, list_bytes, Pass, Settings};
@@ -20,7 +20,11 @@ pub fn cases() -> Vec<Case> {
         Case { marks: 4, ..passes(5, 1, &[], &PARTS) },
         passes(2, 1, &level_by_level(&free), &[10, 20]),
         passes(2, 2, &[STILL; 1_024], &[1, 2, 3, 4]),
+        passes(2, 2, &[STILL; 1_024], &[7; 4]),
         passes(2, 2, &[STILL; 1_025], &[1, 2, 3, 4]),
+        passes(5, 4, &counted(), &ISLANDS),
+        passes(8, 8, &level_by_level(&Settings::HOUSE), &[100; 64]),
+        passes(8, 8, &level_by_level(&Settings { area: 65, ..Settings::HOUSE }), &[100; 64]),
     ];
     let mut random = Random::new(70);
     for (w, h, plane, list) in random_lists(&mut random, 60) {

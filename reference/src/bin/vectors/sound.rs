@@ -6,6 +6,10 @@ use mlhe_reference::header;
 /// The plain rule that keeps back nothing but single values.
 pub const FREE: [u16; 2] = [0, 25_500];
 
+/// A plane of five columns whose section [0, 127] has four components: one of four values, and one, three and four
+/// pixels of one value each.
+pub const ISLANDS: [u8; 20] = [40, 40, 200, 10, 20, 40, 40, 200, 30, 20, 200, 200, 200, 200, 200, 60, 200, 70, 70, 70];
+
 /// A call on w by h pixels that is lent exactly what it needs.
 pub fn sound(kind: Kind, w: usize, h: usize, bytes: Vec<u8>, plane: Vec<u8>) -> Case {
     let n = w * h;
@@ -51,8 +55,8 @@ pub fn enhance_grey(greys: &[u8], w: usize, last_level: u8, area: u32, rule: u8,
     Case { last_level, area, rule, numbers, ..sound(Kind::Enhance, w, greys.len() / w, frame, plane) }
 }
 
-/// The same enhancement with the house setting. The settings of the head are not its own, and every one of them would be
-/// refused.
+/// The same enhancement with the house setting. The settings of the head are not its own, and every one of them would
+/// be refused.
 pub fn house_grey(greys: &[u8], w: usize) -> Case {
     Case { kind: Kind::House, ..enhance_grey(greys, w, 8, 0, 0, [81, 80]) }
 }

@@ -1,0 +1,132 @@
+//! The two counts: components of sufficient area that were retoned, and those that were kept back. Together they are
+//! all components of sufficient area, counted from the definition in the plane as each pass finds it.
+
+use mlhe_reference::random::Random;
+use mlhe_reference::{enhance, level_by_level, list_bytes, pass, run_list, run_passes, sufficient, sufficient_in_all};
+use mlhe_reference::{Counts, Pass, Rule, Settings};
+
+const FREE: Rule = Rule::Plain { low: 0, high: 25_500 };
+const HOUSE: Rule = Rule::Plain { low: 80, high: 300 };
+
+/// A plane of five columns whose section [0, 127] has four components: one of four values, and one, three and four
+/// pixels of one value each.
+const ISLANDS: [u8; 20] = [40, 40, 200, 10, 20, 40, 40, 200, 30, 20, 200, 200, 200, 200, 200, 60, 200, 70, 70, 70];
+
+/// The two counts of a pass on a plane of w columns, which together are all of sufficient area.
+fn of_pass(plane: &[u8], w: usize, one: &Pass) -> (u64, u64) {
+    let (n, h) = (plane.len(), plane.len() / w);
+    let Counts { retoned, kept } = pass(&mut plane.to_vec(), n, n, w, h, one).expect("accepted");
+    assert_eq!(retoned + kept, sufficient(plane, w, h, one), "{plane:?}, {w} columns, {one:?}");
+    (retoned, kept)
+}
+
+/// The two counts of an enhancement of a grey frame of w columns, which are those of its list of passes and together
+/// all of sufficient area.
+fn of_enhancement(greys: &[u8], w: usize, settings: &Settings) -> (u64, u64) {
+    let (n, h) = (greys.len(), greys.len() / w);
+    let frame: Vec<u8> = greys.iter().flat_map(|&v| [v; 3]).collect();
+    let counts = enhance(&frame, w, h, settings, &mut vec![0; n], n, n, &mut vec![0; 3 * n]).expect("accepted");
+    let passes = level_by_level(settings);
+    assert_eq!(run_passes(&passes, &mut greys.to_vec(), n, n, w, h), Ok(counts), "{greys:?}, {settings:?}");
+    assert_eq!(counts.together(), sufficient_in_all(&passes, greys, w, h), "{greys:?}, {settings:?}");
+    (counts.retoned, counts.kept)
+}
+
+#[test]
+fn a_component_of_one_value_among_others() {
+    let over = |a, b, area, rule| of_pass(&ISLANDS, 5, &Pass { a, b, area, rule });
+    assert_eq!([1, 2, 3, 4, 5].map(|area| over(0, 127, area, FREE)), [(1, 3), (1, 2), (1, 2), (1, 1), (0, 0)]);
+    assert_eq!([1, 2, 3, 4, 5].map(|area| over(0, 127, area, HOUSE)), [(0, 4), (0, 3), (0, 3), (0, 2), (0, 0)]);
+    assert_eq!(over(40, 60, 1, FREE), (0, 2));
+    assert_eq!(over(40, 60, 4, FREE), (0, 1));
+    assert_eq!(over(200, 200, 1, FREE), (0, 1));
+    assert_eq!(over(71, 199, 1, FREE), (0, 0));
+    assert_eq!(over(0, 255, 20, FREE), (1, 0));
+    assert_eq!(over(0, 255, 21, FREE), (0, 0));
+}
+
+#[test]
+fn the_limited_rule_keeps_nothing() {
+    for k in [0, 300, 1_000] {
+        let over = |area| of_pass(&ISLANDS, 5, &Pass { a: 0, b: 127, area, rule: Rule::Limited { k } });
+        assert_eq!([1, 2, 3, 4, 5].map(over), [(4, 0), (3, 0), (3, 0), (2, 0), (0, 0)]);
+    }
+}
+
+/// It had the rule, which has left every value as it was.
+#[test]
+fn what_comes_out_as_it_was_is_retoned() {
+    let one = Pass { a: 0, b: 1, area: 1, rule: HOUSE };
+    let mut plane = [0, 1, 1];
+    assert_eq!(pass(&mut plane, 3, 3, 3, 1, &one), Ok(Counts { retoned: 1, kept: 0 }));
+    assert_eq!(plane, [0, 1, 1]);
+}
+
+/// Kept once at each level that it is entered at: at level 0 in any case, at the others if it has the least area.
+#[test]
+fn a_plane_of_one_value() {
+    for value in [0, 7, 100, 127, 128, 255] {
+        for (last_level, levels) in (0..=7).zip(1..) {
+            let of = |area, rule| of_enhancement(&[value; 64], 8, &Settings { last_level, area, rule });
+            assert_eq!([1, 20, 64].map(|area| of(area, HOUSE)), [(0, levels); 3]);
+            assert_eq!([65, 1_048_576].map(|area| of(area, HOUSE)), [(0, 1); 2]);
+            assert_eq!([1, 20, 64].map(|area| of(area, Rule::Limited { k: 300 })), [(levels, 0); 3]);
+            assert_eq!([65, 1_048_576].map(|area| of(area, Rule::Limited { k: 300 })), [(1, 0); 2]);
+        }
+    }
+}
+
+/// Kept back at level 0, and its dark part retoned at level 1; the bright pixel is kept back from level 1 on.
+#[test]
+fn levels_below_one_that_keeps_back() {
+    let of = |last_level, area| of_enhancement(&[40, 100, 255], 3, &Settings { last_level, area, rule: HOUSE });
+    assert_eq!((of(0, 1), of(1, 1), of(1, 2)), ((0, 1), (1, 2), (1, 1)));
+}
+
+/// Each pass counts in the plane as it finds it.
+#[test]
+fn a_list_sums_both_counts() {
+    let plain = |low, high| Rule::Plain { low, high };
+    let passes = [
+        Pass { a: 0, b: 127, area: 4, rule: plain(0, 100) },
+        Pass { a: 0, b: 127, area: 1, rule: plain(80, 25_500) },
+        Pass { a: 40, b: 60, area: 1, rule: FREE },
+        Pass { a: 7, b: 7, area: 1, rule: FREE },
+        Pass { a: 200, b: 200, area: 2, rule: HOUSE },
+        Pass { a: 200, b: 200, area: 2, rule: Rule::Limited { k: 500 } },
+        Pass { a: 0, b: 127, area: 3, rule: Rule::Limited { k: 1_000 } },
+    ];
+    let mut plane = ISLANDS;
+    let mut found = Vec::new();
+    for one in &passes {
+        found.push(of_pass(&plane, 5, one));
+        pass(&mut plane, 20, 20, 5, 4, one).expect("accepted");
+    }
+    assert_eq!(found, [(0, 2), (1, 3), (0, 2), (0, 0), (0, 1), (1, 0), (3, 0)]);
+    let sums = Ok(Counts { retoned: 5, kept: 8 });
+    assert_eq!(run_passes(&passes, &mut ISLANDS.clone(), 20, 20, 5, 4), sums);
+    assert_eq!(run_list(&list_bytes(&passes), &mut ISLANDS.clone(), 20, 20, 5, 4), sums);
+    assert_eq!(run_list(&list_bytes(&[]), &mut ISLANDS.clone(), 20, 20, 5, 4), Ok(Counts::default()));
+}
+
+/// Planes of few values in blocks, with least areas about the size of a block or of the plane.
+#[test]
+fn planes_with_many_components_of_one_value() {
+    let mut random = Random::new(3);
+    let (mut retoned, mut kept) = (0, 0);
+    for _ in 0..400 {
+        let (w, h, block) = (random.between(1, 16), random.between(1, 16), random.between(1, 5));
+        let values: Vec<u8> = (0..random.between(1, 6)).map(|_| random.byte()).collect();
+        let places: Vec<u8> = (0..256).map(|_| random.one_of(&values)).collect();
+        let plane: Vec<u8> = (0..w * h).map(|p| places[p % w / block + p / w / block * 16]).collect();
+        let area = random.one_of(&[1, block * block, block * block + 1, w * h - 1, w * h, w * h + 1]).max(1) as u32;
+        let rule = random.one_of(&[FREE, HOUSE, Rule::Plain { low: 0, high: 100 }, Rule::Limited { k: 100 }]);
+        let a = random.one_of(&values);
+        of_pass(&plane, w, &Pass { a, b: a.saturating_add(random.one_of(&[0, 1, 60])), area, rule });
+        for last_level in 0..=7 {
+            let counts = of_enhancement(&plane, w, &Settings { last_level, area, rule });
+            (retoned, kept) = (retoned + counts.0, kept + counts.1);
+        }
+    }
+    assert!(retoned > 5_000 && kept > 20_000, "{retoned} and {kept}");
+}
