@@ -3,12 +3,11 @@
 -- the component have been spread from, it is one of theirs. Assumes nothing.
 use Prim.Native.Nat.{ℕ, _+_, _≤_, _<_, min, max}
 use mathlib.Core.Path.{_≡_, refl, sym, ap, _∙_}
-use mathlib.Core.List.{List, [], _∷_, _++_, map-append}
+use mathlib.Core.List.{List, [], _∷_}
 use native.Mathlib.Nat.{min-eq-right, max-eq-right, max-zero}
-use native.Mathlib.Numerals.{add-one}
 use native.Mathlib.Omega.{arith}
 use lib.ListN.{length, set}
-use lib.Seq.{take-suc, ext-getD}
+use lib.Seq.{ext-getD}
 use Rattle.planes.specs.Lists.{at}
 use Rattle.planes.specs.Neighbours.{Near}
 use Rattle.planes.specs.Enumerations.{Place}
@@ -17,7 +16,7 @@ use Rattle.histograms.specs.Histograms.{values, Alike, Measured, Tally}
 use Rattle.histograms.specs.declared.Measures.{Measures}
 use Rattle.histograms.proofs.Values.{In, in-at, least-le, greatest-ge}
 use Rattle.histograms.proofs.Components.{values-size, values-at, alike-of}
-use Rattle.histograms.proofs.Measured.{tally-blank, tally-more, greatest-more}
+use Rattle.histograms.proofs.Measured.{least-snoc, values-more, tally-blank, tally-more, greatest-more}
 use Rattle.histograms.proofs.Measured.{alike-turned, tally-alike, measured-alike}
 use Rattle.components.specs.Floods.{Flooded, regionValues, Gauged}
 use Rattle.components.proofs.Regions.{region-self}
@@ -40,10 +39,6 @@ gauging-none plane queue s t = record {
 
 -- ## One value more
 
-least-snoc : (x : ℕ) (xs : List ℕ) (y : ℕ) → least (x ∷ xs ++ (y ∷ [])) ≡ min (least (x ∷ xs)) y
-least-snoc x [] y = refl
-least-snoc x (z ∷ xs) y = ap (min x) (least-snoc z xs y) ∙ omega arith
-
 -- the first m values go by the first m entries
 values-same : (plane queue queue' : List ℕ) (m : ℕ) → m ≤ length queue → m ≤ length queue'
     → ((k : ℕ) → k < m → at queue' k ≡ at queue k) → values plane queue' m ≡ values plane queue m
@@ -60,13 +55,11 @@ module _ (plane queue : List ℕ) (i : ℕ) {s low high : ℕ} {counts : List �
   abbrev v : ℕ
   v = at plane (at queue i)
 
-  next : values plane queue (i + 1) ≡ values plane queue i ++ (v ∷ [])
-  next = rw (add-one, take-suc queue i 0 room, map-append)
-
   gauging-more : Gauging s (values plane queue (i + 1)) (set counts v (at counts v + 1)) (min low v) (max high v)
   gauging-more = record {
     tally = tally-more plane queue i (G .tally) room byte;
-    least-is = rw (next, G .least-is) (sym (least-snoc s (values plane queue i) v));
+    least-is = rw (values-more plane queue i room, G .least-is)
+        (sym (least-snoc (s ∷ values plane queue i) v (omega arith)));
     greatest-is = omega (arith, G .greatest-is, greatest-more plane queue i room);
   }
 

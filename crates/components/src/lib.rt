@@ -8,7 +8,7 @@
 //
 // A pixel is taken with the run of its row, and its value is seen when the flood spreads from it. Which pixels of other
 // rows are neighbours is known to `spread` alone.
-ghost use Prim.Native.Nat.{_≤_, _<_, min, max};
+ghost use Prim.Native.Nat.{_≤_, _<_};
 ghost use mathlib.Core.Path.{_≡_};
 ghost use mathlib.Core.List.{[]};
 ghost use lib.ListN.{length};
@@ -90,20 +90,6 @@ fn spread(
     rows::reach(marks, queue, w, inverse, code, below(p, w, n), next)
 }
 
-// The lesser of two values.
-fn lesser(x: u8, y: u8) -> u8
-    ensures { λ r. ⌜ r ≡ min x y ⌝ }
-{
-    if x < y { x } else { y }
-}
-
-// The greater of two values.
-fn greater(x: u8, y: u8) -> u8
-    ensures { λ r. ⌜ r ≡ max x y ⌝ }
-{
-    if x < y { y } else { x }
-}
-
 // Takes the component of the pixel `start` among those that have the code, breadth first. The number of its pixels, and
 // its least and greatest value. Its values are counted; the counts are 0 before.
 pub fn flood(
@@ -130,11 +116,11 @@ pub fn flood(
     while head < tail {
         let p = queue[head] as usize;
         head += 1;
+        tail = spread(marks, queue, shape, inverse, code, p, tail);
         let v = plane[p];
         counts[v as usize] += 1;
-        least = lesser(least, v);
-        greatest = greater(greatest, v);
-        tail = spread(marks, queue, shape, inverse, code, p, tail);
+        least = histograms::lesser(least, v);
+        greatest = histograms::greater(greatest, v);
     }
     Measures {
         size: tail,

@@ -13,7 +13,7 @@ use Rattle.planes.specs.Lists.{from, keep, at}
 use Rattle.planes.specs.Enumerations.{Enumerates}
 use Rattle.planes.proofs.Counts.{count-all}
 use Rattle.planes.proofs.Enumerations.{values-count}
-use Rattle.histograms.specs.Histograms.{values, Pixels, Component, Alike}
+use Rattle.histograms.specs.Histograms.{values, Component, Alike}
 
 -- ## Values of the queue's pixels
 
@@ -36,9 +36,6 @@ module _ (plane queue : List ℕ) (m : ℕ) (room : m ≤ length queue) where
 pub queue-size : (plane queue : List ℕ) {vs : List ℕ} {m : ℕ} → m ≤ length queue → Alike vs (values plane queue m)
     → length vs ≡ m
 queue-size plane queue {m = m} h A = A .size ∙ values-size plane queue m h
-
-pub component-pixels : {plane queue : List ℕ} {m a b : ℕ} → Component plane queue m a b → Pixels plane queue m
-component-pixels c = record { room = c .room; below = c .pixels }
 
 -- ## Enumerations
 

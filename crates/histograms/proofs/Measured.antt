@@ -20,12 +20,11 @@ use Rattle.planes.proofs.Tests.{eq-or-not, less-or-not}
 use Rattle.histograms.specs.Values.{greatest, least}
 use Rattle.histograms.specs.Histograms.{values, Alike, Measured, Tally, Outside, Inside, Refilled}
 use Rattle.histograms.specs.declared.Measures.{Measures}
-use Rattle.histograms.proofs.Components.{values-size}
 use Rattle.histograms.proofs.Values.{In, least-le, least-in, greatest-ge, greatest-in}
 
 -- ## One value more
 
-least-snoc : (vs : List ℕ) (x : ℕ) → 1 ≤ length vs → least (vs ++ (x ∷ [])) ≡ min (least vs) x
+pub least-snoc : (vs : List ℕ) (x : ℕ) → 1 ≤ length vs → least (vs ++ (x ∷ [])) ≡ min (least vs) x
 least-snoc [] x h = absurd (omega arith)
 least-snoc (y ∷ []) x h = refl
 least-snoc (y ∷ z ∷ zs) x h = omega (arith, least-snoc (z ∷ zs) x (omega arith))
@@ -87,7 +86,7 @@ tally-taken vs i t lt small = rw (take-more vs i lt) (tally-snoc (at vs i) t sma
 
 -- ## Values of a queue's pixels, one by one
 
-values-more : (plane queue : List ℕ) (i : ℕ) → i < length queue
+pub values-more : (plane queue : List ℕ) (i : ℕ) → i < length queue
     → values plane queue (i + 1) ≡ values plane queue i ++ (at plane (at queue i) ∷ [])
 values-more plane queue i lt = rw (take-more queue i lt, map-append)
 
@@ -108,20 +107,6 @@ tally-le plane queue i v t = omega (
   length-take i queue,
   min-le-left i (length queue),
 )
-
-pub least-first : (plane queue : List ℕ) → 1 ≤ length queue → least (values plane queue 1) ≡ at plane (at queue 0)
-least-first plane queue some = ap least (values-more plane queue 0 some)
-
-pub least-more : (plane queue : List ℕ) (i : ℕ) → 1 ≤ i → i < length queue
-    → least (values plane queue (i + 1)) ≡ min (least (values plane queue i)) (at plane (at queue i))
-least-more plane queue i some lt =
-    let vs = values plane queue i in
-    ap least (values-more plane queue i lt)
-    ∙ least-snoc vs (at plane (at queue i)) (omega (arith, values-size plane queue i (omega arith)))
-
-pub greatest-first : (plane queue : List ℕ) → 1 ≤ length queue
-    → greatest (values plane queue 1) ≡ at plane (at queue 0)
-greatest-first plane queue some = ap greatest (values-more plane queue 0 some) ∙ omega arith
 
 pub greatest-more : (plane queue : List ℕ) (i : ℕ) → i < length queue
     → greatest (values plane queue (i + 1)) ≡ max (greatest (values plane queue i)) (at plane (at queue i))

@@ -6,7 +6,8 @@
 // clear                                 counts of a component, zeroed
 // sum_up                                sums of counts, in place
 // scale                                 a part of b - a, rounded
-// lesser, greater, zero_range, nearest  within
+// lesser, greater                       of two values
+// zero_range, nearest                   within
 //
 // Counts are lent all 0, and cleared after use: those of the values of [least, greatest], for those of all others stay
 // 0. What clears takes a slice, for an array that is lent as a slice is known to have all its entries.
@@ -28,14 +29,14 @@ pub struct Measures {
 }
 
 // The lesser of two values.
-fn lesser(x: u8, y: u8) -> u8
+pub fn lesser(x: u8, y: u8) -> u8
     ensures { λ r. ⌜ r ≡ min x y ⌝ }
 {
     if x < y { x } else { y }
 }
 
 // The greater of two values.
-fn greater(x: u8, y: u8) -> u8
+pub fn greater(x: u8, y: u8) -> u8
     ensures { λ r. ⌜ r ≡ max x y ⌝ }
 {
     if x < y { y } else { x }

@@ -8,7 +8,7 @@
 --   output-number, output-refused-by, output-done-by, output-given, output-stays   the same with an output
 use Prim.Native.Nat.{ℕ}
 use mathlib.Core.Path.{_≡_, refl, sym, ap, subst, _∙_}
-use mathlib.Core.List.{List, [], _∷_}
+use mathlib.Core.List.{List}
 use native.Mathlib.Omega.{arith}
 use Rattle.planes.specs.Replies.{Reply, refuses, gives, after, overwritten}
 use Rattle.planes.proofs.Lists.{beyond-refl}

@@ -1,24 +1,20 @@
 -- The refusals of passes in memory. Assumes nothing.
-use Prim.Native.Nat.{ℕ, zero, suc, _+_, _≤_, _<_, zero-le}
+use Prim.Native.Nat.{ℕ, zero, suc, _≤_, _<_}
 use mathlib.Core.Path.{_≡_, refl, sym, ap, subst, _∙_}
 use mathlib.Core.List.{List, [], _∷_, map}
-use native.Mathlib.Numerals.{add-one}
 use native.Mathlib.Omega.{arith}
-use lib.ListN.{length, getD, drop, drop-of-length-le, length-map}
-use lib.Seq.{drop-cons}
+use lib.ListN.{length, getD, length-map}
 use lib.Dec.{ltb}
 use borrow.Author.Tests.{ltb-false}
 use Rattle.planes.specs.Lists.{at}
 use Rattle.planes.specs.Refusals.{when, _▷_}
-use Rattle.planes.proofs.Refusals.{when-none, ▷-none, ▷-left, ▷-right}
+use Rattle.planes.proofs.Refusals.{when-none, ▷-none}
 use Rattle.tones.specs.declared.Rule.the-variants.{Limited}
 use Rattle.model.specs.declared.Pass.{Pass}
 use Rattle.model.specs.Calls.{numbersRefusal}
 use Rattle.listformat.specs.Format.{greatestCount}
 use Rattle.listformat.specs.Refusals.{firstRefusal, passesRefusal}
 use Rattle.listformat.proofs.First.{clear-each}
-
--- ## The refusals of passes in memory
 
 -- what stands past the end of a list of passes
 abbrev pub noPass : Pass

@@ -54,9 +54,13 @@ flooding l =
 abbrev value : tie.At-loop Inv-loop μ-loop → ℕ
 value l = at (entry l .args .plane .now) (at (l .loop .queue) (l .loop .head))
 
-byte : (v : tie.After-shared-slice-known3 Inv-loop μ-loop) → value (v .before .before .before) < 256
+-- where it is read: the test of the turn
+abbrev turned : tie.After-shared-slice-known3 Inv-loop μ-loop → tie.In-loop Inv-loop μ-loop
+turned v = v .before .before .before .before .before .before .before .before .before
+
+byte : (v : tie.After-shared-slice-known3 Inv-loop μ-loop) → value (turned v .before) < 256
 byte v =
-    let l = v .before .before .before in
+    let l = turned v .before in
     omega (arith, v .shared-slice-known3 .given (at (l .loop .queue) (l .loop .head)))
 
 reach-requires : tie.Need-reach-requires Inv-loop μ-loop
@@ -84,10 +88,25 @@ cast-p c = omega (arith, c .slice-known5 .given (c .before .before .loop .head))
 add-head : tie.Need-add-head Inv-loop μ-loop
 add-head c = omega (arith, flooding (c .before .before) .room .spare, c .before .loop-test .taken)
 
+spread-requires : tie.Need-spread-requires Inv-loop μ-loop
+spread-requires c κs =
+    let i = c .before .before .before in
+    let F = entry (i .before) .pre .0 in
+    let f = flooding (i .before) in
+    record {
+      size = F .size;
+      inverse-is = F .inverse-is;
+      inside = f .searched .below _ (i .loop-test .taken);
+      off = head-off f (i .loop-test .taken);
+      shut = f .rows _ (i .loop-test .taken);
+      room = f .room;
+    }
+
 shared-slice-read-v : tie.Need-shared-slice-read-v Inv-loop μ-loop
 shared-slice-read-v c =
-    let l = c .before .before .before in
-    omega (arith, flooding l .searched .below _ (c .before .before .loop-test .taken), entry l .pre .1 .0)
+    let i = turned c in
+    let l = i .before in
+    omega (arith, flooding l .searched .below _ (i .loop-test .taken), entry l .pre .1 .0)
 
 cast-counts : tie.Need-cast-counts Inv-loop μ-loop
 cast-counts c = omega (arith, byte c)
@@ -100,13 +119,14 @@ element-copy-out-counts c = byte c
 
 add-counts : tie.Need-add-counts Inv-loop μ-loop
 add-counts c =
-    let l = c .before .before .before .before in
+    let i = turned (c .before) in
+    let l = i .before in
     let f = flooding l in
     let G = l .loop .inv .1 .1 .0 in
     omega (
       arith,
       tally-le (entry l .args .plane .now) (l .loop .queue) (l .loop .head) (value l) (G .tally),
-      c .before .before .before .loop-test .taken,
+      i .loop-test .taken,
       few-entries f,
       f .room .few,
     )
@@ -120,31 +140,16 @@ lesser-requires c κs = search needs
 greater-requires : tie.Need-greater-requires Inv-loop μ-loop
 greater-requires c κs = search needs
 
-spread-requires : tie.Need-spread-requires Inv-loop μ-loop
-spread-requires c κs =
-    let i = c .before .before .before .before .before .before .before in
-    let F = entry (i .before) .pre .0 in
-    let f = flooding (i .before) in
-    record {
-      size = F .size;
-      inverse-is = F .inverse-is;
-      inside = f .searched .below _ (i .loop-test .taken);
-      off = head-off f (i .loop-test .taken);
-      shut = f .rows _ (i .loop-test .taken);
-      room = f .room;
-    }
-
 loop-less : tie.Need-loop-less Inv-loop μ-loop
 loop-less c =
-    let i = c .before .before .before .before .before .before .before .before .before .before .before .before in
+    let i = turned (c .before .before .before) in
     omega (arith, flooding (i .before) .room .spare, i .loop-test .taken)
 
 loop-again : tie.Need-loop-again Inv-loop μ-loop
 loop-again c =
-    let k = c .before .before .before .before in
-    let g = k .before .before .before in
-    let v = g .before .before .before in
-    let i = v .before .before in
+    let v = c .before .before .before in
+    let k = v .before .before .before .before .before in
+    let i = turned v in
     let l = i .before in
     let room = flooding l .room .spare in
     let kept = taken-kept (k .spread .ensures .taken) .1 in
@@ -155,7 +160,7 @@ loop-again c =
       (
         omega arith,
         (
-          rw (g .before .lesser .ensures, g .greater .ensures) gauging,
+          rw (c .before .lesser .ensures, c .greater .ensures) gauging,
           λ m q f. turn (l .loop .inv .1 .1 .1 m q f) (i .loop-test .taken) (k .spread .ensures),
         ),
       ),
@@ -188,6 +193,7 @@ flood-spec =
     slice-read-p
     cast-p
     add-head
+    spread-requires
     shared-slice-read-v
     cast-counts
     mul-counts
@@ -196,7 +202,6 @@ flood-spec =
     element-write-counts
     lesser-requires
     greater-requires
-    spread-requires
     loop-less
     loop-again
     same-length

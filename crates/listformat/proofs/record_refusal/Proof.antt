@@ -1,10 +1,8 @@
 -- `listformat::record_refusal` meets its contract: the refusal of the record's form, then those of its pass. Assumes
 -- nothing.
-use Prim.Native.Nat.{ℕ}
 use mathlib.Core.Path.{sym, ap, _∙_}
 use borrow.Author.Needs.{needs}
 use Rattle.planes.proofs.Refusals.{▷-left, ▷-right}
-use Rattle.model.specs.declared.Pass.{Pass}
 use Rattle.model.specs.Calls.{numbersRefusal}
 use Rattle.listformat.specs.declared.Record.{Record}
 use Rattle.listformat.specs.Refusals.{recordRefusal}

@@ -1,11 +1,10 @@
 -- `sections::treat_plane` meets its contract: the plane is one component, and once it is treated all is done. Assumes
 -- nothing.
 use Prim.Native.Nat.{_*_, _≤_}
-use mathlib.Core.Path.{_≡_, refl, sym, ap, subst, _∙_}
+use mathlib.Core.Path.{_≡_, refl, sym, ap, _∙_}
 use native.Mathlib.Nat.{mul-le-mul}
 use native.Mathlib.Omega.{arith}
 use borrow.Author.Needs.{needs}
-use lib.ListN.{length}
 use Rattle.planes.specs.Shapes.{pixels}
 use Rattle.histograms.specs.Histograms.{values}
 use Rattle.histograms.proofs.Measured.{blank}
