@@ -74,6 +74,8 @@ fn a_plane_of_one_value() {
             assert_eq!([65, 1_048_576].map(|area| of(area, Rule::Limited { k: 300 })), [(1, 0); 2]);
         }
     }
+    let of_two = |area| of_enhancement(&[7, 7], 2, &Settings { last_level: 1, area, rule: HOUSE });
+    assert_eq!([2, 3].map(of_two), [(0, 2), (0, 1)]);
 }
 
 /// Kept back at level 0, and its dark part retoned at level 1; the bright pixel is kept back from level 1 on.

@@ -131,9 +131,9 @@ pub fn flood(
 
 // Takes all pixels of the plane in reading order, whatever their marks are: the marks become 0, and entry k of the
 // queue is k. Their number. Where they all had one code, this is the flood of their one component.
-pub fn take_plane(marks: &mut [u8], queue: &mut [u32], shape: Shape) -> usize
+pub fn take_plane(marks: &mut [u8], queue: &mut [u32], shape: Shape)
     requires { ⌜ Takeable (now marks) (now queue) shape ⌝ }
-    ensures { λ r. ⌜ (r ≡ pixels shape) × PlaneTaken (pixels shape) (now (marks .entry)) (now (queue .entry))
+    ensures { λ r. ⌜ PlaneTaken (pixels shape) (now (marks .entry)) (now (queue .entry))
         (now (marks .exit)) (now (queue .exit)) ⌝ }
 {
     let n = shape.pixels();
@@ -141,5 +141,4 @@ pub fn take_plane(marks: &mut [u8], queue: &mut [u32], shape: Shape) -> usize
         marks[k] = 0;
         queue[k] = k as u32;
     }
-    n
 }

@@ -3,7 +3,7 @@
 -- finds it. For any neighbour relation. Assumes nothing.
 --
 --   pass-sufficient, run-sufficient, chain-sufficient, enhanced-sufficient   the sums
---   run-few                                                                  no count is above the pixels of all passes
+--   run-few                    both counts of a run are together at most the plane's pixels for each pass
 use Prim.Native.Nat.{ℕ, zero, suc, _+_, _*_, _≤_}
 use mathlib.Core.Path.{_≡_, refl, sym, ap, _∙_}
 use mathlib.Core.Bool.{Bool, true, false, cond, not, _&&_}

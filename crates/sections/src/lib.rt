@@ -20,6 +20,7 @@ ghost use Rattle.model.specs.Neighbourhoods.{passNeighbours};
 ghost use Rattle.painting.specs.Painting.{Listed};
 ghost use Rattle.sections.specs.Sections.{inert, oneIf, aloneBy, DoneBy, Section, Treats};
 use components::Found;
+use components::flood;
 use histograms::Measures;
 use model::Pass;
 use painting::Next;
@@ -124,7 +125,7 @@ fn retone(
 }
 
 // Treats the component of the queue's first pixels, whose values are counted: its rule, and its next marks.
-fn treat_component(
+fn treat_found(
     plane: &mut [u8],
     marks: &mut [u8],
     queue: &[u32],
@@ -182,26 +183,8 @@ pub fn treat_section(
         let found = components::next_pixel(marks, shape, inverse, code, from);
         match found {
             Found::At(p) => {
-                let c = components::flood(
-                    plane,
-                    marks,
-                    queue,
-                    &mut counts,
-                    shape,
-                    inverse,
-                    code,
-                    p,
-                );
-                let t = treat_component(
-                    plane,
-                    marks,
-                    queue,
-                    c,
-                    pass,
-                    next,
-                    &mut counts,
-                    &mut table,
-                );
+                let c = flood(plane, marks, queue, &mut counts, shape, inverse, code, p);
+                let t = treat_found(plane, marks, queue, c, pass, next, &mut counts, &mut table);
                 histograms::clear(&mut counts, c);
                 retoned += t.retoned;
                 kept += t.kept;
@@ -240,7 +223,7 @@ pub fn treat_plane(
         (now (plane .entry)) (now (marks .entry)) (now (queue .entry))
         (now (plane .exit)) (now (marks .exit)) (now (queue .exit)) r ⌝ }
 {
-    let _ = components::take_plane(marks, queue, shape);
+    components::take_plane(marks, queue, shape);
     let c = histograms::measure(plane);
     if is_inert(c, pass) {
         return left_alone(c, pass);

@@ -59,7 +59,7 @@ returns : tie.Need-returns Inv-loop μ-loop
 returns c =
     let s = c .before .before .before .before .before in
     let all : c .before .loop .k ≡ pixels (s .args .shape) = omega arith in
-    (c .before .before .pixels .ensures, rw all at (c .before .loop .inv .1))
+    rw all at (c .before .loop .inv .1)
 
 pub take-plane-spec : {M : Type 1} → statement M
 take-plane-spec =

@@ -45,7 +45,7 @@ flooded : (c : tie.After-measure) → (
     (taken .take-plane .last .0) (taken .take-plane .last .1 .0) (c .measure .result .size))
 flooded c =
     let s = start (taken-in c) in
-    let all = taken-in c .take-plane .ensures .1 in
+    let all = taken-in c .take-plane .ensures in
     by-pass (s .args .shape) (s .args .pass)
     (plane-flooded (s .args .shape) 1 (s .pre .0 .lent .size .wide) all (s .pre .0 .lent .spare) (s .pre .1) (size c))
 
@@ -57,7 +57,7 @@ values-are c =
     let taken = taken-in c in
     let lent = start taken .pre .0 .lent in
     ap (values (start taken .args .plane .now) (taken .take-plane .last .1 .0)) (size c)
-    ∙ values-plane (taken .take-plane .ensures .1) (lent .spare) (lent .whole)
+    ∙ values-plane (taken .take-plane .ensures) (lent .spare) (lent .whole)
 
 -- the test is that of the plane
 told : (c : tie.After-is-inert) → c .is-inert .result ≡ inert (entry c .args .pass) (entry c .args .plane .now)

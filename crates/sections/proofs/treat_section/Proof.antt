@@ -70,7 +70,7 @@ abbrev flooded-in : Flooded-one → Found-one
 flooded-in c = c .before .before .before .before .before .before
 
 abbrev Treated-one : Type 0
-Treated-one = tie.After-treat-component Inv-loop μ-loop
+Treated-one = tie.After-treat-found Inv-loop μ-loop
 
 abbrev treated-in : Treated-one → Flooded-one
 treated-in c = c .before .before .before .before .before .before .before .before .before .before
@@ -148,20 +148,20 @@ done : (c : Treated-one) → (
     Done (s .pass) (s .next) (componentValues (passNeighbours (s .shape) (s .pass)) (s .pass) (s .plane .now)
     (flooded-in flooded .found .given .0 .0))
     (l .loop .plane) (flooded .flood .last .1 .0) (flooded .flood .last .1 .1 .0)
-    (c .treat-component .last .0) (c .treat-component .last .1 .0) (flooded .flood .result .size)
-    (c .treat-component .result))
+    (c .treat-found .last .0) (c .treat-found .last .1 .0) (flooded .flood .result .size)
+    (c .treat-found .result))
 done c =
     let flooded = treated-in c in
     let found = flooded-in flooded in
     let l = found-in found in
     let f = next found in
     let F = by-pass (start l .args .shape) (start l .args .pass) (flooded .flood .ensures .0) in
-    c .treat-component .ensures .done _ (alike (known l) (reached found) (f .below) (f .has) F)
+    c .treat-found .ensures .done _ (alike (known l) (reached found) (f .below) (f .has) F)
 
 -- no count is above the pixels that were passed
 counts-fit : (c : Cleared-one) → (
     let l = found-in (flooded-in (treated-in (cleared-in c))) in
-    let r = cleared-in c .treat-component .result in
+    let r = cleared-in c .treat-found .result in
     (l .loop .retoned + r .retoned < 4294967296)
     × ((l .loop .kept + r .kept < 4294967296) × (l .loop .left + r .left < 4294967296)))
 counts-fit c =
@@ -230,8 +230,8 @@ flood-requires c κs =
       (omega (arith, s .pre .lent .whole, l .loop .inv .0 .size-is), l .loop .inv .1),
     )
 
-treat-component-requires : tie.Need-treat-component-requires Inv-loop μ-loop
-treat-component-requires c κs =
+treat-found-requires : tie.Need-treat-found-requires Inv-loop μ-loop
+treat-found-requires c κs =
     let flooded = c .before .before .before .before .before .before .before .before .before in
     let found = flooded-in flooded in
     let l = found-in found in
@@ -242,7 +242,7 @@ treat-component-requires c κs =
 slice-aggregate-clear : tie.Need-slice-aggregate-clear Inv-loop μ-loop
 slice-aggregate-clear c =
     let treated = c .before .before .before .before .before in
-    omega (arith, treated .treat-component .ensures .counts-rest .size, whole (treated-in treated) .tally .size)
+    omega (arith, treated .treat-found .ensures .counts-rest .size, whole (treated-in treated) .tally .size)
 
 clear-requires : tie.Need-clear-requires Inv-loop μ-loop
 clear-requires c κs =
@@ -250,7 +250,7 @@ clear-requires c κs =
     let one = whole (treated-in treated) in
     let range = gathered-range one in
     let byte = tally-byte (gathered-some one) (one .measured) (one .tally) in
-    (range .order, omega (arith, treated .treat-component .ensures .counts-rest .size, one .tally .size))
+    (range .order, omega (arith, treated .treat-found .ensures .counts-rest .size, one .tally .size))
 
 add-retoned : tie.Need-add-retoned Inv-loop μ-loop
 add-retoned c =
@@ -288,7 +288,7 @@ loop-again c =
     let F = by-pass (start l .args .shape) (start l .args .pass) (flooded .flood .ensures .0) in
     let one = whole flooded in (
       take-one (known l) (reached found) (f .below) (f .has) F (done treated),
-      cleared (one .measured) (one .tally) (treated .treat-component .ensures .counts-rest) (emptied .clear .ensures),
+      cleared (one .measured) (one .tally) (treated .treat-found .ensures .counts-rest) (emptied .clear .ensures),
     )
 
 enum-told : tie.Need-enum-told Inv-loop μ-loop
@@ -340,7 +340,7 @@ treat-section-spec =
     next-pixel-requires
     enum-known-found
     flood-requires
-    treat-component-requires
+    treat-found-requires
     slice-aggregate-clear
     clear-requires
     add-retoned

@@ -1,4 +1,4 @@
--- `sections::treat_component` meets its contract: a component that is too small or lone is left alone, another gets its
+-- `sections::treat_found` meets its contract: a component that is too small or lone is left alone, another gets its
 -- tones and its next marks. Assumes nothing.
 use mathlib.Core.Path.{_≡_, sym, _∙_}
 use borrow.Author.Needs.{needs}
@@ -6,8 +6,8 @@ use Rattle.histograms.specs.Histograms.{values}
 use Rattle.histograms.proofs.Stores.{outside-none}
 use Rattle.sections.specs.Sections.{inert}
 use Rattle.sections.proofs.Steps.{left-alone, gathered-some, gathered-size}
-use Rattle.sections.proofs.treat_component.Statement.{statement}
-use Rattle.sections.proofs.treat_component.Tie as tie
+use Rattle.sections.proofs.treat_found.Statement.{statement}
+use Rattle.sections.proofs.treat_found.Tie as tie
 
 -- the entry, from where it is known whether the component is inert
 abbrev start : tie.After-is-inert → tie.Start
@@ -52,8 +52,8 @@ same-length-2 c = search needs
 returns-2 : tie.Need-returns-2
 returns-2 c = search needs
 
-pub treat-component-spec : {M : Type 1} → statement M
-treat-component-spec =
+pub treat-found-spec : {M : Type 1} → statement M
+treat-found-spec =
     tie.close
     (tie.spec
     is-inert-requires
