@@ -47,7 +47,8 @@ still-ready R e f g = record {
   area = R .area;
 }
 
-pub rest-of : {near : Near} {n code : ℕ} {r : Treatment} {s : Pass} {u : Next} {plane marks queue plane' marks' queue' : List ℕ}
+pub rest-of : {near : Near} {n code : ℕ} {r : Treatment} {s : Pass} {u : Next}
+    {plane marks queue plane' marks' queue' : List ℕ}
     → Treated near n code s u plane marks queue plane' marks' queue' r → Rest n marks queue marks' queue'
 rest-of T = record { marks-rest = T .marks-rest; queue-rest = T .queue-rest }
 

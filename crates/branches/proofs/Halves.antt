@@ -56,7 +56,8 @@ MarksAre n code span marks = (p : ℕ) → p < n → (at marks p ≡ code) ⊎ A
 
 -- ## A treated section
 
-module _ {near : Near} {n code : ℕ} {r : Treatment} {s : Pass} {u : Next} {plane marks queue plane' marks' queue' : List ℕ}
+module _ {near : Near} {n code : ℕ} {r : Treatment} {s : Pass} {u : Next}
+    {plane marks queue plane' marks' queue' : List ℕ}
     (ab : s .a ≤ s .b) (whole : length plane ≡ n)
     (T : Treated near n code s u plane marks queue plane' marks' queue' r) where
   -- with no halves: the section is done

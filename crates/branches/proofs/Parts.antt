@@ -64,7 +64,8 @@ pub record Picks (n : ℕ) (marks : List ℕ) (u : Next) (s t : Pass) (x : ℕ) 
 
 -- ## A treated section
 
-module _ {near : Near} {n code : ℕ} {r : Treatment} {s : Pass} {u : Next} {plane marks queue plane' marks' queue' : List ℕ}
+module _ {near : Near} {n code : ℕ} {r : Treatment} {s : Pass} {u : Next}
+    {plane marks queue plane' marks' queue' : List ℕ}
     (ab : s .a ≤ s .b) (whole : length plane ≡ n)
     (T : Treated near n code s u plane marks queue plane' marks' queue' r) where
   new-at : (p : ℕ) → p < n → at plane' p ≡ newTone near s plane p

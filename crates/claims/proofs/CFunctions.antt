@@ -256,8 +256,8 @@ c-functions = record {
   of-recolour = λ w h {frame} {plane} {output} {output'} r O.
       stands-status (λ y. RecolourOutcome w h frame plane output y output')
       (recolourRefusal w h (length frame) (length plane) (length output)) r (O .answer) O;
-  of-pass = λ w h a b area rule first second {plane} {marks} {queue} {plane'} {marks'} {queue'} numbers {numbers'} r fine
-      room O.
+  of-pass = λ w h a b area rule first second {plane} {marks} {queue} {plane'} {marks'} {queue'} numbers {numbers'} r
+      fine room O.
       let z = shapeOf w h in
       let s = passOf a b area rule first second in
       let is = pass-ruled z (numbersFor rule first second) s plane marks queue numbers fine ∙ enough _ numbers room in

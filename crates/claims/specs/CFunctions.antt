@@ -101,8 +101,8 @@ pub record CFunctions : Type 0 where
       → EnhanceNumber w h last area rule first second frame plane marks queue output numbers r
       plane' marks' queue' output' numbers'
       → (numberReply r
-      ≡ refuses (enhanceCallRefusal (shapeOf w h) (settingsOf last area rule first second) frame plane marks queue output
-      ▷ 14))
+      ≡ refuses (enhanceCallRefusal (shapeOf w h) (settingsOf last area rule first second) frame plane marks queue
+      output ▷ 14))
       × (((plane' ≡ plane) × ((marks' ≡ marks) × ((queue' ≡ queue) × (output' ≡ output)))) × (numbers' ≡ numbers))
   pub of-write : (w h : ℕ) {raster output output' : List ℕ} (r : ℤ)
       → WriteOutcome raster w h output (numberReply r) output'

@@ -16,11 +16,11 @@
 --   intensity          the plane of a frame's intensities, Algorithm 1 (colours/specs/Frames)
 --   recolour           the frame recoloured from a plane, Algorithm 6 (colours/specs/Frames)
 --   Grey               every pixel's three channels are one (colours/specs/Frames)
---   Effect             what a pass, or a run of passes, comes to: its plane and both counts, of retoned components and of
---                      those of sufficient area that were kept back (model/specs/Effects)
+--   Effect             what a pass, or a run of passes, comes to: its plane and both counts, of retoned components and
+--                      of those of sufficient area that were kept back (model/specs/Effects)
 --   passSufficient     how many components of sufficient area a pass finds (model/specs/Passes)
---   runSufficient, chainSufficient, sufficientOf   the sum of these over the passes of a list, over the calls of a chain
---                      that are not refused, over the passes of an enhancement, in the plane as each finds it
+--   runSufficient, chainSufficient, sufficientOf   the sum of these over the passes of a list, over the calls of a
+--                      chain that are not refused, over the passes of an enhancement, in the plane as each finds it
 --   chain              the model of a chain of calls: its plane and its replies (model/specs/Calls)
 --   chainOf            the chain of passes that an enhancement stands for (enhance/specs/Calls)
 --   publishedOf        Algorithms 2 to 5 on a frame's intensity, by components (enhance/specs/Published)
@@ -164,7 +164,8 @@ pub record Demand2 : Type 0 where
   pub of-enhance : (z : Shape) (t : Settings) (frame : List ℕ)
       {plane marks queue output values plane' marks' queue' output' : List ℕ}
       → EnhanceOutcome z t frame plane marks queue output (gives values) plane' marks' queue' output'
-      → Had (pixels z) (chainEffect (chainOf z t frame)) (sufficientOf z t frame) marks queue values plane' marks' queue'
+      → Had (pixels z) (chainEffect (chainOf z t frame)) (sufficientOf z t frame)
+      marks queue values plane' marks' queue'
       × ((output' ≡ overwritten output (recolour frame (chainOf z t frame .plane)))
       × (AllAccepted (chainOf z t frame .answers)
       × (Bytes frame → chainEffect (chainOf z t frame) ≡ publishedOf z t frame)))

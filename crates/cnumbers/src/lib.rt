@@ -1,5 +1,5 @@
-// Numbers for callers in C: answers as one signed number, what is told besides in lent numbers, and the refusals that come
-// before a rule is made of its numbers.
+// Numbers for callers in C: answers as one signed number, what is told besides in lent numbers, and the refusals that
+// come before a rule is made of its numbers.
 //
 // refused                          a refusal k as -k
 // status_number, written_number    the answers of intensity and recolouring, and of writing

@@ -4,7 +4,8 @@
 // next_pixel   the first pixel from one on, in reading order, that has the code
 // flood        takes the component of a pixel: its marks become 0, and its pixels are the first entries of the queue;
 //              tells its size, its least and its greatest value, and counts its values
-// take_plane   takes all pixels of a plane; where they have one code, they are one component: nothing is searched
+// take_plane   takes all pixels of a plane, and tells the same of them, but counts nothing; where they have one code,
+//              they are one component: nothing is searched
 //
 // A pixel is taken with the run of its row, and its value is seen when the flood spreads from it. Which pixels of other
 // rows are neighbours is known to `spread` alone.
@@ -12,11 +13,11 @@ ghost use Prim.Native.Nat.{_≤_, _<_};
 ghost use mathlib.Core.Path.{_≡_};
 ghost use mathlib.Core.List.{[]};
 ghost use lib.ListN.{length};
-ghost use Rattle.planes.specs.Shapes.{pixels, neighbours};
-ghost use Rattle.histograms.specs.Histograms.{Tally};
+ghost use Rattle.planes.specs.Shapes.{pixels, neighbours, Lent};
+ghost use Rattle.histograms.specs.Histograms.{Measured, Tally};
 ghost use Rattle.components.specs.Search.{Searchable, foundReply, NextPixel};
 ghost use Rattle.components.specs.Floods.{Above, Below, Spreadable, Spread, Floodable, Flooded, Gauged};
-ghost use Rattle.components.specs.Whole.{Takeable, PlaneTaken};
+ghost use Rattle.components.specs.Whole.{PlaneTaken};
 use histograms::Measures;
 use planes::Shape;
 
@@ -130,15 +131,17 @@ pub fn flood(
 }
 
 // Takes all pixels of the plane in reading order, whatever their marks are: the marks become 0, and entry k of the
-// queue is k. Their number. Where they all had one code, this is the flood of their one component.
-pub fn take_plane(marks: &mut [u8], queue: &mut [u32], shape: Shape)
-    requires { ⌜ Takeable (now marks) (now queue) shape ⌝ }
+// queue is k. Tells their number, their least and their greatest value. Where they all had one code, this is the flood
+// of their one component, but for the counts.
+pub fn take_plane(plane: &[u8], marks: &mut [u8], queue: &mut [u32], shape: Shape) -> Measures
+    requires { ⌜ Lent shape (length (now plane)) (length (now marks)) (length (now queue)) ⌝ }
     ensures { λ r. ⌜ PlaneTaken (pixels shape) (now (marks .entry)) (now (queue .entry))
-        (now (marks .exit)) (now (queue .exit)) ⌝ }
+        (now (marks .exit)) (now (queue .exit)) × Measured (now (plane .entry)) r ⌝ }
 {
     let n = shape.pixels();
     for k in 0..n {
         marks[k] = 0;
         queue[k] = k as u32;
     }
+    histograms::measure(plane)
 }

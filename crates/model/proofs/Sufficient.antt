@@ -1,6 +1,6 @@
--- Components of sufficient area are retoned or kept back: the two counts of a pass add up to their number, and so do the
--- sums of a run of passes, of a chain of calls, refused ones included, and of an enhancement, in the plane as each pass
--- finds it. For any neighbour relation. Assumes nothing.
+-- Components of sufficient area are retoned or kept back: the two counts of a pass add up to their number, and so do
+-- the sums of a run of passes, of a chain of calls, refused ones included, and of an enhancement, in the plane as each
+-- pass finds it. For any neighbour relation. Assumes nothing.
 --
 --   pass-sufficient, run-sufficient, chain-sufficient, enhanced-sufficient   the sums
 --   run-few                    both counts of a run are together at most the plane's pixels for each pass

@@ -105,7 +105,8 @@ chainEffect s = record {
   kept = total keptIn (s .answers);
 }
 
--- the number of components of sufficient area, summed over the calls that are not refused, in the plane as each finds it
+-- the number of components of sufficient area, summed over the calls that are not refused, in the plane as each finds
+-- it
 unfoldable pub chainSufficient : Shape → List ℕ → List Call → ℕ
 chainSufficient z p [] = 0
 chainSufficient z p (c ∷ cs) =

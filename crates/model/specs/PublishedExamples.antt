@@ -1,8 +1,8 @@
 -- Worked examples of the published recursion, as one statement. Definitions only.
 --
 --   Leaves             the recursion leaves a plane, retones that many components and keeps that many back
---   PublishedExamples  examples K, L and M; a set that is kept back and split all the same; components too small; planes
---                      of one value, kept back on every level whose least area they have
+--   PublishedExamples  examples K, L and M; a set that is kept back and split all the same; components too small;
+--                      planes of one value, kept back on every level whose least area they have
 use Prim.Native.Nat.{ℕ}
 use mathlib.Core.Path.{_≡_}
 use mathlib.Core.List.{List, [], _∷_}

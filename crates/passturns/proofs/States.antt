@@ -29,9 +29,17 @@ pub stopped-checked : {r k : ℕ} (s : Progress) → r ≡ k → (r ≡ 0 → �
 stopped-checked {k = zero} s e f = absurd (f e)
 stopped-checked {k = suc k} s e f = ap stopped e
 
+-- a run that has checked a pass, where the test for a next one says t
+abbrev pub checkedBy : Progress → Bool → Progress
+checkedBy s t = record {
+  at = cond t (s .at + 1) 0;
+  end = s .end;
+  retoned = 0;
+  kept = 0;
+  refusal = 0;
+  running = not t;
+}
+
 -- no refusal, and the test for a next pass says t
-pub checked-next : {k : ℕ} (s : Progress) (t : Bool) → k ≡ 0 → ltb (s .at + 1) (s .end) ≡ t
-    → record { at = cond t (s .at + 1) 0; end = s .end; retoned = 0; kept = 0; refusal = 0; running = not t } ≡ checked s k
-checked-next {k} s t e f =
-    sym (ap (checked s) e
-    ∙ ap (λ (t : Bool). record { at = cond t (s .at + 1) 0; end = s .end; retoned = 0; kept = 0; refusal = 0; running = not t }) f)
+pub checked-next : {k : ℕ} (s : Progress) (t : Bool) → k ≡ 0 → ltb (s .at + 1) (s .end) ≡ t → checkedBy s t ≡ checked s k
+checked-next {k} s t e f = sym (ap (checked s) e ∙ ap (checkedBy s) f)

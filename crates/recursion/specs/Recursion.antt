@@ -17,7 +17,7 @@ use Rattle.model.specs.Enhancement.{recursive}
 use Rattle.levels.specs.declared.Settings.{Settings}
 use Rattle.branches.specs.Branches.{Rest}
 
--- all of them where its n pixels are the least area, which level 0 does not test
+-- all of them where its n pixels have the least area, which level 0 does not test
 abbrev pub levelsLeft : ℕ → Settings → ℕ
 levelsLeft n t = cond (ltb n (t .area)) 0 (t .last)
 

@@ -25,7 +25,8 @@ use Rattle.tones.specs.Lone.{lone}
 use Rattle.tones.proofs.Lone.{lone-kept, lone-alike, lone-part, lone-one}
 use Rattle.model.specs.declared.Pass.{Pass}
 use Rattle.model.specs.Passes.{within, inside, componentValues, sufficient, changes, keptBack, passed}
-use Rattle.model.proofs.Components.{values-length, every-value, value-every, inside-sym, out-tone, linked-values, still-tone}
+use Rattle.model.proofs.Components.{values-length, every-value, value-every, inside-sym, out-tone, linked-values}
+use Rattle.model.proofs.Components.{still-tone}
 use Rattle.model.proofs.Sets.{linked-in}
 use Rattle.model.proofs.Order.{in-of, in-to, length-passed, passed-at}
 use Rattle.sections.specs.Sections.{small, inert, leaves}

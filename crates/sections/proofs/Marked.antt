@@ -55,7 +55,9 @@ marked-gone near {n} {s} {plane} {marks} {marks'} M =
         → (not (eqb (at marks' p) 1) && counted (sufficient s) near s plane p) ≡ false
     here p h (inl d) = ap (λ (t : Bool). not t && counted (sufficient s) near s plane p)
         (eq-eqb (at marks' p) 1 (M .drawn p h ∙ ap (λ (t : Bool). cond t 1 0) d))
-    here p h (inr d) = ap (λ (t : Bool). not (eqb (at marks' p) 1) && (t && sufficient s (componentValues near s plane p)
+    here p h (inr d) =
+        let vs = componentValues near s plane p in
+        ap (λ (t : Bool). not (eqb (at marks' p) 1) && (t && sufficient s vs
         && first (length plane) (inside near s plane) p)) d ∙ and-false (not (eqb (at marks' p) 1))
 
 -- in the section of all values, every pixel has it

@@ -20,7 +20,8 @@ use Rattle.planes.specs.Neighbours.{Near, first}
 use Rattle.planes.specs.declared.Shape.{Shape}
 use Rattle.planes.specs.Enumerations.{Enumerates}
 use Rattle.planes.proofs.Tests.{eq-or-not, decide, and-middle}
-use Rattle.planes.proofs.Counts.{count-le, count-upto, count-over, count-same, count-none, count-sum, count-all, keep-same, length-from}
+use Rattle.planes.proofs.Counts.{count-le, count-upto, count-over, count-same, count-none, count-sum, count-all}
+use Rattle.planes.proofs.Counts.{keep-same, length-from}
 use Rattle.planes.proofs.Lists.{map-same, beyond-refl}
 use Rattle.components.specs.Regions.{region}
 use Rattle.rows.specs.Stretches.{None}
@@ -301,7 +302,8 @@ module _ {near : Near} {n code : ℕ} {s : Pass} {t : Next} {plane₀ marks₀ q
           R .none side c (ap (inert s) (same-vs p l d) ∙ f) (i .index) (i .below)
           (subst (On t side) (sym at-p) o)
 
-      sides : (side : Bool) → Clear side (q .low || r .low) (q .high || r .high) → (p : ℕ) → (W .taken p || Mine p) ≡ true
+      sides : (side : Bool) → Clear side (q .low || r .low) (q .high || r .high)
+          → (p : ℕ) → (W .taken p || Mine p) ≡ true
           → inert s (componentValues near s plane₀ p) ≡ false → On t side (newTone near s plane₀ p) → ⊥
       sides side c p g f o =
           let both = clear-both side (q .low) (q .high) (r .low) (r .high) c in
@@ -377,8 +379,8 @@ module _ {near : Near} {n code : ℕ} {s : Pass} {t : Next} {plane₀ marks₀ q
     -- no component that left before is retoned
     all-retoned : count (Led (changes s)) (from 0 low) ≡ passCount near s plane₀
     all-retoned =
-        let none = count-same (λ p. not (eqb (at marks₀ p) code) && counted (λ vs. false) near s plane₀ p) (λ p. false) n
-        (λ p h. ap (not (eqb (at marks₀ p) code) &&_)
+        let no : ℕ → Bool = λ p. not (eqb (at marks₀ p) code) && counted (λ vs. false) near s plane₀ p in
+        let none = count-same no (λ p. false) n (λ p h. ap (not (eqb (at marks₀ p) code) &&_)
         (and-middle (within s (at plane₀ p)) false (first (length plane₀) (inside near s plane₀) p) refl)
         ∙ and-false (not (eqb (at marks₀ p) code))) ∙ count-none (from 0 n) in
         omega (arith, all-counted (changes s) (λ vs. false) (inert-still s), none)

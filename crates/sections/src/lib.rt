@@ -5,8 +5,8 @@
 // treat_plane     the same for a plane whose pixels all have the code
 //
 // A component that is too small, or lone under its rule, is changed neither by the pass nor by any later one on a part
-// of the section: it is left as it is, and gets no next marks. A lone one of sufficient area is kept back by all of these
-// passes: it is counted once here, and told of as one that leaves.
+// of the section: it is left as it is, and gets no next marks. A lone one of sufficient area is kept back by all of
+// these passes: it is counted once here, and told of as one that leaves.
 ghost use mathlib.Core.Path.{_≡_};
 ghost use mathlib.Core.Bool.{true, false, cond};
 ghost use mathlib.Core.List.{List};
@@ -26,9 +26,9 @@ use model::Pass;
 use painting::Next;
 use planes::Shape;
 
-// How many components were retoned, how many of sufficient area were kept back, and how many of these are lone and leave:
-// every pass on a part of the section keeps them back too. And whether next marks were given for values up to the
-// middle, and above it: a flag that is false says that none was.
+// How many components were retoned, how many of sufficient area were kept back, and how many of these are lone and
+// leave: every pass on a part of the section that has them keeps them back too. And whether next marks were given for
+// values up to the middle, and above it: a flag that is false says that none was.
 pub struct Treatment {
     pub retoned: u32,
     pub kept: u32,
@@ -223,8 +223,7 @@ pub fn treat_plane(
         (now (plane .entry)) (now (marks .entry)) (now (queue .entry))
         (now (plane .exit)) (now (marks .exit)) (now (queue .exit)) r ⌝ }
 {
-    components::take_plane(marks, queue, shape);
-    let c = histograms::measure(plane);
+    let c = components::take_plane(plane, marks, queue, shape);
     if is_inert(c, pass) {
         return left_alone(c, pass);
     }

@@ -1,7 +1,8 @@
 -- `components::take_plane` meets its contract. The invariant: the first k pixels were taken. The measure is what is
--- left of n. Assumes nothing.
+-- left of n. What is told of the plane is what `measure` tells. Assumes nothing.
 use Prim.Native.Nat.{_-_, _≤_}
 use mathlib.Core.Path.{_≡_}
+use native.Mathlib.Nat.{mul-le-mul}
 use native.Mathlib.Omega.{arith}
 use borrow.Author.Needs.{needs}
 use Rattle.planes.specs.Shapes.{pixels}
@@ -11,10 +12,13 @@ use Rattle.components.proofs.take_plane.Statement.{statement}
 use Rattle.components.proofs.take_plane.Tie as tie
 
 abbrev Inv-loop : tie.InvT-loop
-Inv-loop marks₀ queue₀ n k₀ marks queue k = (k ≤ n) × PlaneTaken k marks₀ queue₀ marks queue
+Inv-loop plane₀ marks₀ queue₀ n k₀ marks queue k = (k ≤ n) × PlaneTaken k marks₀ queue₀ marks queue
 
 abbrev μ-loop : tie.MeasureT-loop
-μ-loop marks₀ queue₀ n k₀ marks queue k = n - k
+μ-loop plane₀ marks₀ queue₀ n k₀ marks queue k = n - k
+
+abbrev start : tie.After-loop Inv-loop μ-loop → tie.Start Inv-loop μ-loop
+start c = c .before .before .before .before .before .before
 
 pixels-requires : tie.Need-pixels-requires Inv-loop μ-loop
 pixels-requires c κs = search needs
@@ -42,12 +46,18 @@ loop-less c = search needs
 
 loop-again : tie.Need-loop-again Inv-loop μ-loop
 loop-again c =
-    let s = c .before .before .before .before .before in
+    let lent = c .before .before .before .before .before .before .pre in
     let taking = c .before .loop .inv .1 in (
       omega arith,
-      taking-more taking (omega (arith, s .pre .covered, taking .marks-rest .size))
-          (omega (arith, s .pre .spare, taking .queue-rest .size)),
+      taking-more taking (omega (arith, lent .covered, taking .marks-rest .size))
+          (omega (arith, lent .spare, taking .queue-rest .size)),
     )
+
+measure-requires : tie.Need-measure-requires Inv-loop μ-loop
+measure-requires c κs =
+    let lent = start c .pre in
+    let some = mul-le-mul (lent .size .wide) (lent .size .high) in
+    (omega (arith, some, lent .whole), omega (arith, lent .whole, lent .size .few))
 
 same-length : tie.Need-same-length Inv-loop μ-loop
 same-length c = search needs
@@ -57,9 +67,9 @@ same-length-2 c = search needs
 
 returns : tie.Need-returns Inv-loop μ-loop
 returns c =
-    let s = c .before .before .before .before .before in
-    let all : c .before .loop .k ≡ pixels (s .args .shape) = omega arith in
-    rw all at (c .before .loop .inv .1)
+    let ended = c .before in
+    let all : ended .before .loop .k ≡ pixels (start ended .args .shape) = omega arith in
+    (rw all at (ended .before .loop .inv .1), c .measure .ensures)
 
 pub take-plane-spec : {M : Type 1} → statement M
 take-plane-spec =
@@ -76,6 +86,7 @@ take-plane-spec =
     add-k
     loop-less
     loop-again
+    measure-requires
     same-length
     same-length-2
     returns)

@@ -1,5 +1,5 @@
--- `listformat::records_refusal` meets its contract. The invariant: none of the first j records is refused (`Clear`). The
--- measure is what is left of the count. Assumes nothing.
+-- `listformat::records_refusal` meets its contract. The invariant: none of the first j records is refused (`Clear`).
+-- The measure is what is left of the count. Assumes nothing.
 use Prim.Native.Nat.{_-_, _<_}
 use mathlib.Core.Path.{_≡_, sym, _∙_}
 use native.Mathlib.Omega.{arith}

@@ -99,8 +99,8 @@ marking : (v : tie.After-treat-plane) → (
     (pixels (s .shape)))
 marking v =
     let m = marked-in v in
-    subst (Marked _ (start m .args .plane .now) (start m .args .marks .now) _) (m .before .before .before .pixels .ensures)
-    (m .mark-section .ensures)
+    let n = m .before .before .before .pixels in
+    subst (Marked _ (start m .args .plane .now) (start m .args .marks .now) _) (n .ensures) (m .mark-section .ensures)
 
 -- no more than 7 levels are left
 few-left : (n : ℕ) (t : Settings) → t .last ≤ 7 → levelsLeft n t ≤ 7
@@ -111,14 +111,16 @@ levels : (c : tie.After-levels-left) → (
     c .levels-left .result ≡ levelsLeft (pixels (s .shape)) (s .settings))
 levels c =
     let m = marked-in (c .before .before .before .before .before .before .before) in
-    c .levels-left .ensures ∙ ap (λ (n : ℕ). levelsLeft n (start m .args .settings)) (m .before .before .before .pixels .ensures)
+    let n = m .before .before .before .pixels in
+    c .levels-left .ensures ∙ ap (λ (n : ℕ). levelsLeft n (start m .args .settings)) (n .ensures)
 
 counts-of-requires : tie.Need-counts-of-requires
 counts-of-requires c κs =
     let v = c .before .before .before .before .before .before .before in
     let s = start (marked-in v) in
     let all = small (s .pre .lent .size .few) (s .pre .lent .whole) (v .treat-plane .ensures .treated) in
-    (all .1 .0, (all .1 .1, omega (arith, levels c, few-left (pixels (s .args .shape)) (s .args .settings) (s .pre .last))))
+    let few = few-left (pixels (s .args .shape)) (s .args .settings) (s .pre .last) in
+    (all .1 .0, (all .1 .1, omega (arith, levels c, few)))
 
 split-requires : tie.Need-split-requires
 split-requires c κs =
@@ -143,7 +145,8 @@ counts : (c : tie.After-counts-of) → (
     let s = start (marked-in v) .args in
     c .counts-of .result ≡ allTold (levelsLeft (pixels (s .shape)) (s .settings)) (v .treat-plane .result))
 counts c =
-    c .counts-of .ensures ∙ ap (λ (x : ℕ). allTold x (c .before .before .before .before .before .before .before .before .treat-plane .result)) (levels (c .before))
+    let v = c .before .before .before .before .before .before .before .before in
+    c .counts-of .ensures ∙ ap (λ (x : ℕ). allTold x (v .treat-plane .result)) (levels (c .before))
 
 plus-requires : tie.Need-plus-requires
 plus-requires c κs =
@@ -198,8 +201,8 @@ returns c =
     (whole-plane z whole 1 _ (lent .size .wide) ones) in
     let left = next-gone z (s .args .settings) (lent .whole) (v .treat-plane .ensures)
     (marked-coded M) (root-marks _ M) (X .middle) (X .halves e) (s .pre .area) refl _ some N in
-    let R = root-halves z (s .args .settings) M (v .treat-plane .ensures .treated) some (s .pre .last) (lent .whole) pixel
-    sizes left (divided .split .ensures) in
+    let R = root-halves z (s .args .settings) M (v .treat-plane .ensures .treated) some (s .pre .last) (lent .whole)
+    pixel sizes left (divided .split .ensures) in
     subst (RecursionOutcome z (s .args .settings) (s .args .plane .now) (s .args .marks .now) (s .args .queue .now)
     (divided .split .last .0) (divided .split .last .1 .0) (divided .split .last .1 .1 .0))
     (sym (c .plus .ensures ∙ ap (λ (x : Counts). sums x (divided .split .result)) (counts (below .before)))) R

@@ -18,63 +18,56 @@ use Rattle.sections.proofs.Passing.{plane-alike, plane-gathered, by-pas
 use Rattle.sections.proofs.treat_plane.Statement.{statement}
 use Rattle.sections.proofs.treat_plane.Tie as tie
 
--- ## Places: the entry, from where all pixels are taken; and that, from where they are measured, and tested
+-- ## Places: the entry, from where all pixels are taken and measured; that, from where they are tested; and that, from
+-- where they are counted
 
 abbrev start : tie.After-take-plane → tie.Start
-start c = c .before .before .before .before .before .before
+start c = c .before .before .before .before .before .before .before
 
-abbrev taken-in : tie.After-measure → tie.After-take-plane
-taken-in c = c .before .before .before .before .before .before
+abbrev taken-in : tie.After-is-inert → tie.After-take-plane
+taken-in c = c .before .before .before .before .before
 
 abbrev entry : tie.After-is-inert → tie.Start
-entry c = start (taken-in (c .before))
+entry c = start (taken-in c)
+
+abbrev tested-in : tie.After-histogram → tie.After-is-inert
+tested-in c = c .before .before .before .before
 
 -- ## What is known there
 
 some : (s : tie.Start) → 1 * 1 ≤ pixels (s .args .shape)
 some s = mul-le-mul (s .pre .0 .lent .size .wide) (s .pre .0 .lent .size .high)
 
-size : (c : tie.After-measure) → c .measure .result .size ≡ pixels (start (taken-in c) .args .shape)
-size c = c .measure .ensures .size ∙ start (taken-in c) .pre .0 .lent .whole
+size : (c : tie.After-take-plane) → c .take-plane .result .size ≡ pixels (start c .args .shape)
+size c = c .take-plane .ensures .1 .size ∙ start c .pre .0 .lent .whole
 
 -- the plane is flooded, and the queue has its values
-flooded : (c : tie.After-measure) → (
-    let taken = taken-in c in
-    let s = start taken .args in
+flooded : (c : tie.After-take-plane) → (
+    let s = start c .args in
     Flooded (passNeighbours (s .shape) (s .pass)) (pixels (s .shape)) 1 0 (s .marks .now) (s .queue .now)
-    (taken .take-plane .last .0) (taken .take-plane .last .1 .0) (c .measure .result .size))
+    (c .take-plane .last .1 .0) (c .take-plane .last .1 .1 .0) (c .take-plane .result .size))
 flooded c =
-    let s = start (taken-in c) in
-    let all = taken-in c .take-plane .ensures in
+    let s = start c in
+    let lent = s .pre .0 .lent in
     by-pass (s .args .shape) (s .args .pass)
-    (plane-flooded (s .args .shape) 1 (s .pre .0 .lent .size .wide) all (s .pre .0 .lent .spare) (s .pre .1) (size c))
+    (plane-flooded (s .args .shape) 1 (lent .size .wide) (c .take-plane .ensures .0) (lent .spare) (s .pre .1) (size c))
 
-values-are : (c : tie.After-measure) → (
-    let taken = taken-in c in
-    values (start taken .args .plane .now) (taken .take-plane .last .1 .0) (c .measure .result .size)
-    ≡ start taken .args .plane .now)
+values-are : (c : tie.After-take-plane) →
+    values (start c .args .plane .now) (c .take-plane .last .1 .1 .0) (c .take-plane .result .size)
+    ≡ start c .args .plane .now
 values-are c =
-    let taken = taken-in c in
-    let lent = start taken .pre .0 .lent in
-    ap (values (start taken .args .plane .now) (taken .take-plane .last .1 .0)) (size c)
-    ∙ values-plane (taken .take-plane .ensures) (lent .spare) (lent .whole)
+    let lent = start c .pre .0 .lent in
+    ap (values (start c .args .plane .now) (c .take-plane .last .1 .1 .0)) (size c)
+    ∙ values-plane (c .take-plane .ensures .0) (lent .spare) (lent .whole)
 
 -- the test is that of the plane
 told : (c : tie.After-is-inert) → c .is-inert .result ≡ inert (entry c .args .pass) (entry c .args .plane .now)
 told c =
     let s = entry c in
-    c .is-inert .ensures _ (omega (arith, some s, s .pre .0 .lent .whole)) (c .before .measure .ensures)
+    c .is-inert .ensures _ (omega (arith, some s, s .pre .0 .lent .whole)) (taken-in c .take-plane .ensures .1)
 
 take-plane-requires : tie.Need-take-plane-requires
-take-plane-requires c κs =
-    let lent = c .before .before .before .before .before .pre .0 .lent in
-    record { size = lent .size; covered = lent .covered; spare = lent .spare }
-
-measure-requires : tie.Need-measure-requires
-measure-requires c κs =
-    let s = c .before .before .before .before .before .before .before .before .before .before .before in
-    let lent = s .pre .0 .lent in
-    (omega (arith, some s, lent .whole), omega (arith, lent .whole, lent .size .few))
+take-plane-requires c κs = c .before .before .before .before .before .before .pre .0 .lent
 
 is-inert-requires : tie.Need-is-inert-requires
 is-inert-requires c κs = search needs
@@ -94,35 +87,35 @@ same-length-3 c = search needs
 returns : tie.Need-returns
 returns c =
     let tested = c .before .before in
-    let measured = tested .before in
+    let measured = taken-in tested in
     let s = entry tested in
     let d = treatable (s .pre .0) in
     let h = some s in
     let F = flooded measured in
-    let A = plane-alike (measured .measure .result) d h (s .pre .1 0 h) F (values-are measured) in
-    let R = left-alone (s .args .pass) (s .args .next) A _ (A .size ∙ sym (measured .measure .ensures .size))
+    let A = plane-alike (measured .take-plane .result) d h (s .pre .1 0 h) F (values-are measured) in
+    let R = left-alone (s .args .pass) (s .args .next) A _ (A .size ∙ sym (measured .take-plane .ensures .1 .size))
     (c .left-alone .ensures) (sym (told tested) ∙ c .before .if1 .taken) in
     one-component d h (s .pre .1 0 h)
     (whole-plane (s .args .shape) (s .args .pass) 1 _ (s .pre .0 .lent .size .wide) (s .pre .1)) F R
 
 histogram-requires : tie.Need-histogram-requires
 histogram-requires c κs =
-    let lent = c .before .before .before .before .before .before .before .before .before .before .before .before .before .before .before .before .pre .0 .lent in
+    let lent = entry (c .before .before .before) .pre .0 .lent in
     (blank _ refl refl, omega (arith, lent .whole, lent .size .few))
 
 retone-requires : tie.Need-retone-requires
 retone-requires c κs =
     let counted = c .before .before .before .before .before in
-    let tested = counted .before .before .before in
-    let measured = tested .before .before in
-    let s = entry (tested .before) in
+    let tested = tested-in counted in
+    let measured = taken-in tested in
+    let s = entry tested in
     let d = treatable (s .pre .0) in
     let h = some s in
     let F = flooded measured in
     let is = values-are measured in
-    let lively = sym (told (tested .before)) ∙ tested .if1 .left in (
+    let lively = sym (told tested) ∙ counted .before .before .before .if1 .left in (
       (
-        plane-gathered (measured .measure .result) d h (s .pre .1 0 h) F is (measured .measure .ensures)
+        plane-gathered (measured .take-plane .result) d h (s .pre .1 0 h) F is (measured .take-plane .ensures .1)
             (counted .histogram .ensures),
         listed d (pass-begin _ _ _ _ _ _ _ _) h (s .pre .1 0 h) F (s .pre .0 .lent .covered),
       ),
@@ -141,8 +134,8 @@ same-length-6 c = search needs
 returns-2 : tie.Need-returns-2
 returns-2 c =
     let retoned = c .before .before .before .before in
-    let measured = c .before .before .before .before .before .before .before .before .before .before .before .before .before .before .before in
-    let s = start (taken-in measured) in
+    let measured = taken-in (tested-in (retoned .before .before .before .before .before .before)) in
+    let s = start measured in
     let d = treatable (s .pre .0) in
     let h = some s in
     let F = flooded measured in
@@ -155,7 +148,6 @@ treat-plane-spec =
     tie.close
     (tie.spec
     take-plane-requires
-    measure-requires
     is-inert-requires
     left-alone-requires
     same-length
