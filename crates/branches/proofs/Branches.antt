@@ -22,8 +22,9 @@ use Rattle.model.specs.Outcomes.{came, sums}
 use Rattle.model.specs.Enhancement.{section, deep}
 use Rattle.model.proofs.Recursion.{pass-few, effect-same, then-nothing, run-append}
 use Rattle.model.proofs.Sufficient.{run-few}
-use Rattle.sections.specs.Sections.{leaves, gone, Treated}
-use Rattle.sections.specs.declared.Treatment.{Treatment}
+use Rattle.sections.specs.Sections.{gone, Treated}
+use Rattle.retoning.specs.Retoning.{leaves}
+use Rattle.retoning.specs.declared.Treatment.{Treatment}
 use Rattle.painting.specs.declared.Next.{Next}
 use Rattle.levels.specs.Levels.{Wide, Below, Deeper, Numbered}
 use Rattle.levels.specs.declared.Settings.{Settings}

@@ -22,10 +22,11 @@ use Rattle.model.proofs.Neighbourhoods.{pass-sym}
 use Rattle.model.proofs.Order.{in-of, in-to}
 use Rattle.model.proofs.Apart.{Alike, inside-alike, values-alike, counted-alike}
 use Rattle.painting.specs.Painting.{number, On}
-use Rattle.sections.specs.Sections.{inert, leaves, oneIf, gone, Coded, Section, Treated, Treats}
+use Rattle.sections.specs.Sections.{gone, Coded, Section, Treated, Treats}
+use Rattle.retoning.specs.Retoning.{inert, leaves, oneIf}
 use Rattle.painting.specs.declared.Next.{Next}
-use Rattle.sections.specs.declared.Treatment.{Treatment}
-use Rattle.sections.proofs.Inert.{Part}
+use Rattle.retoning.specs.declared.Treatment.{Treatment}
+use Rattle.retoning.proofs.Inert.{Part}
 use Rattle.levels.specs.Levels.{Numbered, Away}
 use Rattle.levels.specs.declared.Settings.{Settings}
 use Rattle.levels.proofs.Numbers.{numbered-order, numbered-some, twice, half-some, halves-order}

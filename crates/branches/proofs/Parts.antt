@@ -26,11 +26,12 @@ use Rattle.model.proofs.Components.{out-tone, linked-values}
 use Rattle.model.proofs.Order.{in-of, in-to, passed-at}
 use Rattle.model.proofs.Apart.{section-stays}
 use Rattle.painting.specs.Painting.{number}
-use Rattle.sections.specs.Sections.{small, inert, leaves, Coded, Treated}
+use Rattle.sections.specs.Sections.{Coded, Treated}
+use Rattle.retoning.specs.Retoning.{small, inert, leaves}
 use Rattle.painting.specs.declared.Next.{Next}
-use Rattle.sections.specs.declared.Treatment.{Treatment}
-use Rattle.sections.proofs.Inert.{Part, part-within, was-within, inside-part, inert-part, no-larger}
-use Rattle.sections.proofs.Inert.{lone-values, lone-first}
+use Rattle.retoning.specs.declared.Treatment.{Treatment}
+use Rattle.retoning.proofs.Inert.{Part, part-within, was-within, inside-part, inert-part, no-larger}
+use Rattle.retoning.proofs.Inert.{lone-values, lone-first}
 
 -- ## Values
 

@@ -27,7 +27,7 @@ use Rattle.model.specs.Effects.{Effect, runEffect}
 use Rattle.model.specs.Outcomes.{came}
 use Rattle.model.specs.Enhancement.{deep}
 use Rattle.sections.specs.Sections.{gone, Coded}
-use Rattle.sections.specs.declared.Treatment.{Treatment}
+use Rattle.retoning.specs.declared.Treatment.{Treatment}
 use Rattle.levels.specs.Levels.{Wide, Numbered, Away}
 use Rattle.levels.specs.declared.Settings.{Settings}
 

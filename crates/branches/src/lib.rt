@@ -16,7 +16,7 @@ use levels::Settings;
 use model::Counts;
 use model::Pass;
 use planes::Shape;
-use sections::Treatment;
+use retoning::Treatment;
 
 // The counts of a treated section with so many levels below it: a component that leaves is kept back on these too.
 pub fn counts_of(t: Treatment, below: u32) -> Counts

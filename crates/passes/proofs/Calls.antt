@@ -16,7 +16,7 @@ use Rattle.model.specs.Outcomes.{Over}
 use Rattle.model.specs.Calls.{Call, State, start, call, chain}
 use Rattle.painting.specs.Painting.{Marked}
 use Rattle.sections.specs.Sections.{Treated}
-use Rattle.sections.specs.declared.Treatment.{Treatment}
+use Rattle.retoning.specs.declared.Treatment.{Treatment}
 use Rattle.sections.proofs.Marked.{marked-gone}
 use Rattle.model.proofs.Recursion.{effect-same}
 use Rattle.passes.specs.Calls.{callOn, PassOutcome, Sequence, none, more}

@@ -28,8 +28,9 @@ use Rattle.model.specs.Outcomes.{came, sums}
 use Rattle.model.specs.Enhancement.{section, recursive}
 use Rattle.model.proofs.Recursion.{effect-same}
 use Rattle.painting.specs.Painting.{Marked}
-use Rattle.sections.specs.Sections.{leaves, gone, Treated}
-use Rattle.sections.specs.declared.Treatment.{Treatment}
+use Rattle.sections.specs.Sections.{gone, Treated}
+use Rattle.retoning.specs.Retoning.{leaves}
+use Rattle.retoning.specs.declared.Treatment.{Treatment}
 use Rattle.sections.proofs.Marked.{marked-gone}
 use Rattle.painting.specs.declared.Next.{Next}
 use Rattle.levels.specs.Levels.{Wide}

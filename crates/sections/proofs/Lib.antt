@@ -1,6 +1,4 @@
-pub mod Inert
 pub mod Regions
 pub mod Sweep
-pub mod Steps
 pub mod Passing
 pub mod Marked

@@ -41,10 +41,11 @@ use Rattle.model.specs.Passes.{counted, componentCount, passCount}
 use Rattle.model.proofs.Components.{in-tone, out-tone, still-tone}
 use Rattle.model.proofs.Order.{in-of, length-passed, passed-at}
 use Rattle.painting.specs.Painting.{number, On, Clear, Listed}
-use Rattle.sections.specs.Sections.{inert, leaves, oneIf, gone, Done, Coded, Section, Treated, Treats}
+use Rattle.sections.specs.Sections.{gone, Coded, Section, Treated, Treats}
+use Rattle.retoning.specs.Retoning.{inert, leaves, oneIf, Done}
 use Rattle.painting.specs.declared.Next.{Next}
-use Rattle.sections.specs.declared.Treatment.{Treatment}
-use Rattle.sections.proofs.Inert.{inert-still, inert-leaves, inert-kept}
+use Rattle.retoning.specs.declared.Treatment.{Treatment}
+use Rattle.retoning.proofs.Inert.{inert-still, inert-leaves, inert-kept}
 use Rattle.painting.proofs.Painting.{clear-both}
 use Rattle.sections.proofs.Regions.{region-values, same-region, counted-leads}
 use Rattle.sections.proofs.Sweep.{Sweeping, sweep-begin, none-leads, ahead, sweep-end, beyond}

@@ -11,8 +11,8 @@ use Rattle.histograms.proofs.Measured.{blank}
 use Rattle.components.specs.Floods.{Flooded}
 use Rattle.components.proofs.Whole.{plane-flooded, values-plane}
 use Rattle.model.specs.Neighbourhoods.{passNeighbours}
-use Rattle.sections.specs.Sections.{inert}
-use Rattle.sections.proofs.Steps.{left-alone}
+use Rattle.retoning.specs.Retoning.{inert}
+use Rattle.retoning.proofs.Steps.{left-alone}
 use Rattle.sections.proofs.Passing.{treatable, pass-begin, alike, listed, one-component}
 use Rattle.sections.proofs.Passing.{plane-alike, plane-gathered, by-pass, whole-plane}
 use Rattle.sections.proofs.treat_plane.Statement.{statement}

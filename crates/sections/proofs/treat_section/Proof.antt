@@ -16,10 +16,10 @@ use Rattle.components.specs.declared.Found.{Found}
 use Rattle.components.specs.declared.Found.the-variants.{At}
 use Rattle.model.specs.Neighbourhoods.{passNeighbours}
 use Rattle.model.specs.Passes.{componentValues}
-use Rattle.sections.specs.Sections.{Done}
-use Rattle.sections.specs.declared.Treatment.{Treatment}
+use Rattle.retoning.specs.Retoning.{Done}
+use Rattle.retoning.specs.declared.Treatment.{Treatment}
 use Rattle.sections.proofs.Passing.{Treatable, Passing, treatable, pass-start, size-le, go-on, pass-end}
-use Rattle.sections.proofs.Steps.{gathered-some}
+use Rattle.retoning.proofs.Steps.{gathered-some}
 use Rattle.sections.proofs.Passing.{by-pass, gauged-by-pass, gathered}
 use Rattle.sections.proofs.Passing.{alike, listed, at-most-one, take-one}
 use Rattle.sections.proofs.treat_section.Statement.{statement}

@@ -1,9 +1,9 @@
--- `sections::is_small` meets its contract: each answer follows from the test that led to it. Assumes nothing.
+-- `retoning::is_small` meets its contract: each answer follows from the test that led to it. Assumes nothing.
 use mathlib.Core.Path.{sym}
 use borrow.Author.Needs.{needs}
 use borrow.Author.Tests.{lt-ltb, le-ltb}
-use Rattle.sections.proofs.is_small.Statement.{statement}
-use Rattle.sections.proofs.is_small.Tie as tie
+use Rattle.retoning.proofs.is_small.Statement.{statement}
+use Rattle.retoning.proofs.is_small.Tie as tie
 
 cast-area : tie.Need-cast-area
 cast-area c = search needs

@@ -29,7 +29,7 @@ use Rattle.model.proofs.Components.{values-length, every-value, value-every, in
 use Rattle.model.proofs.Components.{still-tone}
 use Rattle.model.proofs.Sets.{linked-in}
 use Rattle.model.proofs.Order.{in-of, in-to, length-passed, passed-at}
-use Rattle.sections.specs.Sections.{small, inert, leaves}
+use Rattle.retoning.specs.Retoning.{small, inert, leaves}
 
 -- ## An inert component is not changed
 

@@ -1,10 +1,10 @@
--- `sections::retone` meets its contract: the component gets the rule's tones and its next marks. Assumes nothing.
+-- `retoning::retone` meets its contract: the component gets the rule's tones and its next marks. Assumes nothing.
 use mathlib.Core.Path.{refl}
 use native.Mathlib.Omega.{arith}
 use borrow.Author.Needs.{needs}
-use Rattle.sections.proofs.Steps.{done, lively-large, gathered-size}
-use Rattle.sections.proofs.retone.Statement.{statement}
-use Rattle.sections.proofs.retone.Tie as tie
+use Rattle.retoning.proofs.Steps.{done, lively-large, gathered-size}
+use Rattle.retoning.proofs.retone.Statement.{statement}
+use Rattle.retoning.proofs.retone.Tie as tie
 
 -- the entry, from where the table is filled
 abbrev start : tie.After-tone-table → tie.Start

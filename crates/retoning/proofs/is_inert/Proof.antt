@@ -1,10 +1,10 @@
--- `sections::is_inert` meets its contract: a component is inert where it is too small, and otherwise where it is lone.
+-- `retoning::is_inert` meets its contract: a component is inert where it is too small, and otherwise where it is lone.
 -- Assumes nothing.
 use mathlib.Core.Path.{sym, _∙_}
 use borrow.Author.Needs.{needs}
-use Rattle.sections.proofs.Steps.{small-inert, large-inert}
-use Rattle.sections.proofs.is_inert.Statement.{statement}
-use Rattle.sections.proofs.is_inert.Tie as tie
+use Rattle.retoning.proofs.Steps.{small-inert, large-inert}
+use Rattle.retoning.proofs.is_inert.Statement.{statement}
+use Rattle.retoning.proofs.is_inert.Tie as tie
 
 is-small-requires : tie.Need-is-small-requires
 is-small-requires c κs = search needs

@@ -1,13 +1,13 @@
--- `sections::treat_found` meets its contract: a component that is too small or lone is left alone, another gets its
+-- `retoning::treat_found` meets its contract: a component that is too small or lone is left alone, another gets its
 -- tones and its next marks. Assumes nothing.
 use mathlib.Core.Path.{_≡_, sym, _∙_}
 use borrow.Author.Needs.{needs}
 use Rattle.histograms.specs.Histograms.{values}
 use Rattle.histograms.proofs.Stores.{outside-none}
-use Rattle.sections.specs.Sections.{inert}
-use Rattle.sections.proofs.Steps.{left-alone, gathered-some, gathered-size}
-use Rattle.sections.proofs.treat_found.Statement.{statement}
-use Rattle.sections.proofs.treat_found.Tie as tie
+use Rattle.retoning.specs.Retoning.{inert}
+use Rattle.retoning.proofs.Steps.{left-alone, gathered-some, gathered-size}
+use Rattle.retoning.proofs.treat_found.Statement.{statement}
+use Rattle.retoning.proofs.treat_found.Tie as tie
 
 -- the entry, from where it is known whether the component is inert
 abbrev start : tie.After-is-inert → tie.Start

@@ -22,9 +22,9 @@ use Rattle.model.specs.declared.Pass.{Pass}
 use Rattle.model.specs.Passes.{sufficient, changes, keptBack, retone}
 use Rattle.painting.specs.Painting.{number, On, Painted}
 use Rattle.painting.specs.declared.Next.{Next}
-use Rattle.sections.specs.Sections.{small, inert, oneIf, aloneBy, Toned, Done}
-use Rattle.sections.specs.declared.Treatment.{Treatment}
-use Rattle.sections.proofs.Inert.{inert-still, inert-leaves, inert-kept, lively-stays, inert-alike}
+use Rattle.retoning.specs.Retoning.{small, inert, oneIf, aloneBy, Toned, Done}
+use Rattle.retoning.specs.declared.Treatment.{Treatment}
+use Rattle.retoning.proofs.Inert.{inert-still, inert-leaves, inert-kept, lively-stays, inert-alike}
 
 -- ## One component
 

@@ -1,11 +1,11 @@
--- `sections::left_alone` meets its contract. Assumes nothing.
+-- `retoning::left_alone` meets its contract. Assumes nothing.
 use mathlib.Core.Path.{ap, _∙_}
 use Prim.Native.Nat.{ℕ}
 use mathlib.Core.Bool.{Bool, false, cond}
 use borrow.Author.Needs.{needs}
-use Rattle.sections.specs.declared.Treatment.{Treatment}
-use Rattle.sections.proofs.left_alone.Statement.{statement}
-use Rattle.sections.proofs.left_alone.Tie as tie
+use Rattle.retoning.specs.declared.Treatment.{Treatment}
+use Rattle.retoning.proofs.left_alone.Statement.{statement}
+use Rattle.retoning.proofs.left_alone.Tie as tie
 
 is-small-requires : tie.Need-is-small-requires
 is-small-requires c κs = search needs

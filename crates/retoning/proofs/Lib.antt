@@ -1,0 +1,2 @@
+pub mod Inert
+pub mod Steps
