@@ -1,6 +1,7 @@
 // A row of a table is a level: passes over all sections of one width, from the lowest on, in one plane. Its time less
-// that of the same passes with a least area that no component has is what treating the components takes. The share of
-// their pixels is measured on a plane with such values in which each section is one component; the rest is their own.
+// that of the same passes with a least area that no component has is what treating the components takes; the latter is
+// what finding them takes, with measuring them and counting their values. The share of their pixels is measured on a
+// plane with such values in which each section is one component; the rest is their own.
 
 #include "grain.hpp"
 
