@@ -249,9 +249,14 @@ class OnACluster(Folder):
             self.frame(f"f{seed}.ppm", 1_024, 1_024, seed)
         results = expected(self.source)
         script = enhance_folder(self.cluster.address, self.source, self.out)
-        until(lambda: (self.out / "f0.ppm").exists() or script.poll() is not None, "the first file")
+        until(lambda: any(self.out.glob("f*.ppm")) or script.poll() is not None, "the first file")
+        # The workers stand still meanwhile: however fast they are, the interrupt comes before they are done.
+        for worker in self.cluster.workers.values():
+            worker.send_signal(signal.SIGSTOP)
         script.send_signal(signal.SIGINT)
         status, _, errors, all_said = self.said(script)
+        for worker in self.cluster.workers.values():
+            worker.send_signal(signal.SIGCONT)
         self.assertEqual(status, 1, all_said)
         self.assertIn("enhance_folder: interrupted", errors, all_said)
         written = files(self.out)
