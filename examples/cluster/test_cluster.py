@@ -5,6 +5,7 @@
 ZOPYKUE=path/to/zopykue compares with the files of that tool too.
 """
 
+import contextlib
 import json
 import os
 import shutil
@@ -85,6 +86,15 @@ def enhance_folder(*arguments):
     return subprocess.Popen([sys.executable, HERE / "enhance_folder.py", *map(os.fspath, arguments)], text=True,
                             errors="surrogateescape", stdin=subprocess.DEVNULL, stdout=subprocess.PIPE,
                             stderr=subprocess.PIPE, env=environment)
+
+
+def interrupt(process):
+    """Interrupts a script, and again after some seconds: Python drops an interrupt that comes within a finalizer."""
+    for _ in range(6):
+        process.send_signal(signal.SIGINT)
+        with contextlib.suppress(subprocess.TimeoutExpired):
+            process.wait(5)
+            return
 
 
 def ended(process):
@@ -253,7 +263,7 @@ class OnACluster(Folder):
         # The workers stand still meanwhile: however fast they are, the interrupt comes before they are done.
         for worker in self.cluster.workers.values():
             worker.send_signal(signal.SIGSTOP)
-        script.send_signal(signal.SIGINT)
+        interrupt(script)
         status, _, errors, all_said = self.said(script)
         for worker in self.cluster.workers.values():
             worker.send_signal(signal.SIGCONT)
