@@ -89,7 +89,7 @@ def enhance_folder(*arguments):
 
 
 def interrupt(process):
-    """Interrupts a script, and again after some seconds: Python drops an interrupt that comes within a finalizer."""
+    """Interrupts a script, and again if it has not ended after some seconds: it was seen to go on after one."""
     for _ in range(6):
         process.send_signal(signal.SIGINT)
         with contextlib.suppress(subprocess.TimeoutExpired):
