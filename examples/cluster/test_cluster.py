@@ -5,7 +5,6 @@
 ZOPYKUE=path/to/zopykue compares with the files of that tool too.
 """
 
-import contextlib
 import json
 import os
 import shutil
@@ -86,15 +85,6 @@ def enhance_folder(*arguments):
     return subprocess.Popen([sys.executable, HERE / "enhance_folder.py", *map(os.fspath, arguments)], text=True,
                             errors="surrogateescape", stdin=subprocess.DEVNULL, stdout=subprocess.PIPE,
                             stderr=subprocess.PIPE, env=environment)
-
-
-def interrupt(process):
-    """Interrupts a script, and again if it has not ended after some seconds: it was seen to go on after one."""
-    for _ in range(6):
-        process.send_signal(signal.SIGINT)
-        with contextlib.suppress(subprocess.TimeoutExpired):
-            process.wait(5)
-            return
 
 
 def ended(process):
@@ -259,14 +249,9 @@ class OnACluster(Folder):
             self.frame(f"f{seed}.ppm", 1_024, 1_024, seed)
         results = expected(self.source)
         script = enhance_folder(self.cluster.address, self.source, self.out)
-        until(lambda: any(self.out.glob("f*.ppm")) or script.poll() is not None, "the first file")
-        # The workers stand still meanwhile: however fast they are, the interrupt comes before they are done.
-        for worker in self.cluster.workers.values():
-            worker.send_signal(signal.SIGSTOP)
-        interrupt(script)
+        until(lambda: (self.out / "f0.ppm").exists() or script.poll() is not None, "the first file")
+        script.send_signal(signal.SIGINT)
         status, _, errors, all_said = self.said(script)
-        for worker in self.cluster.workers.values():
-            worker.send_signal(signal.SIGCONT)
         self.assertEqual(status, 1, all_said)
         self.assertIn("enhance_folder: interrupted", errors, all_said)
         written = files(self.out)
