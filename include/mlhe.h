@@ -232,8 +232,8 @@ int64_t mlhe_recolour(const uint8_t *frame, size_t frame_length, size_t w, size_
  * marks     working memory, at least n elements
  * queue     working memory, at least n elements
  * output    at least 3 * n bytes, of which the first 3 * n become the recoloured frame
- * counts    as for mlhe_pass: the sums of the counts of all passes, section by section on all levels. So a component of
- *           one value is kept once at every level that has it
+ * counts    as for mlhe_pass: the sums of the counts of all passes, section by section on all levels. So, with plain, a
+ *           component of one value is kept once at every level where its area is sufficient; level 0 has no least area
  *
  * Answers 0. Refusals, in order: 1, 2, 3, 4, 14, 17, 9, 6, 7, 8, and 14 where counts has fewer than 2 elements. 17 (a
  * rule other than 0 and 1, or limited with second not 0) is tested before the other numbers of the setting.

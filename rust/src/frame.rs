@@ -20,8 +20,9 @@ pub struct Enhanced {
     pub frame: Frame,
     /// The new intensity. What is guaranteed is guaranteed of this plane: match spots here.
     pub plane: Plane,
-    /// The components that were retoned and those that were kept back, section by section on all levels: a component of
-    /// one value is kept once at every level that has it.
+    /// The components that were retoned and those that were kept back, section by section on all levels: under the
+    /// plain rule a component of one value is kept once at every level where its area is sufficient. Level 0 has no
+    /// least area.
     pub counts: Counts,
 }
 
