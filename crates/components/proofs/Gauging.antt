@@ -16,7 +16,7 @@ use Rattle.histograms.specs.Histograms.{values, Alike, Measured, Tally}
 use Rattle.histograms.specs.declared.Measures.{Measures}
 use Rattle.histograms.proofs.Values.{In, in-at, least-le, greatest-ge}
 use Rattle.histograms.proofs.Components.{values-size, values-at, alike-of}
-use Rattle.histograms.proofs.Measured.{least-snoc, values-more, tally-blank, tally-more, greatest-more}
+use Rattle.histograms.proofs.Measured.{least-snoc, values-more, tally-more, greatest-more}
 use Rattle.histograms.proofs.Measured.{alike-turned, tally-alike, measured-alike}
 use Rattle.components.specs.Floods.{Flooded, regionValues, Gauged}
 use Rattle.components.proofs.Regions.{region-self}
@@ -32,7 +32,7 @@ pub record Gauging (s : ℕ) (vs counts : List ℕ) (low high : ℕ) : Type 0 wh
 pub gauging-none : (plane queue : List ℕ) (s : ℕ) {counts : List ℕ} → Tally [] counts
     → Gauging s (values plane queue 0) counts s s
 gauging-none plane queue s t = record {
-  tally = tally-blank plane queue t;
+  tally = t;
   least-is = refl;
   greatest-is = sym (max-zero s);
 }

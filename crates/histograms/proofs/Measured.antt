@@ -90,9 +90,6 @@ pub values-more : (plane queue : List ℕ) (i : ℕ) → i < length queue
     → values plane queue (i + 1) ≡ values plane queue i ++ (at plane (at queue i) ∷ [])
 values-more plane queue i lt = rw (take-more queue i lt, map-append)
 
-pub tally-blank : (plane queue : List ℕ) {counts : List ℕ} → Tally [] counts → Tally (values plane queue 0) counts
-tally-blank plane queue t = t
-
 pub tally-more : (plane queue : List ℕ) (i : ℕ) {counts : List ℕ} → Tally (values plane queue i) counts
     → i < length queue → at plane (at queue i) < 256
     → Tally (values plane queue (i + 1)) (set counts (at plane (at queue i)) (at counts (at plane (at queue i)) + 1))
