@@ -5,12 +5,13 @@
 // measure, histogram                    the measures and the counts of a plane
 // clear                                 counts of a component, zeroed
 // sum_up                                sums of counts, in place
+// fill_same                             values that are kept, in a table
 // scale                                 a part of b - a, rounded
 // lesser, greater                       of two values
 // zero_range, nearest                   within
 //
 // Counts are lent all 0, and cleared after use: those of the values of [least, greatest], for those of all others stay
-// 0. What clears takes a slice, for an array that is lent as a slice is known to have all its entries.
+// 0. What clears or fills takes a slice, for an array that is lent as a slice is known to have all its entries.
 ghost use mathlib.Core.Path.{_≡_};
 ghost use mathlib.Core.List.{[]};
 ghost use Prim.Native.Nat.{_+_, _^_, _≤_, _<_, min, max};
@@ -113,6 +114,19 @@ pub fn sum_up(counts: &mut [u32; 256], a: u8, b: u8)
     let mut v = a as usize + 1;
     while v < end {
         counts[v] += counts[v - 1];
+        v += 1;
+    }
+}
+
+// The values from first to last themselves.
+pub fn fill_same(table: &mut [u8], first: u8, last: u8)
+    requires { ⌜ (first ≤ last) × (last < length (now table)) ⌝ }
+    ensures { λ r. ⌜ Refilled (λ v. v) first (last + 1) (now (table .entry)) (now (table .exit)) ⌝ }
+{
+    let end = last as usize + 1;
+    let mut v = first as usize;
+    while v < end {
+        table[v] = v as u8;
         v += 1;
     }
 }

@@ -3,7 +3,7 @@
 //
 // plain_tones                         a component's table of tones, and whether it is retoned
 // plain_keeps, keeps                  the test that keeps the old values
-// plain_table, fill_plain, fill_same  entries of the table
+// plain_table, fill_plain             entries of the table
 // next_tone                           one tone
 //
 // Counts and table are lent, with any content in the table, and only their entries of [least, greatest], from the
@@ -20,6 +20,7 @@ ghost use Rattle.histograms.specs.Sums.{SummedInPlace, Sums};
 ghost use Rattle.histograms.specs.Tables.{Tabled, Ruled};
 ghost use Rattle.plain.specs.Plain.{plainTone, keptBy, plainKept};
 use histograms::Measures;
+use histograms::fill_same;
 use histograms::scale;
 use histograms::sum_up;
 
@@ -32,19 +33,6 @@ fn next_tone(a: u8, b: u8, last: u32, tone: u8, x: u32, m: usize) -> u8
         return tone;
     }
     scale(a, b, x as u64, m as u64)
-}
-
-// The values from first to last themselves.
-fn fill_same(table: &mut [u8], first: u8, last: u8)
-    requires { ⌜ (first ≤ last) × (last < length (now table)) ⌝ }
-    ensures { λ r. ⌜ Refilled (λ v. v) first (last + 1) (now (table .entry)) (now (table .exit)) ⌝ }
-{
-    let end = last as usize + 1;
-    let mut v = first as usize;
-    while v < end {
-        table[v] = v as u8;
-        v += 1;
-    }
 }
 
 // The tones of the values of [least, greatest] by the sums of their counts.

@@ -1,12 +1,12 @@
--- `plain::fill_same` meets its contract. The invariant: the entries from first to below v are the values themselves.
+-- `histograms::fill_same` meets its contract. The invariant: the entries from first to below v are the values themselves.
 -- The measure is what is left up to last. Assumes nothing.
 use Prim.Native.Nat.{_+_, _-_, _≤_}
 use mathlib.Core.Path.{_≡_, refl}
 use Rattle.histograms.specs.Histograms.{Refilled}
 use Rattle.histograms.proofs.Stores.{refilled-none, refilled-more}
 use native.Mathlib.Omega.{arith}
-use Rattle.plain.proofs.fill_same.Statement.{statement}
-use Rattle.plain.proofs.fill_same.Tie as tie
+use Rattle.histograms.proofs.fill_same.Statement.{statement}
+use Rattle.histograms.proofs.fill_same.Tie as tie
 
 abbrev Inv-loop : tie.InvT-loop
 Inv-loop table₀ first last end v₀ table v = (first ≤ v) × ((v ≤ last + 1) × Refilled (λ k. k) first v table₀ table)
