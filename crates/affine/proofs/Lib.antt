@@ -4,3 +4,4 @@ pub mod Sound
 pub mod Points
 pub mod Ahead
 pub mod Tables
+pub mod Ends

@@ -91,8 +91,8 @@ pub least-mono : (f g : ℕ → Bool) (v n : ℕ) → ((u : ℕ) → f u ≡ tru
 least-mono f g v n h = ⊎-elim
     (λ (l : leastFrom f v n < leastFrom g v n).
     absurd (false≢true (
-      sym (least-first g v n (leastFrom f v n) (least-ge f v n) l)
-      ∙ h (leastFrom f v n) (least-stops f v n (omega (arith, least-le g v n))))))
+    sym (least-first g v n (leastFrom f v n) (least-ge f v n) l)
+    ∙ h (leastFrom f v n) (least-stops f v n (omega (arith, least-le g v n))))))
     (λ l. l)
     (less-or-not (leastFrom f v n) (leastFrom g v n))
 

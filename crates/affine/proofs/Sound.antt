@@ -39,8 +39,11 @@ scaled-up a b x zero x' d pos h = omega (arith, scaled-zero a b x)
 scaled-up a b x (suc y) x' d pos h =
     let cross : (b - a) * x * (suc y * d) ≤ (b - a) * x' * suc y
     = omega (arith, mul-le-mul-left ((b - a) * suc y) h) in
-    omega (arith, rounded-cross ((b - a) * x) (suc y) ((b - a) * x') (suc y * d) (omega arith)
-    (mul-pos (omega arith) pos) cross)
+    omega (
+      arith,
+      rounded-cross ((b - a) * x) (suc y) ((b - a) * x') (suc y * d) (omega arith)
+          (mul-pos (omega arith) pos) cross,
+    )
 
 pub scaled-down : (a b x y x' d : ℕ) → 0 < d → x' ≤ x * d → scaled a b x' (y * d) ≤ scaled a b x y
 scaled-down a b x zero x' d pos h =
@@ -48,8 +51,11 @@ scaled-down a b x zero x' d pos h =
 scaled-down a b x (suc y) x' d pos h =
     let cross : (b - a) * x' * suc y ≤ (b - a) * x * (suc y * d)
     = omega (arith, mul-le-mul-left ((b - a) * suc y) h) in
-    omega (arith, rounded-cross ((b - a) * x') (suc y * d) ((b - a) * x) (suc y) (mul-pos (omega arith) pos)
-    (omega arith) cross)
+    omega (
+      arith,
+      rounded-cross ((b - a) * x') (suc y * d) ((b - a) * x) (suc y) (mul-pos (omega arith) pos)
+          (omega arith) cross,
+    )
 
 -- ## Points that rise
 

@@ -101,15 +101,7 @@ fn grown(s: Slopes, d: u64, more: u64) -> u64
 }
 
 // The point after p, which is point i.
-fn next_point(
-    sums: &[u32; 256],
-    c: Measures,
-    s: Slopes,
-    a: u8,
-    b: u8,
-    i: u64,
-    p: Point,
-) -> Point
+fn next_point(sums: &[u32; 256], c: Measures, s: Slopes, a: u8, b: u8, i: u64, p: Point) -> Point
     requires { ⌜ ((length (now sums) ≡ 256) × Cumulative (now sums) c a b)
         × ((i < s .segments) × Reached s (now sums) c a i p) ⌝ }
     ensures { λ r. ⌜ r ≡ nextPoint s a b (at (now (sums .entry))) (c .size) (i + 1) p ⌝ }
@@ -185,15 +177,7 @@ fn fill_line(table: &mut [u8], p: Point, q: Point, y: u64, a: u8, b: u8, x: usiz
 }
 
 // The tones of the values of [least, greatest], where the height y of the last point becomes b.
-fn fill_lines(
-    sums: &[u32; 256],
-    table: &mut [u8],
-    c: Measures,
-    s: Slopes,
-    a: u8,
-    b: u8,
-    y: u64,
-)
+fn fill_lines(sums: &[u32; 256], table: &mut [u8], c: Measures, s: Slopes, a: u8, b: u8, y: u64)
     requires { ⌜ (((length (now sums) ≡ 256) × Cumulative (now sums) c a b) × (c .greatest < length (now table)))
         × (((1 ≤ s .segments) × ((1 ≤ y) × (y < 2 ^ 32)))
         × (y ≡ topOf (start a) (points s a b (at (now sums)) (c .size)) .height)) ⌝ }

@@ -51,3 +51,6 @@ pub const COUNT: u8 = 16;
 
 // A record stands for no pass.
 pub const RECORD: u8 = 17;
+
+// The affine rule's segments or slopes are out of range.
+pub const SLOPES: u8 = 18;

@@ -1,8 +1,9 @@
--- Where the rules end: each gives the value b itself b, and with a clip of 1,000 thousandths the limited rule is the
--- plain one. (With a smaller clip the limited rule may give the greatest value less than b: what is left over goes to
--- the values above it, too.) Assumes nothing.
+-- Where the rules end: unless a component is kept back, each gives the value b itself b; with a clip of 1,000
+-- thousandths the limited rule is the plain one. (With a smaller clip the limited rule may give the greatest value less
+-- than b: what is left over goes to the values above it, too.) Assumes nothing.
 use Prim.Native.Nat.{ℕ, _+_, _-_, _*_, _≤_}
 use mathlib.Core.Path.{_≡_, ap, ap₂, _∙_}
+use mathlib.Core.Bool.{false}
 use mathlib.Core.List.{List}
 use native.Mathlib.Omega.{arith}
 use lib.ListN.{length}
@@ -12,15 +13,16 @@ use Rattle.planes.specs.Rounding.{rounded}
 use Rattle.histograms.specs.Values.{sumTo, scaled, greatest}
 use Rattle.plain.specs.Plain.{plainTone}
 use Rattle.limited.specs.Limited.{clipped, limitedTone}
-use Rattle.tones.specs.Tones.{tone}
+use Rattle.tones.specs.Tones.{slopesOf, tone, kept}
 use Rattle.histograms.specs.Histograms.{Inside}
 use Rattle.tones.specs.declared.Rule.{Rule}
-use Rattle.tones.specs.declared.Rule.the-variants.{Plain, Limited}
+use Rattle.tones.specs.declared.Rule.the-variants.{Plain, Limited, Affine}
 use Rattle.histograms.proofs.Sums.{sum-same, sum-thousand}
 use Rattle.histograms.proofs.Values.{in-inside, inside-all, inside-sum, greatest-in}
 use Rattle.histograms.proofs.Scaled.{rounded-cancel}
 use Rattle.plain.proofs.Ends.{plain-greatest, plain-end}
 use Rattle.limited.proofs.Ends.{limited-end, unclipped}
+use Rattle.affine.proofs.Ends.{affine-end}
 
 -- ## A clip of 1,000 thousandths
 
@@ -52,8 +54,10 @@ limited-greatest k a b vs ab some s h =
 
 -- ## Rules
 
--- the value b becomes b
-pub tone-end : (r : Rule) (a b : ℕ) (vs : List ℕ) → a ≤ b → 1 ≤ length vs → Inside a b vs → tone r a b vs b ≡ b
-unfolding tone
-tone-end (Plain low high) a b vs ab some s = plain-end a b vs ab some s
-tone-end (Limited k) a b vs ab some s = limited-end k a b vs ab some
+-- the value b becomes b, unless it is kept back
+pub tone-end : (r : Rule) (a b : ℕ) (vs : List ℕ) → a ≤ b → 1 ≤ length vs → Inside a b vs → kept r a b vs ≡ false
+    → tone r a b vs b ≡ b
+unfolding tone kept
+tone-end (Plain low high) a b vs ab some s toned = plain-end a b vs ab some s
+tone-end (Limited k) a b vs ab some s toned = limited-end k a b vs ab some
+tone-end (Affine segments smin smax) a b vs ab some s toned = affine-end (slopesOf segments smin smax) a b vs ab toned

@@ -7,12 +7,14 @@ use native.Mathlib.Omega.{arith}
 use Rattle.histograms.specs.Values.{scaled}
 use Rattle.plain.specs.Plain.{plainTone, plainKept}
 use Rattle.limited.specs.Limited.{clipped, limitedTone}
+use Rattle.affine.specs.Affine.{leastFrom, nextPoint, pointsAfter, joined, affineTop, affineTone, affineKept}
 use Rattle.tones.specs.Tones.{tone, kept}
 use Rattle.tones.specs.Examples.{ToneExamples}
 use Rattle.plain.proofs.Ends.{plain-greatest}
 
 pub tone-examples : ToneExamples
 unfolding plainTone plainKept clipped limitedTone tone kept
+    affineTone affineTop affineKept leastFrom nextPoint pointsAfter joined
 tone-examples = record {
   a = refl;
   a-not-kept = refl;
@@ -23,6 +25,23 @@ tone-examples = record {
   g = refl;
   h = refl;
   i = refl;
+  affine = refl;
+  affine-not-kept = refl;
+  affine-kept = refl;
+  affine-one = refl;
+  affine-most = refl;
+  affine-most-kept = refl;
+  affine-point = refl;
+  affine-even = refl;
+  affine-flat = refl;
+  affine-level = refl;
+  affine-whole = refl;
+  affine-whole-toned = refl;
+  affine-less = refl;
+  affine-above = refl;
+  affine-single = refl;
+  affine-single-not-kept = refl;
+  affine-least = refl;
   one-value = λ low high. refl;
   two-values = refl;
   at-high = refl;

@@ -22,7 +22,7 @@ use Rattle.histograms.proofs.Values.{In, in-at, count-full, least-le, greatest-
 use Rattle.histograms.proofs.Measured.{alike-turned}
 use Rattle.plain.specs.Plain.{plainKept}
 use Rattle.tones.specs.declared.Rule.{Rule}
-use Rattle.tones.specs.declared.Rule.the-variants.{Plain, Limited}
+use Rattle.tones.specs.declared.Rule.the-variants.{Plain, Limited, Affine}
 use Rattle.tones.specs.Tones.{kept}
 use Rattle.tones.specs.Lone.{oneValue, lone}
 
@@ -60,12 +60,14 @@ unfolding kept plainKept oneValue
 lone-kept (Plain low high) a b vs d =
     or-inl _ _ (or-inl _ _ (eq-eqb (spread vs) 0 (spread-one (at vs 0) vs d)))
 lone-kept (Limited k) a b vs d = absurd (false≢true d)
+lone-kept (Affine segments smin smax) a b vs d = absurd (false≢true d)
 
 -- all values of a lone component are the first one
 pub lone-one : (rule : Rule) (vs : List ℕ) → lone rule vs ≡ true → every (eqb (at vs 0)) vs ≡ true
 unfolding oneValue
 lone-one (Plain low high) vs e = e
 lone-one (Limited k) vs e = absurd (false≢true e)
+lone-one (Affine segments smin smax) vs e = absurd (false≢true e)
 
 same-one : (vs ws : List ℕ) → Alike vs ws → oneValue vs ≡ true → oneValue ws ≡ true
 unfolding oneValue
@@ -79,6 +81,7 @@ pub lone-alike : (rule : Rule) {vs ws : List ℕ} → Alike vs ws → lone rule 
 lone-alike (Plain low high) {vs} {ws} A =
     same-test (oneValue vs) (oneValue ws) (same-one vs ws A) (same-one ws vs (alike-turned A))
 lone-alike (Limited k) A = refl
+lone-alike (Affine segments smin smax) A = refl
 
 -- values of which none is new
 pub lone-part : (rule : Rule) (vs ws : List ℕ) → ((v : ℕ) → every (eqb v) vs ≡ true → every (eqb v) ws ≡ true)
@@ -86,6 +89,7 @@ pub lone-part : (rule : Rule) (vs ws : List ℕ) → ((v : ℕ) → every (eqb v
 unfolding oneValue
 lone-part (Plain low high) vs ws f e = one-value (at vs 0) ws (f (at vs 0) e)
 lone-part (Limited k) vs ws f e = e
+lone-part (Affine segments smin smax) vs ws f e = e
 
 -- ## Measures
 

@@ -61,8 +61,7 @@ tested c vs h =
 returns : tie.Need-returns
 returns c =
     let test = c .before .before .before in
-    let same = c .fill-same .ensures in
-    (
+    let same = c .fill-same .ensures in (
       ruled-kept (tested test) (c .before .before .if1 .taken) (λ v av vb. same .new v (omega arith) (omega arith)),
       record { counts-rest = summed test .sum-up .ensures .rest; table-rest = refilled-outside same },
     )
@@ -83,8 +82,7 @@ returns-2 c =
     let test = c .before .before .before .before in
     let s = summed test in
     let filled = c .fill-lines .ensures in
-    let y = test .before .top-height .ensures .0 in
-    (
+    let y = test .before .top-height .ensures .0 in (
       ruled-toned (tested test) (c .before .before .before .if1 .left)
           (affine-tabled (start s .args .s) (start s .pre .range) (s .sum-up .ensures) y filled),
       record { counts-rest = s .sum-up .ensures .rest; table-rest = refilled-outside filled },

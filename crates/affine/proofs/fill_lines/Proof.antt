@@ -37,8 +37,7 @@ loop-holds c =
     let s = c .before .before .before in
     let a = s .args in
     let range = s .pre .0 .0 .1 .range in
-    let none : max (a .c .least) (a .a) ≡ a .c .least = omega (arith, range .from) in
-    (
+    let none : max (a .c .least) (a .a) ≡ a .c .least = omega (arith, range .from) in (
       (omega arith, (reached-first (a .s) (s .pre .0 .0 .1), ahead-first (a .s) (a .a) (a .b) _ _)),
       rw none (refilled-none _),
     )
@@ -73,8 +72,7 @@ fill-line-requires c κs =
     let pre = begin n .pre in
     let range = pre .0 .0 .1 .range in
     let q = next n in
-    let size = n .before .before .loop .inv .1 .size in
-    (
+    let size = n .before .before .loop .inv .1 .size in (
       (
         (omega (arith, range .from, range .order, range .to), omega (arith, c .later .ensures)),
         (omega (arith, q .reached .to), omega (arith, q .reached .to, size, pre .0 .1)),

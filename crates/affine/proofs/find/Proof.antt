@@ -62,8 +62,7 @@ loop-again c =
     let a = s .before .args in
     let v = s .loop .v in
     let too-small : (u : ℕ) → u ≡ v → a .n * at (a .sums .now) u < a .need =
-    λ u e. subst (λ (z : ℕ). a .n * at (a .sums .now) z < a .need) (sym e) (c .if1 .left) in
-    (
+    λ u e. subst (λ (z : ℕ). a .n * at (a .sums .now) z < a .need) (sym e) (c .if1 .left) in (
       (omega arith, omega arith),
       λ u xu uv. ⊎-elim (too-small u) (λ o. s .loop .inv .1 u xu (omega arith)) (eq-or-not u v),
     )

@@ -39,8 +39,7 @@ find-requires c κs =
     let s = c .before .before .before .before in
     let range = s .pre .0 .1 .range in
     let later = c .before .before .later .ensures in
-    let reached = s .pre .1 .1 in
-    (
+    let reached = s .pre .1 .1 in (
       (s .pre .0 .0, sums-few (s .args .s) (s .pre .0 .1)),
       (omega arith, (omega (arith, later, range .order, reached .to), omega arith)),
     )
@@ -101,7 +100,7 @@ add-height c =
       start f .pre .1 .1 .low,
       three-few {x = a .s .smax} {n = a .s .segments} {d = d} (omega arith) (omega arith) (omega (arith, found f .to)),
       three-few {x = a .s .smax} {n = a .s .segments} {d = a .p .place - a .a} (omega arith) (omega arith)
-      (omega (arith, start f .pre .1 .1 .to)),
+          (omega (arith, start f .pre .1 .1 .to)),
     )
 
 returns : tie.Need-returns

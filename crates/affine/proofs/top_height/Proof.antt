@@ -54,8 +54,7 @@ returns c =
     let all : c .before .loop .i ≡ a .s .segments = omega arith in
     let ahead = subst (λ (i : ℕ). Ahead (a .s) (a .a) (a .b) (at (a .sums .now)) (a .c .size) i p) all (inv .1 .1) in
     let few = three-few {x = a .s .smax} {n = a .s .segments} {d = p .place - a .a} (omega arith) (omega arith)
-    (omega (arith, inv .1 .0 .to)) in
-    (
+    (omega (arith, inv .1 .0 .to)) in (
       ap (λ (q : Point). q .height) (end-top (a .s) (a .a) (a .b) (at (a .sums .now)) (a .c .size) p ahead),
       omega (arith, inv .1 .0 .low, few),
     )

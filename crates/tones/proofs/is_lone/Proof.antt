@@ -15,6 +15,9 @@ enum-told c = search needs
 enum-told-2 : tie.Need-enum-told-2
 enum-told-2 c = search needs
 
+enum-told-3 : tie.Need-enum-told-3
+enum-told-3 c = search needs
+
 returns : tie.Need-returns
 returns c = λ vs some m. ap₂ eqb (m .least-is) (m .greatest-is)
     ∙ one-measured vs some
@@ -23,5 +26,8 @@ returns c = λ vs some m. ap₂ eqb (m .least-is) (m .greatest-is)
 returns-2 : tie.Need-returns-2
 returns-2 c = λ vs some m. sym (ap (λ (rule : Rule). lone rule vs) (c .enum-told2 .given .1))
 
+returns-3 : tie.Need-returns-3
+returns-3 c = λ vs some m. sym (ap (λ (rule : Rule). lone rule vs) (c .enum-told3 .given .1))
+
 pub is-lone-spec : {M : Type 1} → statement M
-is-lone-spec = tie.close (tie.spec enum-told enum-told-2 returns returns-2)
+is-lone-spec = tie.close (tie.spec enum-told enum-told-2 enum-told-3 returns returns-2 returns-3)
