@@ -23,7 +23,8 @@
  *
  * Counts. A component is of sufficient area if it has at least the least area of its pass. Each of these is retoned or
  * kept back, so that both numbers together are the components of sufficient area, in the plane as the pass finds it. A
- * component that gets the rule and comes out as it was is retoned. The limited rule keeps none back.
+ * component that gets the rule and comes out as it was is retoned. Which ones are kept back, enum mlhe_rule says for
+ * each rule.
  *
  * Lent memory. Each pointer is followed by the number of its elements, and that many elements have to be readable (and
  * writable, where the pointer is not to const), at an address that fits their type. A null pointer is allowed only with
@@ -46,9 +47,9 @@
 
 /* The version of this header and of the library that it was made with. The library itself does not tell its version. */
 #define MLHE_VERSION_MAJOR 0
-#define MLHE_VERSION_MINOR 2
+#define MLHE_VERSION_MINOR 3
 #define MLHE_VERSION_PATCH 0
-#define MLHE_VERSION "0.2.0"
+#define MLHE_VERSION "0.3.0"
 
 #ifdef __cplusplus
 extern "C" {
@@ -69,22 +70,44 @@ enum mlhe_refusal {
     MLHE_REFUSED_MAXVAL = 11,       /* the header's third number is not 255 */
     MLHE_REFUSED_RASTER = 12,       /* the raster is short */
     MLHE_REFUSED_TRAILING = 13,     /* there are bytes after the raster */
-    MLHE_REFUSED_OUTPUT = 14,       /* the output, or the lent numbers or counts, are shorter than needed */
+    MLHE_REFUSED_OUTPUT = 14,       /* the output, the numbers of mlhe_read or the counts are shorter than needed */
     MLHE_REFUSED_LIST_MARK = 15,    /* a pass list's mark or version is wrong */
     MLHE_REFUSED_LIST_LENGTH = 16,  /* a pass list's count or length is wrong */
-    MLHE_REFUSED_RULE = 17          /* no such rule, limited with second != 0, or a set zero byte in a pass list */
+    MLHE_REFUSED_RULE = 17,         /* no such rule, a set number that has to be 0, or not MLHE_RULE_NUMBERS numbers */
+    MLHE_REFUSED_SLOPES = 18        /* affine: 0 or more than 16 segments, smin above smax, or smax above 10,000 */
 };
 
-/* The tone rules. Each goes with two numbers, first and second. */
+/*
+ * The tone rules, for a component of the pixels with a value from a to b. Numbers that a rule does not have are 0.
+ *
+ * Plain: histogram equalisation. first is low and second is high, in hundredths; low <= high <= 25,500. Kept back is a
+ * component of one value, and one for which the ratio of the value ranges after and before is outside low to high.
+ *
+ * Limited: contrast-limited equalisation. first is the clip k in thousandths, 0 to 1,000. None is kept back.
+ *
+ * Affine: piecewise affine equalisation. segments, 1 to 16, is the number of joined lines that approximate the
+ * cumulative histogram; first is smin and second is smax, between which their slopes are held, in hundredths;
+ * smin <= smax <= 10,000. Where the last line ends above b, all are scaled to fit. Kept back is a component for which
+ * it ends below b, and every one where a = b.
+ */
 enum mlhe_rule {
-    MLHE_PLAIN = 0,  /* first is low and second is high, in hundredths; low <= high <= 25,500 */
-    MLHE_LIMITED = 1 /* first is the clip k in thousandths, 0 to 1,000; second is 0 */
+    MLHE_PLAIN = 0,
+    MLHE_LIMITED = 1,
+    MLHE_AFFINE = 2
+};
+
+/* The places of a rule's numbers, as mlhe_pass and mlhe_enhance are lent them. */
+enum mlhe_rule_number {
+    MLHE_RULE_CODE = 0, /* one of enum mlhe_rule */
+    MLHE_RULE_FIRST = 1,
+    MLHE_RULE_SECOND = 2,
+    MLHE_RULE_SEGMENTS = 3
 };
 
 /* The places of the counts of mlhe_pass, mlhe_run_list and mlhe_enhance. */
 enum mlhe_count {
     MLHE_RETONED = 0, /* components of sufficient area that got the rule */
-    MLHE_KEPT = 1     /* components of sufficient area that were kept back: of one value, or outside low and high */
+    MLHE_KEPT = 1     /* components of sufficient area that were kept back: their values stay */
 };
 
 enum {
@@ -92,13 +115,17 @@ enum {
     MLHE_GREATEST_PIXELS = 1048576,
     /* The elements of counts: one for each of enum mlhe_count. */
     MLHE_COUNTS = 2,
+    /* The elements of rule: one for each of enum mlhe_rule_number. */
+    MLHE_RULE_NUMBERS = 4,
     /* The most bytes that mlhe_write puts before the raster: P6, LF, width, space, height, LF, 255, LF. */
     MLHE_GREATEST_HEADER = 17,
-    /* The most passes of a list, the greatest last level, the greatest numbers of the two rules. */
+    /* The most passes of a list, the greatest last level, the greatest numbers of the rules. */
     MLHE_GREATEST_PASSES = 1024,
     MLHE_GREATEST_LEVEL = 7,
     MLHE_GREATEST_HIGH = 25500,
     MLHE_GREATEST_CLIP = 1000,
+    MLHE_GREATEST_SEGMENTS = 16,
+    MLHE_GREATEST_SLOPE = 10000,
     /* Bytes of stack that are enough for a call. */
     MLHE_STACK = 16384,
     /* The house setting of mlhe_enhance. */
@@ -109,12 +136,15 @@ enum {
     MLHE_HOUSE_HIGH = 300
 };
 
+/* The rule of the house setting: const uint16_t rule[] = MLHE_HOUSE_NUMBERS; */
+#define MLHE_HOUSE_NUMBERS {MLHE_HOUSE_RULE, MLHE_HOUSE_LOW, MLHE_HOUSE_HIGH, 0}
+
 /* The reason for a refusal in words, for people: of any answer, so that it can be put into a message as it is. */
 static inline const char *mlhe_reason(int64_t answer) {
     if (answer >= 0) {
         return "it was not refused";
     }
-    switch (answer < -MLHE_REFUSED_RULE ? 0 : (int)-answer) {
+    switch (answer < -MLHE_REFUSED_SLOPES ? 0 : (int)-answer) {
     case MLHE_REFUSED_SIDES: return "a side is 0 or above 4,096";
     case MLHE_REFUSED_PIXELS: return "there are more than 1,048,576 pixels";
     case MLHE_REFUSED_LENGTHS: return "the plane or the frame does not have the length of its sides";
@@ -131,7 +161,9 @@ static inline const char *mlhe_reason(int64_t answer) {
     case MLHE_REFUSED_OUTPUT: return "the output is too short";
     case MLHE_REFUSED_LIST_MARK: return "it is no pass list of version 1";
     case MLHE_REFUSED_LIST_LENGTH: return "the pass list's count or length is wrong";
-    case MLHE_REFUSED_RULE: return "there is no such tone rule, or a byte that has to be 0 is set";
+    case MLHE_REFUSED_RULE: return "there is no such tone rule, or a number that has to be 0 is set";
+    case MLHE_REFUSED_SLOPES:
+        return "there are 0 segments or more than 16, smin is above smax, or smax is above 10,000";
     default: return "there is no such refusal";
     }
 }
@@ -179,28 +211,30 @@ int64_t mlhe_intensity(const uint8_t *frame, size_t frame_length, size_t w, size
  * plane     n bytes, changed in place
  * marks     working memory, at least n elements
  * queue     working memory, at least n elements
- * rule, first, second   as in enum mlhe_rule
+ * rule      MLHE_RULE_NUMBERS elements: rule[MLHE_RULE_CODE] is one of enum mlhe_rule, and the others, at the places of
+ *           enum mlhe_rule_number, are that rule's own numbers
  * counts    at least MLHE_COUNTS elements: counts[MLHE_RETONED] becomes the number of components that were retoned and
  *           counts[MLHE_KEPT] the number of those that were kept back; elements beyond stay
  *
- * Answers 0. Refusals, in order: 1, 2, 3, 4, 17, 5, 6, 7, 8, and 14 where counts has fewer than 2 elements. As in a
- * record of a pass list, 17 (a rule other than 0 and 1, or limited with second not 0) is tested before the other
- * numbers.
+ * Answers 0. Refusals, in order: 1, 2, 3, 4, 17, 5, 6, 7, 8, 18, and 14 where counts has fewer than 2 elements. As in a
+ * record of a pass list, 17 is tested before the other numbers: a code above 2, plain or limited with segments not 0,
+ * limited with second not 0; and here any number of elements of rule but MLHE_RULE_NUMBERS.
  */
 int64_t mlhe_pass(uint8_t *plane, size_t plane_length, uint8_t *marks, size_t marks_length, uint32_t *queue,
-                  size_t queue_length, size_t w, size_t h, uint8_t a, uint8_t b, uint32_t area, uint8_t rule,
-                  uint16_t first, uint16_t second, size_t *counts, size_t counts_length);
+                  size_t queue_length, size_t w, size_t h, uint8_t a, uint8_t b, uint32_t area, const uint16_t *rule,
+                  size_t rule_length, size_t *counts, size_t counts_length);
 
 /*
  * The passes of a list, one after the other. All records are checked before the first pass runs.
  *
  * list      the bytes MLP, version 1 and the count of passes (0 to 1,024), both 16-bit, then 12 bytes for each pass:
- *           a, b, rule, 0, area (32-bit), first and second (16-bit); of each number the low byte first
+ *           a, b, the rule's code, segments (0 but for affine), area (32-bit), first and second (16-bit); of each
+ *           number the low byte first
  * plane, marks, queue   as for mlhe_pass
  * counts    as for mlhe_pass: the sums of the passes' counts, 0 and 0 for a list of no passes
  *
- * Answers 0. Refusals, in order: 1, 2, 3, 4, 16 (fewer than 7 bytes), 15, 16, then for each record 17, 5, 6, 7, 8, and
- * 14 where counts has fewer than 2 elements.
+ * Answers 0. Refusals, in order: 1, 2, 3, 4, 16 (fewer than 7 bytes), 15, 16, then for each record 17, 5, 6, 7, 8, 18,
+ * and 14 where counts has fewer than 2 elements.
  */
 int64_t mlhe_run_list(const uint8_t *list, size_t list_length, uint8_t *plane, size_t plane_length, uint8_t *marks,
                       size_t marks_length, uint32_t *queue, size_t queue_length, size_t w, size_t h, size_t *counts,
@@ -227,7 +261,7 @@ int64_t mlhe_recolour(const uint8_t *frame, size_t frame_length, size_t w, size_
  * frame     3 * n bytes
  * last      0 to 7
  * area      the least area of a component from level 1 on
- * rule, first, second   as in enum mlhe_rule
+ * rule      as for mlhe_pass
  * plane     n bytes, which become the new intensity: the plane to match spots on
  * marks     working memory, at least n elements
  * queue     working memory, at least n elements
@@ -235,13 +269,13 @@ int64_t mlhe_recolour(const uint8_t *frame, size_t frame_length, size_t w, size_
  * counts    as for mlhe_pass: the sums of the counts of all passes, section by section on all levels. So, with plain, a
  *           component of one value is kept once at every level where its area is sufficient; level 0 has no least area
  *
- * Answers 0. Refusals, in order: 1, 2, 3, 4, 14, 17, 9, 6, 7, 8, and 14 where counts has fewer than 2 elements. 17 (a
- * rule other than 0 and 1, or limited with second not 0) is tested before the other numbers of the setting.
+ * Answers 0. Refusals, in order: 1, 2, 3, 4, 14, 17, 9, 6, 7, 8, 18, and 14 where counts has fewer than 2 elements. 17,
+ * as for mlhe_pass, is tested before the other numbers of the setting.
  */
 int64_t mlhe_enhance(const uint8_t *frame, size_t frame_length, size_t w, size_t h, uint8_t last, uint32_t area,
-                     uint8_t rule, uint16_t first, uint16_t second, uint8_t *plane, size_t plane_length,
-                     uint8_t *marks, size_t marks_length, uint32_t *queue, size_t queue_length, uint8_t *output,
-                     size_t output_length, size_t *counts, size_t counts_length);
+                     const uint16_t *rule, size_t rule_length, uint8_t *plane, size_t plane_length, uint8_t *marks,
+                     size_t marks_length, uint32_t *queue, size_t queue_length, uint8_t *output, size_t output_length,
+                     size_t *counts, size_t counts_length);
 
 #ifdef __cplusplus
 }

@@ -48,11 +48,11 @@ c=examples/c/enhance
 rust=target/cargo/release/examples/enhance
 frames=(tests/corpus/pil.ppm tests/corpus/imagemagick-4096x4.ppm tests/corpus/column-1x1024.ppm
     tests/corpus/gimp-raw.ppm)
-# One limited pass on [0, 255], area 1, clip 10.
-printf 'MLP\1\0\1\0\0\377\1\0\1\0\0\0\12\0\0\0' > "$out/limited.mlp"
+# A limited pass on [0, 255], area 1, clip 10, and an affine one on [0, 127], area 20, 5 segments, slopes 50 to 300.
+printf 'MLP\1\0\2\0\0\377\1\0\1\0\0\0\12\0\0\0\0\177\2\5\24\0\0\0\62\0\54\1' > "$out/passes.mlp"
 for frame in "${frames[@]}"; do
     name=$(basename "$frame")
-    for list in '' "$out/limited.mlp"; do
+    for list in '' "$out/passes.mlp"; do
         "$c" ${list:+"$list"} "$frame" "$out/c.ppm"
         "$rust" ${list:+"$list"} "$frame" "$out/rust.ppm"
         cmp "$out/c.ppm" "$out/rust.ppm" || fail "$name: examples/c and rust/examples differ, list '$list'"

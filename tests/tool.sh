@@ -202,7 +202,13 @@ refused 'there is no file named .ppm or .pnm' "$zopykue" enhance --to new nothin
 refused 'wrong.mlp: refused 15' "$zopykue" enhance --to new --list wrong.mlp lists/g.ppm
 refused 'refused 9' "$zopykue" enhance --to new --last 8 lists/g.ppm
 refused 'refused 7' "$zopykue" enhance --to new --plain 5 4 lists/g.ppm
+refused 'refused 18' "$zopykue" enhance --to new --affine 0 5 6 lists/g.ppm
+refused 'refused 18' "$zopykue" enhance --to new --affine 257 5 6 lists/g.ppm
+refused 'refused 18' "$zopykue" enhance --to new --affine 2 6 5 lists/g.ppm
+refused '2 were provided' "$zopykue" enhance --to new --affine 2 5 --jobs 1 lists/g.ppm
 refused 'cannot be used with' "$zopykue" enhance --to new --limited 4 --list empty.mlp lists/g.ppm
+refused 'cannot be used with' "$zopykue" enhance --to new --affine 2 5 6 --list empty.mlp lists/g.ppm
+refused 'cannot be used with' "$zopykue" enhance --to new --affine 2 5 6 --limited 4 lists/g.ppm
 refused 'required' "$zopykue" enhance lists/g.ppm
 refused 'required' "$zopykue" enhance --to new
 [ -z "$(find . -name '.zopykue-*')" ] || fail "a part is left"
@@ -326,7 +332,16 @@ head -n 3 house.txt | diff - "$repository/tests/tool/list.txt" || fail "a list a
 "$zopykue" list --text - --to again.mlp < house.txt
 cmp house.mlp again.mlp || fail "text and list differ"
 ends 1 'wrong.mlp: refused 15' "$zopykue" list wrong.mlp
-ends 1 'lines.txt, line 2: the rule is plain or limited, not other' \
+printf '%s\n' '# 3 passes: first value, last value, least area, rule' '0 255 1 plain 80 300' '0 127 20 limited 40' \
+    '128 255 20 affine 5 50 300' > rules.txt
+"$zopykue" list --text rules.txt --to rules.mlp
+"$zopykue" list rules.mlp | diff rules.txt - || fail "a list of all rules as text"
+"$zopykue" list --last 1 --affine 16 0 10000 | diff - <(printf '%s\n' \
+    '# 3 passes: first value, last value, least area, rule' '0 255 1 affine 16 0 10000' '0 127 20 affine 16 0 10000' \
+    '128 255 20 affine 16 0 10000') || fail "the list of settings with the affine rule"
+ends 1 'lines.txt, line 2: the rule is plain, limited or affine, not other' \
     bash -c "printf '# passes\n1 2 3 other 4\n' > lines.txt && exec '$zopykue' list --text lines.txt"
+ends 1 'lines.txt, line 1: refused 18' \
+    bash -c "echo '0 9 1 affine 17 0 100' > lines.txt && exec '$zopykue' list --text lines.txt"
 ends 2 'it is there and no file' "$zopykue" list --to /dev/null
 echo "tool: pipes, terminals and lists are in order"

@@ -187,9 +187,9 @@ static void enhance(const char *in_name, const char *list_name, const uint8_t *f
     uint8_t *marks = room(in_name, n, 1);
     uint32_t *queue = room(in_name, n, sizeof *queue);
     if (list_name == NULL) {
-        accepted(in_name, mlhe_enhance(frame, 3 * n, w, h, MLHE_HOUSE_LAST, MLHE_HOUSE_AREA, MLHE_HOUSE_RULE,
-                                       MLHE_HOUSE_LOW, MLHE_HOUSE_HIGH, plane, n, marks, n, queue, n, output, 3 * n,
-                                       counts, MLHE_COUNTS));
+        const uint16_t rule[] = MLHE_HOUSE_NUMBERS;
+        accepted(in_name, mlhe_enhance(frame, 3 * n, w, h, MLHE_HOUSE_LAST, MLHE_HOUSE_AREA, rule, MLHE_RULE_NUMBERS,
+                                       plane, n, marks, n, queue, n, output, 3 * n, counts, MLHE_COUNTS));
     } else {
         struct file list = contents(list_name);
         accepted(in_name, mlhe_intensity(frame, 3 * n, w, h, plane, n));

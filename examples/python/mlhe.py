@@ -9,7 +9,7 @@
     read(data), write(frame)             a frame from the bytes of a P6 file, comments skipped, and back
 
 A frame is a numpy array (h, w, 3) of uint8, red, green and blue; a plane is one (h, w) of uint8. Sides are 1 to 4,096,
-and there are at most 1,048,576 pixels.
+and there are at most 1,048,576 pixels. A tone rule is Plain(low, high), Limited(k) or Affine(segments, smin, smax).
 
 The guarantee is of the planes that enhancements and chains of passes leave: equal four-neighbours stay equal, unequal
 ones are never reversed, and every regional maximum or minimum contains a whole one of the first plane. It is not of a
@@ -52,12 +52,13 @@ REASONS = {
     14: "the output is too short",
     15: "it is no pass list of version 1",
     16: "the pass list's count or length is wrong",
-    17: "there is no such tone rule, or a byte that has to be 0 is set",
+    17: "there is no such tone rule, or a number that has to be 0 is set",
+    18: "there are 0 segments or more than 16, smin is above smax, or smax is above 10,000",
 }
 
 
 class Refused(ValueError):
-    """A call was turned down: `number`, 1 to 17, and `reason`."""
+    """A call was turned down: `number`, 1 to 18, and `reason`."""
 
     def __init__(self, number):
         super().__init__(number)
@@ -69,20 +70,31 @@ class Refused(ValueError):
 
 
 class Plain(NamedTuple):
-    """Histogram equalisation; a component keeps its values where the ratio of the value ranges after and before is
-    outside low to high, in hundredths. low <= high <= 25,500."""
+    """Histogram equalisation; a component is kept back where it has one value, or the ratio of the value ranges after
+    and before is outside low to high, in hundredths. low <= high <= 25,500."""
 
     low: int
     high: int
 
 
 class Limited(NamedTuple):
-    """Contrast-limited equalisation with the clip k in thousandths, 0 to 1,000."""
+    """Contrast-limited equalisation with the clip k in thousandths, 0 to 1,000; no component is kept back."""
 
     k: int
 
 
-Rule = Union[Plain, Limited]
+class Affine(NamedTuple):
+    """Piecewise affine equalisation: the cumulative histogram is approximated by joined segments, 1 to 16, whose slopes
+    are held between smin and smax, in hundredths. smin <= smax <= 10,000. Where the last segment ends above the
+    interval, all are scaled to fit; where it ends below the interval's upper end, or the interval is of one value, a
+    component is kept back."""
+
+    segments: int
+    smin: int
+    smax: int
+
+
+Rule = Union[Plain, Limited, Affine]
 
 
 class Pass(NamedTuple):
@@ -107,8 +119,7 @@ HOUSE = Settings(last=7, area=20, rule=Plain(low=80, high=300))
 
 class Counts(NamedTuple):
     """How many components of sufficient area were retoned, and how many were kept back: those with at least the least
-    area of their pass, in the plane as it finds them, summed over the passes. The plain rule keeps back a component of
-    one value, and one for which the ratio is outside low to high; the limited rule keeps none."""
+    area of their pass, in the plane as it finds them, summed over the passes."""
 
     retoned: int
     kept: int
@@ -130,15 +141,15 @@ class Enhanced(NamedTuple):
     counts: Counts
 
 
-# What C reads is a bytes object, and what it writes an array that was made for the call: of the right type, contiguous
-# and writable, which ctypes tests once more.
+# What C reads is a bytes object or, for a rule, an array that was made for the call, as is what it writes: of the right
+# type, contiguous and, where it is written, writable, which ctypes tests once more.
 _BYTES = ctypes.c_char_p
 _OUTPUT = ndpointer(numpy.uint8, flags=("C_CONTIGUOUS", "WRITEABLE"))
 _QUEUE = ndpointer(numpy.uint32, flags=("C_CONTIGUOUS", "WRITEABLE"))
 _NUMBERS = ndpointer(numpy.uintp, flags=("C_CONTIGUOUS", "WRITEABLE"))
+_RULE = ndpointer(numpy.uint16, flags="C_CONTIGUOUS")
 _SIZE = ctypes.c_size_t
 _SIDES = (_SIZE, _SIZE)
-_RULE = (ctypes.c_uint8, ctypes.c_uint16, ctypes.c_uint16)
 _MEMORY = (_OUTPUT, _SIZE, _QUEUE, _SIZE)
 _COUNTS = (_NUMBERS, _SIZE)
 
@@ -147,10 +158,11 @@ _ARGUMENTS = {
     "mlhe_read": (_BYTES, _SIZE, _NUMBERS, _SIZE),
     "mlhe_write": (_BYTES, _SIZE, *_SIDES, _OUTPUT, _SIZE),
     "mlhe_intensity": (_BYTES, _SIZE, *_SIDES, _OUTPUT, _SIZE),
-    "mlhe_pass": (_OUTPUT, _SIZE, *_MEMORY, *_SIDES, ctypes.c_uint8, ctypes.c_uint8, ctypes.c_uint32, *_RULE, *_COUNTS),
+    "mlhe_pass": (_OUTPUT, _SIZE, *_MEMORY, *_SIDES, ctypes.c_uint8, ctypes.c_uint8, ctypes.c_uint32, _RULE, _SIZE,
+                  *_COUNTS),
     "mlhe_run_list": (_BYTES, _SIZE, _OUTPUT, _SIZE, *_MEMORY, *_SIDES, *_COUNTS),
     "mlhe_recolour": (_BYTES, _SIZE, *_SIDES, _BYTES, _SIZE, _OUTPUT, _SIZE),
-    "mlhe_enhance": (_BYTES, _SIZE, *_SIDES, ctypes.c_uint8, ctypes.c_uint32, *_RULE, _OUTPUT, _SIZE, *_MEMORY,
+    "mlhe_enhance": (_BYTES, _SIZE, *_SIDES, ctypes.c_uint8, ctypes.c_uint32, _RULE, _SIZE, _OUTPUT, _SIZE, *_MEMORY,
                      _OUTPUT, _SIZE, *_COUNTS),
 }
 _GREATEST_HEADER = 17
@@ -254,19 +266,27 @@ def _byte(name, value):
 
 
 def _rule(rule):
-    """The three numbers that stand for a rule."""
+    """The numbers that stand for a rule: its code, first, second, segments."""
     if isinstance(rule, Plain):
-        return 0, _number("low", rule.low, 16), _number("high", rule.high, 16)
+        return 0, _number("low", rule.low, 16), _number("high", rule.high, 16), 0
     if isinstance(rule, Limited):
-        return 1, _number("k", rule.k, 16), 0
-    raise TypeError(f"a rule is Plain(low, high) or Limited(k), not {type(rule).__name__}")
+        return 1, _number("k", rule.k, 16), 0, 0
+    if isinstance(rule, Affine):
+        slopes = _number("smin", rule.smin, 16), _number("smax", rule.smax, 16)
+        return 2, *slopes, _number("segments", rule.segments, 8)
+    raise TypeError(f"a rule is a Plain, a Limited or an Affine, not {type(rule).__name__}")
+
+
+def _lent_rule(numbers):
+    """The numbers of a rule, as a function is lent them."""
+    return _lent(numpy.array(numbers, numpy.uint16))
 
 
 def _pass(one):
-    """The numbers of a pass: a, b, area, rule, first, second."""
+    """The numbers of a pass: a, b, area, and those of its rule."""
     if not isinstance(one, Pass):
         raise TypeError(f"a pass is Pass(a, b, area, rule), not {type(one).__name__}")
-    return _byte("a", one.a), _byte("b", one.b), _number("area", one.area, 32), *_rule(one.rule)
+    return _byte("a", one.a), _byte("b", one.b), _number("area", one.area, 32), _rule(one.rule)
 
 
 def intensity(frame):
@@ -290,16 +310,17 @@ def recolour(frame, plane):
 
 
 def run_pass(plane, one):
-    """The plane after a pass, and its counts. Refusals, in order: 1, 2, 5, 6, 7, 8."""
+    """The plane after a pass, and its counts. Refusals, in order: 1, 2, 5, 6, 7, 8, 18."""
     h, w = _plane_sides(plane)
     new = _copy(plane)
-    counts = _counted(_library.mlhe_pass, *_lent(new), *_memory(w * h), w, h, *_pass(one))
+    *numbers, rule = _pass(one)
+    counts = _counted(_library.mlhe_pass, *_lent(new), *_memory(w * h), w, h, *numbers, *_lent_rule(rule))
     return Retoned(new, counts)
 
 
 def run_list(plane, data):
     """The plane after the passes of a list, in the bytes of a file, and the sums of their counts. Refusals, in order:
-    1, 2, 16, 15, 16, then for each pass 17, 5, 6, 7, 8."""
+    1, 2, 16, 15, 16, then for each pass 17, 5, 6, 7, 8, 18."""
     h, w = _plane_sides(plane)
     new = _copy(plane)
     counts = _counted(_library.mlhe_run_list, *_lent(_bytes(data), new), *_memory(w * h), w, h)
@@ -308,11 +329,11 @@ def run_list(plane, data):
 
 def pass_list(passes):
     """The bytes of the list of these passes. Refusals, in order: 16 for more than 1,024, then for each pass 5, 6, 7,
-    8."""
+    8, 18."""
     records = []
     for one in passes:
-        a, b, area, rule, first, second = _pass(one)
-        records.append(struct.pack("<BBBBIHH", a, b, rule, 0, area, first, second))
+        a, b, area, (code, first, second, segments) = _pass(one)
+        records.append(struct.pack("<BBBBIHH", a, b, code, segments, area, first, second))
     if len(records) >= 2**16:
         raise Refused(16)
     data = b"MLP" + struct.pack("<HH", 1, len(records)) + b"".join(records)
@@ -322,10 +343,10 @@ def pass_list(passes):
 
 def enhance(frame, *, last=HOUSE.last, area=HOUSE.area, rule=HOUSE.rule):
     """Enhances a frame: intensity, the passes of the levels 0 to `last`, and recolouring. Answers the recoloured frame,
-    the plane and the sums of the passes' counts. Refusals, in order: 1, 2, 9, 6, 7, 8."""
+    the plane and the sums of the passes' counts. Refusals, in order: 1, 2, 9, 6, 7, 8, 18."""
     h, w = _frame_sides(frame)
     plane, output = _new(h, w), _new(h, w, 3)
-    settings = _number("last", last, 8), _number("area", area, 32), *_rule(rule)
+    settings = _number("last", last, 8), _number("area", area, 32), *_lent_rule(_rule(rule))
     counts = _counted(_library.mlhe_enhance, *_lent(frame.tobytes()), w, h, *settings, *_lent(plane), *_memory(w * h),
                       *_lent(output))
     return Enhanced(output, plane, counts)

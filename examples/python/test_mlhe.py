@@ -17,7 +17,7 @@ from pathlib import Path
 import numpy
 
 import mlhe
-from mlhe import Counts, Limited, Pass, Plain, Refused
+from mlhe import Affine, Counts, Limited, Pass, Plain, Refused
 
 REPOSITORY = Path(__file__).resolve().parents[2]
 ANY = Plain(0, 25_500)
@@ -60,6 +60,12 @@ class Examples(unittest.TestCase):
         self.after_pass(row(10, 10, 20, 30), 0, 255, row(128, 128, 191, 255), 1, 0, rule=Limited(1_000))
         self.after_pass(row(10, 10, 20, 30), 0, 255, row(11, 11, 21, 31), 1, 0, rule=Limited(0))
 
+    def test_affine(self):
+        self.after_pass(row(10, 10, 20, 30), 0, 255, row(128, 128, 191, 255), 1, 0, rule=Affine(2, 100, 10_000))
+        self.after_pass(row(10, 10, 20, 30), 0, 255, row(10, 10, 20, 30), 0, 1, rule=Affine(2, 100, 300))
+        self.after_pass(row(10, 10, 20, 30), 0, 255, row(85, 85, 170, 255), 1, 0, rule=Affine(1, 0, 10_000))
+        self.after_pass(row(7, 7), 7, 7, row(7, 7), 0, 1, rule=Affine(1, 0, 10_000))
+
     def test_j(self):
         plane = numpy.array([[10, 200], [200, 20]], numpy.uint8)
         self.after_pass(plane, 0, 127, plane, 0, 2)
@@ -79,6 +85,8 @@ class Examples(unittest.TestCase):
         self.assertEqual(mlhe.enhance(frame).counts, Counts(retoned=0, kept=8))
         self.assertEqual(mlhe.enhance(frame, area=65).counts, Counts(retoned=0, kept=1))
         self.assertEqual(mlhe.enhance(frame, rule=Limited(300)).counts, Counts(retoned=8, kept=0))
+        self.assertEqual(mlhe.enhance(frame, rule=Affine(1, 0, 10_000)).counts, Counts(retoned=8, kept=0))
+        self.assertEqual(mlhe.enhance(frame, rule=Affine(1, 0, 100)).counts, Counts(retoned=0, kept=8))
 
     def test_n_and_o(self):
         for new, expected in (120, (240, 120, 0)), (150, (255, 128, 0)):
@@ -98,6 +106,19 @@ class Examples(unittest.TestCase):
             retoned = mlhe.run_list(row(10, 20, 200, 10, 10), given)
             numpy.testing.assert_array_equal(retoned.plane, row(64, 127, 200, 10, 10))
             self.assertEqual(retoned.counts, Counts(1, 1))
+
+    def test_a_list_of_all_rules(self):
+        passes = [Pass(0, 255, 1, Affine(2, 100, 10_000)), Pass(0, 200, 1, ANY), Pass(100, 200, 1, Limited(10))]
+        data = bytes.fromhex("4D4C5001000300 00FF02020100000064001027 00C800000100000000009C63"
+                             "64C80100010000000A000000")
+        self.assertEqual(mlhe.pass_list(passes), data)
+        plane = row(10, 10, 20, 30)
+        for one in passes:
+            plane = mlhe.run_pass(plane, one).plane
+        left = mlhe.run_list(row(10, 10, 20, 30), data)
+        for new in plane, left.plane:
+            numpy.testing.assert_array_equal(new, row(134, 134, 200, 255))
+        self.assertEqual(left.counts, Counts(3, 0))
 
 
 class Refusals(unittest.TestCase):
@@ -132,20 +153,27 @@ class Refusals(unittest.TestCase):
                  (6, Pass(0, 255, 2**32 + 1, ANY)), (7, Pass(0, 255, 1, Plain(81, 80))),
                  (7, Pass(0, 255, 1, Plain(0, 25_501))), (7, Pass(0, 255, 1, Plain(0, 2**16))),
                  (7, Pass(0, 255, 1, Plain(2**16, 80))), (8, Pass(0, 255, 1, Limited(1_001))),
-                 (8, Pass(0, 255, 1, Limited(2**16)))]
+                 (8, Pass(0, 255, 1, Limited(2**16))), (5, Pass(9, 8, 1, Affine(0, 0, 0))),
+                 (6, Pass(0, 255, 0, Affine(0, 0, 0))), (18, Pass(0, 255, 1, Affine(0, 0, 0))),
+                 (18, Pass(0, 255, 1, Affine(17, 0, 0))), (18, Pass(0, 255, 1, Affine(257, 0, 0))),
+                 (18, Pass(0, 255, 1, Affine(1, 101, 100))), (18, Pass(0, 255, 1, Affine(1, 2**16, 10_000))),
+                 (18, Pass(0, 255, 1, Affine(1, 0, 10_001))), (18, Pass(0, 255, 1, Affine(1, 0, 2**16)))]
         for number, one in cases:
             self.refused(number, mlhe.run_pass, plane, one)
             self.refused(number, mlhe.pass_list, [Pass(0, 255, 1, ANY), one])
 
     def test_settings(self):
         for number, names in (9, {"last": 8}), (9, {"last": 256}), (6, {"area": 0}), (6, {"area": 2**32 + 1}), \
-                (7, {"rule": Plain(81, 80)}), (8, {"rule": Limited(1_001)}), (9, {"last": 8, "area": 0}):
+                (7, {"rule": Plain(81, 80)}), (8, {"rule": Limited(1_001)}), (9, {"last": 8, "area": 0}), \
+                (18, {"rule": Affine(0, 0, 0)}), (18, {"rule": Affine(1, 0, 10_001)}), \
+                (9, {"last": 8, "rule": Affine(0, 0, 0)}), (6, {"area": 0, "rule": Affine(0, 0, 0)}):
             self.refused(number, mlhe.enhance, grey(1, 2), **names)
 
     def test_lists(self):
         plane, good = row(1, 2), mlhe.pass_list([Pass(0, 127, 1, ANY)])
         for number, data in (16, b""), (16, b"MLP"), (15, b"MLQ\1\0\0\0"), (15, b"MLP\2\0\0\0"), (16, good + b"\0"), \
-                (16, b"MLP\1\0\1\4" + good[7:] * 1_025), (17, good[:9] + b"\2" + good[10:]):
+                (16, b"MLP\1\0\1\4" + good[7:] * 1_025), (17, good[:9] + b"\3" + good[10:]), \
+                (17, good[:10] + b"\1" + good[11:]), (18, good[:9] + b"\2" + good[10:]):
             self.refused(number, mlhe.run_list, plane, data)
         self.assertEqual(mlhe.run_list(plane, mlhe.pass_list([Pass(0, 127, 1, ANY)] * 1_024)).counts, Counts(1_024, 0))
         for count in 1_025, 2**16 - 1, 2**16:
@@ -168,7 +196,8 @@ class Refusals(unittest.TestCase):
         self.assertRaises(TypeError, mlhe.run_pass, plane.astype(numpy.uint16), one)
         self.assertRaises(ValueError, mlhe.run_pass, frame, one)
         self.assertRaises(ValueError, mlhe.recolour, frame, frame)
-        for wrong in one._replace(a=256), one._replace(b=-1), one._replace(area=-1), one._replace(rule=Limited(-1)):
+        for wrong in one._replace(a=256), one._replace(b=-1), one._replace(area=-1), one._replace(rule=Limited(-1)), \
+                one._replace(rule=Affine(-1, 0, 0)), one._replace(rule=Affine(1, 0, -1)):
             self.assertRaises(ValueError, mlhe.run_pass, plane, wrong)
         for wrong in one._replace(a=1.0), one._replace(rule=(0, 1)), (0, 255, 1, ANY), one._replace(area="1"):
             self.assertRaises(TypeError, mlhe.run_pass, plane, wrong)
@@ -267,17 +296,22 @@ class Case:
     """A stored case, as the head of reference/src/cases.rs describes it."""
 
     KINDS = "intensity", "pass", "recolour", "enhance", "list", "passes", "read", "write", "program", "house"
-    HEAD = struct.Struct("<BBBBHHIBBHHHIIIHH")
+    HEAD = struct.Struct("<BBBBHHIBBHHHIIIHHB")
 
     def __init__(self, data, start):
         (kind, self.a, self.b, rule, first, second, self.area, self.last, self.same, self.marks, self.queue,
-         self.output, self.w, self.h, self.limit, bytes_length, plane_length) = self.HEAD.unpack_from(data, start)
+         self.output, self.w, self.h, self.limit, bytes_length, plane_length,
+         segments) = self.HEAD.unpack_from(data, start)
         self.kind = self.KINDS[kind]
-        self.rule = Limited(first) if rule else Plain(first, second)
+        self.rule = self.rule_of(rule, segments, first, second)
         start += self.HEAD.size
         self.bytes = data[start:start + bytes_length]
         self.plane = data[start + bytes_length:start + bytes_length + plane_length]
         self.end = start + bytes_length + plane_length
+
+    @staticmethod
+    def rule_of(code, segments, first, second):
+        return (Plain(first, second), Limited(first), Affine(segments, first, second))[code]
 
     def is_array(self):
         """Whether arrays can say the case: the lengths are those of the sides, and there is room."""
@@ -294,8 +328,8 @@ class Case:
         return self.kind in ("intensity", "recolour", "write") or min(self.marks, self.queue) >= n
 
     def passes(self):
-        for a, b, rule, _, area, first, second in struct.iter_unpack("<BBBBIHH", self.bytes):
-            yield Pass(a, b, area, Limited(first) if rule else Plain(first, second))
+        for a, b, rule, segments, area, first, second in struct.iter_unpack("<BBBBIHH", self.bytes):
+            yield Pass(a, b, area, self.rule_of(rule, segments, first, second))
 
     def frame(self):
         return numpy.frombuffer(self.bytes, numpy.uint8).reshape(self.h, self.w, 3)
@@ -390,8 +424,8 @@ class Header(unittest.TestCase):
 
     def test_arguments(self):
         types = {"const uint8_t *": mlhe._BYTES, "uint8_t *": mlhe._OUTPUT, "uint32_t *": mlhe._QUEUE,
-                 "size_t *": mlhe._NUMBERS, "size_t": ctypes.c_size_t, "uint8_t": ctypes.c_uint8,
-                 "uint16_t": ctypes.c_uint16, "uint32_t": ctypes.c_uint32}
+                 "size_t *": mlhe._NUMBERS, "const uint16_t *": mlhe._RULE, "size_t": ctypes.c_size_t,
+                 "uint8_t": ctypes.c_uint8, "uint32_t": ctypes.c_uint32}
         declared = dict(re.findall(r"^int64_t (mlhe_\w+)\(([^)]*)\);", self.header, re.MULTILINE))
         for name, arguments in mlhe._ARGUMENTS.items():
             words = [re.sub(r"\w+$", "", " ".join(argument.split())).strip() for argument in declared[name].split(",")]
@@ -405,6 +439,12 @@ class Header(unittest.TestCase):
         self.assertEqual(len(Counts._fields), numbers["MLHE_COUNTS"])
         for place, name in enumerate(Counts._fields):
             self.assertEqual(numbers[f"MLHE_{name.upper()}"], place)
+        rule = [0] * numbers["MLHE_RULE_NUMBERS"]
+        for name, number in ("CODE", numbers["MLHE_AFFINE"]), ("FIRST", 7), ("SECOND", 8), ("SEGMENTS", 9):
+            rule[numbers[f"MLHE_RULE_{name}"]] = number
+        self.assertEqual(mlhe._rule(Affine(segments=9, smin=7, smax=8)), tuple(rule))
+        self.assertEqual([mlhe._rule(rule)[0] for rule in (Plain(1, 2), Limited(3))],
+                         [numbers["MLHE_PLAIN"], numbers["MLHE_LIMITED"]])
         house = mlhe.Settings(numbers["MLHE_HOUSE_LAST"], numbers["MLHE_HOUSE_AREA"],
                               Plain(numbers["MLHE_HOUSE_LOW"], numbers["MLHE_HOUSE_HIGH"]))
         self.assertEqual(mlhe.HOUSE, house)

@@ -2,8 +2,8 @@
 //!
 //! # A case
 //!
-//! A file is a sequence of cases with nothing before, between or after them. A case has a head of 36 bytes, then
-//! `bytes`, then `plane`; the next case starts at 36 + length of bytes + length of plane. Numbers are stored low byte
+//! A file is a sequence of cases with nothing before, between or after them. A case has a head of 37 bytes, then
+//! `bytes`, then `plane`; the next case starts at 37 + length of bytes + length of plane. Numbers are stored low byte
 //! first. A call uses the fields that it needs; the others are there and mean nothing.
 //!
 //! | At | Size | Field |
@@ -11,9 +11,9 @@
 //! | 0 | 1 | kind: 0 intensity, 1 pass, 2 recolour, 3 enhance, 4 list, 5 passes, 6 read, 7 write, 8 program, 9 house |
 //! | 1 | 1 | a |
 //! | 2 | 1 | b |
-//! | 3 | 1 | rule: 0 plain, 1 limited; no other number occurs |
-//! | 4 | 2 | low of the plain rule, or k of the limited rule |
-//! | 6 | 2 | high of the plain rule, or 0 |
+//! | 3 | 1 | rule: 0 plain, 1 limited, 2 affine; no other number occurs |
+//! | 4 | 2 | low of the plain rule, k of the limited rule, or smin of the affine rule |
+//! | 6 | 2 | high of the plain rule, 0, or smax of the affine rule |
 //! | 8 | 4 | least area |
 //! | 12 | 1 | L, the last level |
 //! | 13 | 1 | same plane: 1 if the plane is the one that the case before left, else 0 |
@@ -25,15 +25,17 @@
 //! | 28 | 4 | pixel limit of the reader |
 //! | 32 | 2 | length of bytes, at most 12,320 |
 //! | 34 | 2 | length of plane, at most 288 |
-//! | 36 | | bytes: the frame (0, 2, 3, 9), the list (4), the passes (5), the input (6, 8) or the raster (7) |
+//! | 36 | 1 | N of the affine rule, else 0 |
+//! | 37 | | bytes: the frame (0, 2, 3, 9), the list (4), the passes (5), the input (6, 8) or the raster (7) |
 //! | | | plane: the plane's bytes before the call (0 to 5, 9) |
 //!
 //! An enhancement with the house setting (kind 9) has no settings in its head: it is made with those that the house
 //! setting's constructor gives, and its line ends with what the house setting's constants are. The head's own settings
 //! would be refused.
 //!
-//! Passes in memory (kind 5) are given by 12 bytes each: a, b, rule (0 or 1), 0, area (4 bytes), then low and high or
-//! k and 0 (2 bytes each). The list in memory has as many passes as `bytes` has twelves, at most 1,025.
+//! Passes in memory (kind 5) are given by 12 bytes each: a, b, rule (0 to 2), N of the affine rule or 0, area (4
+//! bytes), then low and high, k and 0, or smin and smax (2 bytes each). The list in memory has as many passes as
+//! `bytes` has twelves, at most 1,025.
 //!
 //! # Running a case
 //!
@@ -65,7 +67,7 @@ use crate::{enhance, intensity, pass, program, read, recolour, run_list, run_pas
 use crate::{Counts, Pass, Rule, Settings};
 
 /// The length of a case's head.
-pub const HEAD: usize = 36;
+pub const HEAD: usize = 37;
 
 /// The greatest lengths that a case may have.
 pub const GREATEST_BYTES: usize = 12_320;
@@ -113,6 +115,7 @@ pub struct Case {
     pub a: u8,
     pub b: u8,
     pub rule: u8,
+    pub segments: u8,
     pub numbers: [u16; 2],
     pub area: u32,
     pub last_level: u8,
@@ -144,6 +147,7 @@ pub fn encode(case: &Case) -> Vec<u8> {
     stored.extend(case.limit.to_le_bytes());
     stored.extend(length(&case.bytes));
     stored.extend(length(&case.plane));
+    stored.push(case.segments);
     assert_eq!(stored.len(), HEAD);
     stored.extend(&case.bytes);
     stored.extend(&case.plane);
@@ -162,6 +166,7 @@ pub fn decode(file: &[u8]) -> (Case, &[u8]) {
         a: file[1],
         b: file[2],
         rule: file[3],
+        segments: file[36],
         numbers: [short(4), short(6)],
         area: long(8),
         last_level: file[12],
@@ -204,7 +209,7 @@ fn answer(case: &Case, plane: &mut Vec<u8>) -> String {
     let mut output = vec![OUTPUT_FILL; usize::from(case.output)];
     let (w, h) = (case.w as usize, case.h as usize);
     let (marks, queue) = (usize::from(case.marks), usize::from(case.queue));
-    let rule = rule_of(case.rule, case.numbers);
+    let rule = rule_of(case.rule, case.segments, case.numbers);
     // Here marks and queue are lengths alone, so no entry of them can have changed.
     let strays = 0;
     match case.kind {
@@ -251,13 +256,14 @@ fn answer(case: &Case, plane: &mut Vec<u8>) -> String {
     }
 }
 
-/// The tone rule of a case or of a record.
-fn rule_of(rule: u8, numbers: [u16; 2]) -> Rule {
+/// The tone rule that a case or a pass in memory has.
+pub fn rule_of(rule: u8, segments: u8, numbers: [u16; 2]) -> Rule {
     let [first, second] = numbers.map(u32::from);
-    if rule == 0 {
-        Rule::Plain { low: first, high: second }
-    } else {
-        Rule::Limited { k: first }
+    match rule {
+        0 => Rule::Plain { low: first, high: second },
+        1 => Rule::Limited { k: first },
+        2 => Rule::Affine { segments: segments.into(), smin: first, smax: second },
+        _ => panic!("no case has the rule {rule}"),
     }
 }
 
@@ -265,14 +271,14 @@ fn rule_of(rule: u8, numbers: [u16; 2]) -> Rule {
 fn pass_of(record: &[u8]) -> Pass {
     let short = |at: usize| u16::from_le_bytes([record[at], record[at + 1]]);
     let area = u32::from(short(4)) + 65_536 * u32::from(short(6));
-    Pass { a: record[0], b: record[1], area, rule: rule_of(record[2], [short(8), short(10)]) }
+    Pass { a: record[0], b: record[1], area, rule: rule_of(record[2], record[3], [short(8), short(10)]) }
 }
 
 /// The numbers of settings with the plain rule, which the house setting is.
 fn numbers(settings: &Settings) -> String {
     match settings.rule {
         Rule::Plain { low, high } => format!("{} {} {low} {high}", settings.last_level, settings.area),
-        Rule::Limited { .. } => panic!("the house setting is plain"),
+        _ => panic!("the house setting is plain"),
     }
 }
 

@@ -8,11 +8,11 @@
 //! | Call | Does | Refusals, in the order of the tests |
 //! |---|---|---|
 //! | [`intensity`] | fills a plane with the rounded mean of the channels | 1, 2, 3 |
-//! | [`pass`] | retones the components of one section | 1 to 8 |
+//! | [`pass`] | retones the components of one section | 1 to 8, 18 |
 //! | [`recolour`] | carries new intensities over to the channels | 1, 2, 3, 14 |
-//! | [`enhance`] | the eight-level recursion, then the colours | 1, 2, 3, 4, 14, 9, 6, 7, 8 |
-//! | [`run_list`] | runs the passes of a list of bytes | 1 to 4, 16 (under 7 bytes), 15, 16, records 17, 5, 6, 7, 8 |
-//! | [`run_passes`] | runs the passes of a list in memory | 1 to 4, 16, passes 5, 6, 7, 8 |
+//! | [`enhance`] | the eight-level recursion, then the colours | 1, 2, 3, 4, 14, 9, 6, 7, 8, 18 |
+//! | [`run_list`] | runs the passes of a list of bytes | 1 to 4, 16 (under 7 bytes), 15, 16, records 17, 5 to 8, 18 |
+//! | [`run_passes`] | runs the passes of a list in memory | 1 to 4, 16, passes 5 to 8, 18 |
 //! | [`read`] | reads the header of a P6 frame, comments too, and measures the rest | 10, 1, 2, 11, 12, 13 |
 //! | [`write`] | writes a P6 frame | 1, 2, 3, 14 |
 //! | [`program`] | standard input to standard output | 13 (long input), then as above |

@@ -29,7 +29,7 @@ pub fn run_list(
 }
 
 /// The passes of a list in its file format, all of them sound. Refusals: 16 (under 7 bytes), 15, 16, then for each
-/// record 17, 5, 6, 7, 8.
+/// record 17, 5, 6, 7, 8, 18.
 pub fn list_passes(bytes: &[u8]) -> Result<Vec<Pass>, Refusal> {
     refuse_if(bytes.len() < HEAD, 16)?;
     refuse_if(&bytes[..3] != b"MLP" || number16(bytes, 3) != 1, 15)?;
@@ -65,17 +65,19 @@ fn run_all(passes: &[Pass], plane: &mut [u8], w: usize, h: usize) -> Counts {
     passes.iter().map(|pass| run(plane, w, h, pass)).sum()
 }
 
-/// 17, and the pass that a record stands for.
+/// 17, and the pass that a record stands for. The byte after the rule is N of the affine rule, and 0 for the others.
 fn record_pass(record: &[u8]) -> Result<Pass, Refusal> {
-    let (rule, zero) = (record[2], record[3]);
+    let segments = u32::from(record[3]);
     let (first, second) = (number16(record, 8), number16(record, 10));
-    refuse_if(rule > 1 || zero != 0 || (rule == 1 && second != 0), 17)?;
-    Ok(Pass {
-        a: record[0],
-        b: record[1],
-        area: number16(record, 4) + 65_536 * number16(record, 6),
-        rule: if rule == 0 { Rule::Plain { low: first, high: second } } else { Rule::Limited { k: first } },
-    })
+    let (rule, zeros) = match record[2] {
+        0 => (Rule::Plain { low: first, high: second }, segments == 0),
+        1 => (Rule::Limited { k: first }, segments == 0 && second == 0),
+        2 => (Rule::Affine { segments, smin: first, smax: second }, true),
+        _ => return Err(17),
+    };
+    refuse_if(!zeros, 17)?;
+    let area = number16(record, 4) + 65_536 * number16(record, 6);
+    Ok(Pass { a: record[0], b: record[1], area, rule })
 }
 
 /// The 16-bit number at a place, low byte first.
@@ -83,8 +85,8 @@ fn number16(bytes: &[u8], at: usize) -> u32 {
     u32::from(bytes[at]) + 256 * u32::from(bytes[at + 1])
 }
 
-/// The file format of a list. The numbers of the rules must be below 65,536 and there must be fewer than 65,536
-/// passes; nothing else is tested.
+/// The file format of a list. The numbers of the rules must be below 65,536, N below 256, and there must be fewer than
+/// 65,536 passes; nothing else is tested.
 pub fn list_bytes(passes: &[Pass]) -> Vec<u8> {
     fn short(number: usize) -> [u8; 2] {
         u16::try_from(number).expect("a 16-bit number").to_le_bytes()
@@ -93,11 +95,12 @@ pub fn list_bytes(passes: &[Pass]) -> Vec<u8> {
     bytes.extend(short(1));
     bytes.extend(short(passes.len()));
     for pass in passes {
-        let (rule, first, second) = match pass.rule {
-            Rule::Plain { low, high } => (0, low, high),
-            Rule::Limited { k } => (1, k, 0),
+        let (rule, segments, first, second) = match pass.rule {
+            Rule::Plain { low, high } => (0, 0, low, high),
+            Rule::Limited { k } => (1, 0, k, 0),
+            Rule::Affine { segments, smin, smax } => (2, segments, smin, smax),
         };
-        bytes.extend([pass.a, pass.b, rule, 0]);
+        bytes.extend([pass.a, pass.b, rule, u8::try_from(segments).expect("an 8-bit number")]);
         bytes.extend(pass.area.to_le_bytes());
         bytes.extend(short(first as usize));
         bytes.extend(short(second as usize));

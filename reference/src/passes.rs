@@ -36,7 +36,7 @@ pub(crate) fn lent_plane(plane: &[u8], marks_len: usize, queue_len: usize, w: us
     refusals::memory(marks_len, queue_len, n)
 }
 
-/// 5 to 8, in this order: the numbers of the pass.
+/// 5 to 8 and 18, in this order: the numbers of the pass.
 pub(crate) fn sound(pass: &Pass) -> Result<(), Refusal> {
     refuse_if(pass.a > pass.b, 5)?;
     refusals::area(pass.area)?;

@@ -2,7 +2,7 @@
 
 use crate::Rule;
 
-/// The number of a refusal, 1 to 17.
+/// The number of a refusal, 1 to 18.
 pub type Refusal = u8;
 
 /// The greatest width and the greatest height.
@@ -16,6 +16,12 @@ const GREATEST_HIGH: u32 = 25_500;
 
 /// The greatest clip of the limited rule, in thousandths.
 const GREATEST_CLIP: u32 = 1_000;
+
+/// The greatest number of segments of the affine rule.
+const GREATEST_SEGMENTS: u32 = 16;
+
+/// The greatest slope of the affine rule, in hundredths.
+const GREATEST_SLOPE: u32 = 10_000;
 
 /// Refuses with the number if the test passes.
 pub(crate) fn refuse_if(test: bool, number: Refusal) -> Result<(), Refusal> {
@@ -45,10 +51,14 @@ pub(crate) fn area(area: u32) -> Result<(), Refusal> {
     refuse_if(area == 0 || area as usize > GREATEST_PIXELS, 6)
 }
 
-/// 7 for the plain rule, 8 for the limited rule.
+/// 7 for the plain rule, 8 for the limited rule, 18 for the affine rule.
 pub(crate) fn rule(rule: &Rule) -> Result<(), Refusal> {
     match *rule {
         Rule::Plain { low, high } => refuse_if(low > high || high > GREATEST_HIGH, 7),
         Rule::Limited { k } => refuse_if(k > GREATEST_CLIP, 8),
+        Rule::Affine { segments, smin, smax } => {
+            let possible = 1..=GREATEST_SEGMENTS;
+            refuse_if(!possible.contains(&segments) || smin > smax || smax > GREATEST_SLOPE, 18)
+        }
     }
 }

@@ -53,6 +53,24 @@ fn the_limited_rule_keeps_nothing() {
     }
 }
 
+/// Kept back where D = 0 or the last height is too low. Of one value, with one segment it gets there unless it is a;
+/// with two it has half the height by its share, and needs smin for the rest.
+#[test]
+fn the_affine_rule_keeps_what_does_not_reach_the_end() {
+    let affine = |segments, smin, smax| Rule::Affine { segments, smin, smax };
+    let over = |a, b, area, rule| of_pass(&ISLANDS, 5, &Pass { a, b, area, rule });
+    let of_areas = |rule| [1, 2, 3, 4, 5].map(|area| over(0, 127, area, rule));
+    assert_eq!(of_areas(affine(1, 0, 10_000)), [(4, 0), (3, 0), (3, 0), (2, 0), (0, 0)]);
+    assert_eq!(of_areas(affine(2, 0, 10_000)), [(1, 3), (1, 2), (1, 2), (1, 1), (0, 0)]);
+    assert_eq!(of_areas(affine(2, 0, 100)), [(0, 4), (0, 3), (0, 3), (0, 2), (0, 0)]);
+    // From 40 to 127 it takes a slope of 3.175.
+    assert_eq!([316, 317, 318].map(|smin| over(0, 127, 4, affine(2, smin, 10_000))), [(1, 1), (1, 1), (2, 0)]);
+    assert_eq!(over(200, 200, 1, affine(16, 10_000, 10_000)), (0, 1));
+    assert_eq!(over(70, 71, 1, affine(1, 10_000, 10_000)), (0, 1));
+    assert_eq!(over(69, 70, 1, affine(1, 100, 100)), (1, 0));
+    assert_eq!(over(71, 199, 1, affine(1, 0, 10_000)), (0, 0));
+}
+
 /// It had the rule, which has left every value as it was.
 #[test]
 fn what_comes_out_as_it_was_is_retoned() {
@@ -60,6 +78,10 @@ fn what_comes_out_as_it_was_is_retoned() {
     let mut plane = [0, 1, 1];
     assert_eq!(pass(&mut plane, 3, 3, 3, 1, &one), Ok(Counts { retoned: 1, kept: 0 }));
     assert_eq!(plane, [0, 1, 1]);
+    let one = Pass { a: 3, b: 9, rule: Rule::Affine { segments: 5, smin: 100, smax: 100 }, ..one };
+    let mut plane = [3, 5, 9];
+    assert_eq!(pass(&mut plane, 3, 3, 3, 1, &one), Ok(Counts { retoned: 1, kept: 0 }));
+    assert_eq!(plane, [3, 5, 9]);
 }
 
 /// Kept once at each level that it is entered at: at level 0 in any case, at the others if it has the least area.
@@ -97,6 +119,8 @@ fn a_list_sums_both_counts() {
         Pass { a: 200, b: 200, area: 2, rule: HOUSE },
         Pass { a: 200, b: 200, area: 2, rule: Rule::Limited { k: 500 } },
         Pass { a: 0, b: 127, area: 3, rule: Rule::Limited { k: 1_000 } },
+        Pass { a: 0, b: 127, area: 1, rule: Rule::Affine { segments: 2, smin: 0, smax: 10_000 } },
+        Pass { a: 0, b: 254, area: 20, rule: Rule::Affine { segments: 1, smin: 50, smax: 300 } },
     ];
     let mut plane = ISLANDS;
     let mut found = Vec::new();
@@ -104,8 +128,8 @@ fn a_list_sums_both_counts() {
         found.push(of_pass(&plane, 5, one));
         pass(&mut plane, 20, 20, 5, 4, one).expect("accepted");
     }
-    assert_eq!(found, [(0, 2), (1, 3), (0, 2), (0, 0), (0, 1), (1, 0), (3, 0)]);
-    let sums = Ok(Counts { retoned: 5, kept: 8 });
+    assert_eq!(found, [(0, 2), (1, 3), (0, 2), (0, 0), (0, 1), (1, 0), (3, 0), (1, 3), (1, 0)]);
+    let sums = Ok(Counts { retoned: 7, kept: 11 });
     assert_eq!(run_passes(&passes, &mut ISLANDS.clone(), 20, 20, 5, 4), sums);
     assert_eq!(run_list(&list_bytes(&passes), &mut ISLANDS.clone(), 20, 20, 5, 4), sums);
     assert_eq!(run_list(&list_bytes(&[]), &mut ISLANDS.clone(), 20, 20, 5, 4), Ok(Counts::default()));
@@ -122,7 +146,9 @@ fn planes_with_many_components_of_one_value() {
         let places: Vec<u8> = (0..256).map(|_| random.one_of(&values)).collect();
         let plane: Vec<u8> = (0..w * h).map(|p| places[p % w / block + p / w / block * 16]).collect();
         let area = random.one_of(&[1, block * block, block * block + 1, w * h - 1, w * h, w * h + 1]).max(1) as u32;
-        let rule = random.one_of(&[FREE, HOUSE, Rule::Plain { low: 0, high: 100 }, Rule::Limited { k: 100 }]);
+        let affine = Rule::Affine { segments: random.between(1, 3) as u32, smin: 100, smax: 10_000 };
+        let narrow = Rule::Plain { low: 0, high: 100 };
+        let rule = random.one_of(&[FREE, HOUSE, narrow, Rule::Limited { k: 100 }, affine]);
         let a = random.one_of(&values);
         of_pass(&plane, w, &Pass { a, b: a.saturating_add(random.one_of(&[0, 1, 60])), area, rule });
         for last_level in 0..=7 {

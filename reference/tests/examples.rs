@@ -1,7 +1,7 @@
-//! The examples A to Q of the requirements (docs/REQUIREMENTS.md).
+//! The examples of the requirements (docs/REQUIREMENTS.md): A to Q, and A by the affine rule.
 
 use mlhe_reference::{enhance, intensity, level_by_level, pass, program, recolour, run_list, run_passes};
-use mlhe_reference::{list_bytes, Counts, Pass, Rule, Settings};
+use mlhe_reference::{list_bytes, list_passes, Counts, Pass, Rule, Settings};
 
 const FREE: Rule = Rule::Plain { low: 0, high: 25_500 };
 
@@ -67,6 +67,38 @@ fn g_h_and_i_limited() {
 fn a_limited_component_is_never_kept() {
     assert_eq!(run(&[9, 9, 9], 3, 9, 9, 1, Rule::Limited { k: 10 }), (vec![9, 9, 9], both(1, 0)));
     assert_eq!(run(&[9, 9, 9], 3, 9, 9, 1, FREE), (vec![9, 9, 9], both(0, 1)));
+}
+
+#[test]
+fn a_affine() {
+    let a = [10, 10, 20, 30];
+    let affine = |smin, smax| Rule::Affine { segments: 2, smin, smax };
+    assert_eq!(run(&a, 4, 0, 255, 1, affine(100, 10_000)), (vec![128, 128, 191, 255], both(1, 0)));
+    assert_eq!(run(&a, 4, 0, 255, 1, affine(100, 300)), (a.to_vec(), both(0, 1)));
+}
+
+/// Each component by itself, and only those of the least area: 10 and 20 become 64 and 127; 10 10 is kept back.
+#[test]
+fn affine_components_and_area() {
+    let plane = [10, 20, 200, 10, 10];
+    let affine = Rule::Affine { segments: 2, smin: 0, smax: 10_000 };
+    assert_eq!(run(&plane, 5, 0, 127, 1, affine), (vec![64, 127, 200, 10, 10], both(1, 1)));
+    assert_eq!(run(&plane, 5, 0, 127, 3, affine), (plane.to_vec(), both(0, 0)));
+    let straight = Rule::Affine { segments: 1, smin: 0, smax: 10_000 };
+    assert_eq!(run(&plane, 5, 0, 127, 1, straight), (vec![64, 127, 200, 127, 127], both(2, 0)));
+}
+
+/// 10 and 20 become the ends of [128, 255], which stay as they are: retoned at level 1, and kept back below it, where
+/// each is alone in its section.
+#[test]
+fn affine_enhancement() {
+    let rule = Rule::Affine { segments: 2, smin: 0, smax: 10_000 };
+    let (plane, counts, _) = enhanced(&[10, 20], 0, 20, rule);
+    assert_eq!((plane, counts), (vec![128, 255], both(1, 0)));
+    let (plane, counts, _) = enhanced(&[10, 20], 1, 1, rule);
+    assert_eq!((plane, counts), (vec![128, 255], both(2, 0)));
+    let (plane, counts, _) = enhanced(&[10, 20], 7, 1, rule);
+    assert_eq!((plane, counts), (vec![128, 255], both(2, 12)));
 }
 
 #[test]
@@ -144,6 +176,37 @@ fn q_list() {
     let mut plane = [10, 20, 200, 10, 10];
     assert_eq!(run_passes(&passes, &mut plane, 5, 5, 5, 1), Ok(both(1, 1)));
     assert_eq!(plane, [64, 127, 200, 10, 10]);
+}
+
+/// A record of the affine rule has N after the rule, and the slopes where the others have their numbers.
+#[test]
+fn a_list_with_the_affine_rule() {
+    let list = *b"MLP\x01\0\x01\0\x00\xFF\x02\x02\x01\0\0\0\x64\x00\x10\x27";
+    let mut plane = [10, 10, 20, 30];
+    assert_eq!(run_list(&list, &mut plane, 4, 4, 4, 1), Ok(both(1, 0)));
+    assert_eq!(plane, [128, 128, 191, 255]);
+
+    let rule = Rule::Affine { segments: 2, smin: 100, smax: 10_000 };
+    let passes = [Pass { a: 0, b: 255, area: 1, rule }];
+    assert_eq!(list_bytes(&passes), list);
+    assert_eq!(list_passes(&list), Ok(passes.to_vec()));
+    let mut plane = [10, 10, 20, 30];
+    assert_eq!(run_passes(&passes, &mut plane, 4, 4, 4, 1), Ok(both(1, 0)));
+    assert_eq!(plane, [128, 128, 191, 255]);
+}
+
+/// Lists of all three rules read back as they were written.
+#[test]
+fn lists_read_back() {
+    let rules = [
+        Rule::Plain { low: 80, high: 300 },
+        Rule::Limited { k: 1_000 },
+        Rule::Affine { segments: 1, smin: 0, smax: 0 },
+        Rule::Affine { segments: 16, smin: 10_000, smax: 10_000 },
+        FREE,
+    ];
+    let passes: Vec<Pass> = rules.iter().map(|&rule| Pass { a: 1, b: 254, area: 1_048_576, rule }).collect();
+    assert_eq!(list_passes(&list_bytes(&passes)), Ok(passes));
 }
 
 /// The whole recursion is a list of 255 passes that can be run.

@@ -6,7 +6,7 @@ use mlhe_reference::random::Random;
 use mlhe_reference::{enhance, intensity, level_by_level, pass, recolour, run_passes, sufficient, sufficient_in_all};
 use mlhe_reference::{Pass, Rule, Settings};
 
-const RULES: [Rule; 7] = [
+const RULES: [Rule; 10] = [
     Rule::Plain { low: 0, high: 25_500 },
     Rule::Plain { low: 80, high: 300 },
     Rule::Plain { low: 0, high: 150 },
@@ -14,6 +14,9 @@ const RULES: [Rule; 7] = [
     Rule::Limited { k: 0 },
     Rule::Limited { k: 300 },
     Rule::Limited { k: 1_000 },
+    Rule::Affine { segments: 1, smin: 0, smax: 10_000 },
+    Rule::Affine { segments: 2, smin: 100, smax: 300 },
+    Rule::Affine { segments: 5, smin: 200, smax: 10_000 },
 ];
 
 /// Enhances a grey frame of these intensities and runs the list on the same plane.
@@ -98,12 +101,16 @@ fn random_plane(random: &mut Random, n: usize) -> Vec<u8> {
 }
 
 fn random_rule(random: &mut Random) -> Rule {
-    let numbers = [0, 1, 50, 80, 100, 120, 300, 1_000, 25_500];
-    if random.below(3) > 0 {
-        let (low, high) = (random.one_of(&numbers), random.one_of(&numbers));
-        Rule::Plain { low: low.min(high), high: low.max(high) }
-    } else {
-        Rule::Limited { k: random.between(0, 1_000) as u32 }
+    let mut two = |numbers: &[u32]| {
+        let (one, other) = (random.one_of(numbers), random.one_of(numbers));
+        (one.min(other), one.max(other))
+    };
+    let (low, high) = two(&[0, 1, 50, 80, 100, 120, 300, 1_000, 25_500]);
+    let (smin, smax) = two(&[0, 1, 50, 100, 300, 1_000, 9_999, 10_000]);
+    match random.below(5) {
+        0 | 1 => Rule::Plain { low, high },
+        2 => Rule::Limited { k: random.between(0, 1_000) as u32 },
+        _ => Rule::Affine { segments: random.between(1, 16) as u32, smin, smax },
     }
 }
 

@@ -8,6 +8,20 @@ use mlhe_reference::{Counts, Frame, Pass, Rule, Settings, GREATEST_PIXELS};
 const FREE: Rule = Rule::Plain { low: 0, high: 25_500 };
 const SOUND: Pass = Pass { a: 0, b: 255, area: 1, rule: FREE };
 
+/// Numbers of the affine rule that are refused.
+const WRONG_SLOPES: [Rule; 7] = [
+    Rule::Affine { segments: 0, smin: 100, smax: 300 },
+    Rule::Affine { segments: 17, smin: 100, smax: 300 },
+    Rule::Affine { segments: 255, smin: 100, smax: 300 },
+    Rule::Affine { segments: 2, smin: 301, smax: 300 },
+    Rule::Affine { segments: 2, smin: 1, smax: 0 },
+    Rule::Affine { segments: 2, smin: 100, smax: 10_001 },
+    Rule::Affine { segments: 2, smin: 10_001, smax: 10_001 },
+];
+
+/// Refusals of which a rule's numbers can have but one.
+const APART: [(u8, u8); 3] = [(7, 8), (7, 18), (8, 18)];
+
 /// A fault: its number and how it is made.
 type Fault<Call> = (u8, fn(&mut Call));
 
@@ -143,7 +157,7 @@ fn intensity_1_2_3() {
 }
 
 #[test]
-fn pass_1_to_8() {
+fn pass_1_to_8_and_18() {
     let faults: Vec<Fault<Call>> = vec![
         NO_WIDTH,
         NO_HEIGHT,
@@ -162,8 +176,11 @@ fn pass_1_to_8() {
         (7, |call| call.pass.rule = Rule::Plain { low: 81, high: 80 }),
         (7, |call| call.pass.rule = Rule::Plain { low: 0, high: 25_501 }),
         (8, |call| call.pass.rule = Rule::Limited { k: 1_001 }),
+        (18, |call| call.pass.rule = WRONG_SLOPES[0]),
+        (18, |call| call.pass.rule = WRONG_SLOPES[3]),
+        (18, |call| call.pass.rule = WRONG_SLOPES[5]),
     ];
-    faults_answer_in_order(&sound_call(), &faults, &[(7, 8)], run_pass);
+    faults_answer_in_order(&sound_call(), &faults, &APART, run_pass);
 }
 
 #[test]
@@ -174,7 +191,7 @@ fn recolour_1_2_3_14() {
 }
 
 #[test]
-fn enhancement_1_2_3_4_14_9_6_7_8() {
+fn enhancement_1_2_3_4_14_9_6_7_8_18() {
     let faults: Vec<Fault<Call>> = vec![
         NO_WIDTH,
         NO_HEIGHT,
@@ -196,8 +213,11 @@ fn enhancement_1_2_3_4_14_9_6_7_8() {
         (7, |call| call.settings.rule = Rule::Plain { low: 81, high: 80 }),
         (7, |call| call.settings.rule = Rule::Plain { low: 25_501, high: 25_501 }),
         (8, |call| call.settings.rule = Rule::Limited { k: 1_001 }),
+        (18, |call| call.settings.rule = WRONG_SLOPES[1]),
+        (18, |call| call.settings.rule = WRONG_SLOPES[4]),
+        (18, |call| call.settings.rule = WRONG_SLOPES[6]),
     ];
-    faults_answer_in_order(&sound_call(), &faults, &[(7, 8)], run_enhance);
+    faults_answer_in_order(&sound_call(), &faults, &APART, run_enhance);
 }
 
 /// Faults of a list in the order of the tests, up to its records.
@@ -229,7 +249,7 @@ fn list_faults() -> Vec<Fault<Call>> {
 /// Faults of the first record, which starts at byte 7.
 fn first_record_faults() -> Vec<Fault<Call>> {
     vec![
-        (17, |call| call.list[7 + 2] = 2),
+        (17, |call| call.list[7 + 2] = 3),
         (17, |call| call.list[7 + 3] = 1),
         (17, |call| (call.list[7 + 2], call.list[7 + 10], call.list[7 + 11]) = (1, 1, 0)),
         (17, |call| (call.list[7 + 2], call.list[7 + 10], call.list[7 + 11]) = (1, 0, 1)),
@@ -240,6 +260,10 @@ fn first_record_faults() -> Vec<Fault<Call>> {
         (7, |call| (call.list[7 + 8], call.list[7 + 10], call.list[7 + 11]) = (81, 80, 0)),
         (7, |call| call.list[7 + 10] += 1),
         (8, |call| call.list[7 + 2..7 + 12].copy_from_slice(&[1, 0, 1, 0, 0, 0, 0xE9, 0x03, 0, 0])),
+        (18, |call| call.list[7 + 2..7 + 12].copy_from_slice(&[2, 0, 1, 0, 0, 0, 100, 0, 0x2C, 0x01])),
+        (18, |call| call.list[7 + 2..7 + 12].copy_from_slice(&[2, 17, 1, 0, 0, 0, 100, 0, 0x2C, 0x01])),
+        (18, |call| call.list[7 + 2..7 + 12].copy_from_slice(&[2, 2, 1, 0, 0, 0, 0x2D, 0x01, 0x2C, 0x01])),
+        (18, |call| call.list[7 + 2..7 + 12].copy_from_slice(&[2, 2, 1, 0, 0, 0, 100, 0, 0x11, 0x27])),
     ]
 }
 
@@ -252,14 +276,18 @@ fn second_record_faults() -> Vec<Fault<Call>> {
         (6, |call| call.list[19 + 4] = 0),
         (7, |call| call.list[19 + 11] = 255),
         (8, |call| call.list[19 + 2..19 + 12].copy_from_slice(&[1, 0, 1, 0, 0, 0, 0xFF, 0xFF, 0, 0])),
+        (18, |call| call.list[19 + 2..19 + 12].copy_from_slice(&[2, 255, 1, 0, 0, 0, 0, 0, 0, 0])),
+        (18, |call| call.list[19 + 2..19 + 12].copy_from_slice(&[2, 16, 1, 0, 0, 0, 0xFF, 0xFF, 0xFF, 0xFF])),
     ]
 }
 
+/// 17 and 18 meet in no record: a record with the affine rule never gets 17.
 #[test]
-fn list_1_to_4_16_15_16_and_each_record_17_5_6_7_8() {
+fn list_1_to_4_16_15_16_and_each_record_17_5_6_7_8_18() {
+    let apart = [&APART[..], &[(17, 18)]].concat();
     for record in [first_record_faults(), second_record_faults()] {
         let faults: Vec<Fault<Call>> = list_faults().into_iter().chain(record).collect();
-        faults_answer_in_order(&sound_call(), &faults, &[(7, 8)], run_list_call);
+        faults_answer_in_order(&sound_call(), &faults, &apart, run_list_call);
     }
     for (number, make) in first_record_faults() {
         for (_, make_other) in second_record_faults() {
@@ -268,6 +296,29 @@ fn list_1_to_4_16_15_16_and_each_record_17_5_6_7_8() {
             make_other(&mut call);
             assert_eq!(run_list_call(&call), Err(number));
         }
+    }
+}
+
+/// A rule above 2 gets 17 whatever the byte after it is, and so does that byte where it is set and the rule is 0 or 1.
+/// Where the rule is 2 it is N: 18 for 0 and above 16, and never 17.
+#[test]
+fn the_byte_after_the_rule() {
+    let mut call = sound_call();
+    call.list = list_bytes(&[Pass { rule: Rule::Limited { k: 0 }, ..SOUND }]);
+    for (rule, byte) in (0..=255).flat_map(|rule| [0, 1, 2, 15, 16, 17, 254, 255].map(|byte| (rule, byte))) {
+        (call.list[7 + 2], call.list[7 + 3]) = (rule, byte);
+        let expected = match (rule, byte) {
+            (0 | 1, 0) | (2, 1..=16) => Ok(1),
+            (2, _) => Err(18),
+            _ => Err(17),
+        };
+        assert_eq!(run_list_call(&call), expected, "rule {rule}, byte {byte}");
+    }
+    // The second number is set: low and high, or smin and smax, but nothing of the limited rule.
+    call.list[7 + 10] = 1;
+    for (rule, byte, expected) in [(0, 0, Ok(1)), (1, 0, Err(17)), (2, 1, Ok(1)), (2, 0, Err(18)), (3, 1, Err(17))] {
+        (call.list[7 + 2], call.list[7 + 3]) = (rule, byte);
+        assert_eq!(run_list_call(&call), expected, "rule {rule}, byte {byte}");
     }
 }
 
@@ -292,7 +343,7 @@ fn lists_of_1024_and_1025_passes() {
     }
 }
 
-/// 1 to 4, 16, then each pass 5, 6, 7, 8.
+/// 1 to 4, 16, then each pass 5, 6, 7, 8, 18.
 #[test]
 fn passes_in_memory() {
     let run = |passes: &[Pass], plane: usize, marks: usize, w: usize| {
@@ -303,10 +354,14 @@ fn passes_in_memory() {
     };
     let wrong = [
         (5, Pass { a: 9, b: 8, area: 0, ..SOUND }),
+        (5, Pass { a: 9, b: 8, rule: WRONG_SLOPES[0], ..SOUND }),
         (6, Pass { area: 0, rule: Rule::Plain { low: 1, high: 0 }, ..SOUND }),
         (6, Pass { area: 1_048_577, rule: Rule::Limited { k: 1_001 }, ..SOUND }),
+        (6, Pass { area: 0, rule: WRONG_SLOPES[3], ..SOUND }),
         (7, Pass { rule: Rule::Plain { low: 81, high: 80 }, ..SOUND }),
         (8, Pass { rule: Rule::Limited { k: 1_001 }, ..SOUND }),
+        (18, Pass { rule: WRONG_SLOPES[2], ..SOUND }),
+        (18, Pass { rule: WRONG_SLOPES[5], ..SOUND }),
     ];
     assert_eq!(run(&[SOUND], 4, 4, 2), Ok(1));
     assert_eq!(run(&[], 4, 4, 2), Ok(0));
@@ -350,6 +405,10 @@ fn the_largest_sizes_are_accepted() {
         let mut plane = vec![0; w * h];
         assert_eq!(intensity(&frame, w, h, &mut plane), Ok(()));
         assert!(plane.iter().all(|&v| v == 9));
+        let affine = Pass { area: 1_048_576, rule: Rule::Affine { segments: 1, smin: 0, smax: 10_000 }, ..SOUND };
+        let mut stretched = plane.clone();
+        assert_eq!(pass(&mut stretched, w * h, w * h, w, h, &affine), Ok(Counts { retoned: 1, kept: 0 }));
+        assert!(stretched.iter().all(|&v| v == 255));
         let greatest = Pass { area: 1_048_576, rule: Rule::Limited { k: 1_000 }, ..SOUND };
         assert_eq!(pass(&mut plane, w * h, w * h, w, h, &greatest), Ok(Counts { retoned: 1, kept: 0 }));
         assert!(plane.iter().all(|&v| v == 255));
@@ -358,6 +417,20 @@ fn the_largest_sizes_are_accepted() {
     assert_eq!(pass(&mut plane, 9, 2, 2, 1, &Pass { area: 1_048_576, ..SOUND }), Ok(Counts::default()));
     let greatest = Pass { rule: Rule::Plain { low: 25_500, high: 25_500 }, ..SOUND };
     assert_eq!(pass(&mut plane, 9, 2, 2, 1, &greatest), Ok(Counts { retoned: 0, kept: 1 }));
+}
+
+/// Every fault of the affine rule's numbers, and the numbers at their limits.
+#[test]
+fn numbers_of_the_affine_rule() {
+    let run = |rule: Rule| pass(&mut [3, 9], 2, 2, 2, 1, &Pass { rule, ..SOUND }).map(Counts::together);
+    for rule in WRONG_SLOPES {
+        assert_eq!(run(rule), Err(18), "{rule:?}");
+    }
+    for segments in 1..=16 {
+        for (smin, smax) in [(0, 0), (0, 10_000), (300, 300), (10_000, 10_000)] {
+            assert_eq!(run(Rule::Affine { segments, smin, smax }), Ok(1));
+        }
+    }
 }
 
 /// Bytes beyond the needed ones stay.
@@ -602,6 +675,7 @@ fn the_table() {
     assert_eq!(run_list(b"MLQ\x01\0\0\0", &mut one, 1, 1, 1, 1), Err(15));
     assert_eq!(run_list(b"MLP", &mut one, 1, 1, 1, 1), Err(16));
     let mut list = list_bytes(&[SOUND]);
-    list[9] = 2;
+    list[9] = 3;
     assert_eq!(run_list(&list, &mut one, 1, 1, 1, 1), Err(17));
+    assert_eq!(pass(&mut one, 1, 1, 1, 1, &Pass { rule: WRONG_SLOPES[0], ..SOUND }), Err(18));
 }

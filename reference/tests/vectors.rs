@@ -1,7 +1,7 @@
 //! The stored test cases are what the generator makes, and they show what they are meant to show.
 
-use mlhe_reference::cases::{answers, cases, encode, Case, Kind};
-use mlhe_reference::{intensity, level_by_level, sufficient_in_all, Pass, Rule, Settings};
+use mlhe_reference::cases::{answers, cases, encode, rule_of, Case, Kind};
+use mlhe_reference::{intensity, level_by_level, list_passes, sufficient_in_all, Pass, Rule, Settings};
 use std::collections::{BTreeMap, BTreeSet};
 use std::fs;
 use std::path::PathBuf;
@@ -46,12 +46,12 @@ fn the_stored_files_are_what_the_generator_makes() {
 fn every_refusal_of_every_call_is_there() {
     let refusals: [(Kind, &[u8]); 9] = [
         (Kind::Intensity, &[1, 2, 3]),
-        (Kind::Pass, &[1, 2, 3, 4, 5, 6, 7, 8]),
+        (Kind::Pass, &[1, 2, 3, 4, 5, 6, 7, 8, 18]),
         (Kind::Recolour, &[1, 2, 3, 14]),
-        (Kind::Enhance, &[1, 2, 3, 4, 6, 7, 8, 9, 14]),
+        (Kind::Enhance, &[1, 2, 3, 4, 6, 7, 8, 9, 14, 18]),
         (Kind::House, &[1, 2, 3, 4, 14]),
-        (Kind::List, &[1, 2, 3, 4, 5, 6, 7, 8, 15, 16, 17]),
-        (Kind::Passes, &[1, 2, 3, 4, 5, 6, 7, 8, 16]),
+        (Kind::List, &[1, 2, 3, 4, 5, 6, 7, 8, 15, 16, 17, 18]),
+        (Kind::Passes, &[1, 2, 3, 4, 5, 6, 7, 8, 16, 18]),
         (Kind::Read, &[1, 2, 10, 11, 12, 13]),
         (Kind::Write, &[1, 2, 3, 14]),
     ];
@@ -64,12 +64,13 @@ fn every_refusal_of_every_call_is_there() {
 }
 
 /// Each level changes both counts and the plane of some case: so does the last one, with low 0 and with the limited
-/// rule, which keeps nothing back.
+/// rule, which keeps nothing back. The affine rule changes no plane at the last one, where a stays and the greatest of
+/// two values becomes b.
 #[test]
 fn every_level_shows() {
     let (cases, lines) = stored_of(Kind::Enhance);
     for last_level in 1..=7 {
-        for rule in [0, 1] {
+        for rule in [0, 1, 2] {
             let (mut retoned, mut kept, mut planes) = (0, 0, 0);
             for (case, line) in cases.iter().zip(&lines) {
                 if case.last_level == last_level && case.rule == rule && line.starts_with('+') {
@@ -80,7 +81,8 @@ fn every_level_shows() {
                     planes += usize::from(line[2] != less[2]);
                 }
             }
-            assert!(retoned > 0 && planes > 0 && (kept > 0) == (rule == 0), "level {last_level}, rule {rule}");
+            let expected = (true, rule != 1, rule != 2 || last_level < 7);
+            assert_eq!((retoned > 0, kept > 0, planes > 0), expected, "level {last_level}, rule {rule}");
         }
     }
 }
@@ -111,7 +113,8 @@ fn every_number_of_the_house_setting_shows() {
     }
 }
 
-/// Both rules retone; the plain rule keeps back by each of its limits; the area decides.
+/// All rules retone; the plain rule keeps back by each of its limits; each number of the affine rule and the area
+/// decide.
 #[test]
 fn every_part_of_a_pass_shows() {
     let (cases, lines) = stored_of(Kind::Pass);
@@ -130,9 +133,15 @@ fn every_part_of_a_pass_shows() {
     assert!(differs(|case| case.numbers[1] = 25_500, 0) > 10);
     assert!(differs(|case| case.numbers[0] = 1_000, 1) > 10);
     assert!(differs(|case| (case.rule, case.numbers) = (0, [0, 25_500]), 1) > 10);
+    assert!(differs(|case| case.area += 1, 2) > 5);
+    assert!(differs(|case| case.segments = 17 - case.segments, 2) > 10);
+    assert!(differs(|case| case.numbers[0] = 0, 2) > 10);
+    assert!(differs(|case| case.numbers[0] = case.numbers[1], 2) > 10);
+    assert!(differs(|case| case.numbers[1] = case.numbers[0], 2) > 10);
+    assert!(differs(|case| case.numbers[1] = 10_000, 2) > 10);
     assert!(accepted.iter().any(|(case, _)| case.plane.len() == usize::from(case.marks) && case.w == 16));
-    for rule in [0, 1] {
-        assert!(accepted.iter().any(|(case, line)| case.rule == rule && counts(line)[0] > 9), "rule {rule}");
+    for (rule, many) in [(0, 9), (1, 9), (2, 2)] {
+        assert!(accepted.iter().any(|(case, line)| case.rule == rule && counts(line)[0] > many), "rule {rule}");
     }
 }
 
@@ -167,10 +176,7 @@ fn both_counts_show() {
 /// In every accepted pass and enhancement both counts together are the components of sufficient area.
 #[test]
 fn both_counts_together_are_all_of_sufficient_area() {
-    let rule = |case: &Case| match (case.rule, case.numbers.map(u32::from)) {
-        (0, [low, high]) => Rule::Plain { low, high },
-        (_, [k, _]) => Rule::Limited { k },
-    };
+    let rule = |case: &Case| rule_of(case.rule, case.segments, case.numbers);
     for kind in [Kind::Pass, Kind::Enhance] {
         let (cases, lines) = stored_of(kind);
         for (case, line) in cases.iter().zip(&lines).filter(|(_, line)| line.starts_with('+')) {
@@ -184,6 +190,36 @@ fn both_counts_together_are_all_of_sufficient_area() {
             let [retoned, kept] = counts(line);
             assert_eq!(retoned + kept, sufficient_in_all(&passes, &first, w, h), "{case:?}");
         }
+    }
+}
+
+/// The number that tells a rule in a list.
+fn code(rule: Rule) -> u8 {
+    match rule {
+        Rule::Plain { .. } => 0,
+        Rule::Limited { .. } => 1,
+        Rule::Affine { .. } => 2,
+    }
+}
+
+/// Some accepted list and some chain have passes of all three rules, and each rule follows each.
+#[test]
+fn rules_are_mixed() {
+    let (cases, lines) = stored_of(Kind::List);
+    let accepted = cases.iter().zip(&lines).filter(|(_, line)| line.starts_with('+'));
+    let lists: Vec<Vec<u8>> = accepted
+        .map(|(case, _)| list_passes(&case.bytes).expect("accepted").iter().map(|pass| code(pass.rule)).collect())
+        .collect();
+    let (cases, _) = stored_calls();
+    let chains: Vec<Vec<u8>> = cases
+        .split(|case| case.kind != Kind::Pass || !case.same_plane)
+        .map(|chain| chain.iter().map(|case| case.rule).collect())
+        .collect();
+    for runs in [lists, chains] {
+        let mixed = |run: &Vec<u8>| run.iter().collect::<BTreeSet<&u8>>().len() == 3;
+        assert!(runs.iter().any(mixed));
+        let pairs: BTreeSet<&[u8]> = runs.iter().flat_map(|run| run.windows(2)).collect();
+        assert_eq!(pairs.len(), 9);
     }
 }
 

@@ -4,8 +4,8 @@
 /// if it has at least the least area of its pass; both numbers together are all of these, in the plane as each pass
 /// finds it, summed over the passes.
 ///
-/// The plain rule keeps back a component of one value, and one for which the ratio of the value ranges is outside its
-/// limits; the limited rule keeps none. A component that gets the rule and comes out as it was is retoned.
+/// [`Rule`](crate::Rule) says which components each rule keeps back. A component that gets the rule and comes out as it
+/// was is retoned.
 ///
 /// ```
 /// use mlhe::{Counts, Memory, Pass, Plane, Refusal, Rule};

@@ -63,7 +63,7 @@ pub fn intensity(frame: &[u8], w: usize, h: usize, plane: &mut [u8]) -> Result<(
     Refusal::of_answer(answer).map(|_| ())
 }
 
-/// Runs one pass over a plane and answers the numbers of retoned and kept components. Refusals, in order: 1 to 8.
+/// Runs one pass over a plane and answers the numbers of retoned and kept components. Refusals, in order: 1 to 8, 18.
 pub fn pass(
     plane: &mut [u8],
     marks: &mut [u8],
@@ -72,7 +72,7 @@ pub fn pass(
     h: usize,
     pass: &Pass,
 ) -> Result<Counts, Refusal> {
-    let (rule, first, second) = pass.rule.numbers();
+    let rule = pass.rule.lent();
     let mut counts = [0; 2];
     // SAFETY: each pointer goes with the length of its memory; what is writable is borrowed alone.
     let answer = unsafe {
@@ -88,9 +88,8 @@ pub fn pass(
             pass.a,
             pass.b,
             pass.area,
-            rule,
-            first,
-            second,
+            rule.as_ptr(),
+            rule.len(),
             counts.as_mut_ptr(),
             counts.len(),
         )
@@ -100,7 +99,7 @@ pub fn pass(
 
 /// Runs the passes of a list in its file format and answers the sums of their counts. All records are checked before
 /// the first pass runs. Refusals, in order: 1 to 4, 16 (fewer than 7 bytes), 15, 16, then for each record 17, 5, 6, 7,
-/// 8.
+/// 8, 18.
 pub fn run_list(
     list: &[u8],
     plane: &mut [u8],
@@ -151,7 +150,7 @@ pub fn recolour(frame: &[u8], w: usize, h: usize, plane: &[u8], output: &mut [u8
 
 /// Enhances a frame: the new intensity is left in the plane and the recoloured frame in the output. The guarantee is of
 /// the plane, not of the output's own intensity. Answers the numbers of retoned and kept components, on all levels.
-/// Refusals, in order: 1, 2, 3, 4, 14, 9, 6, 7, 8.
+/// Refusals, in order: 1, 2, 3, 4, 14, 9, 6, 7, 8, 18.
 #[allow(clippy::too_many_arguments)]
 pub fn enhance(
     frame: &[u8],
@@ -163,7 +162,7 @@ pub fn enhance(
     queue: &mut [u32],
     output: &mut [u8],
 ) -> Result<Counts, Refusal> {
-    let (rule, first, second) = settings.rule.numbers();
+    let rule = settings.rule.lent();
     let mut counts = [0; 2];
     // SAFETY: each pointer goes with the length of its memory; what is writable is borrowed alone.
     let answer = unsafe {
@@ -174,9 +173,8 @@ pub fn enhance(
             h,
             settings.last,
             settings.area,
-            rule,
-            first,
-            second,
+            rule.as_ptr(),
+            rule.len(),
             plane.as_mut_ptr(),
             plane.len(),
             marks.as_mut_ptr(),

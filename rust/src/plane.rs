@@ -65,7 +65,7 @@ impl Plane {
     }
 
     /// Runs one pass and answers the numbers of retoned and kept components. Refusals, in order: [`Refusal::Interval`],
-    /// [`Refusal::Area`], [`Refusal::Limits`], [`Refusal::Clip`].
+    /// [`Refusal::Area`], [`Refusal::Limits`], [`Refusal::Clip`], [`Refusal::Slopes`].
     ///
     /// ```
     /// use mlhe::{Counts, Memory, Pass, Plane, Refusal, Rule};

@@ -42,14 +42,17 @@ pub enum Refusal {
     Raster = 12,
     /// 13: there are bytes after the raster.
     Trailing = 13,
-    /// 14: the output, or lent numbers or counts of a C function, are shorter than needed.
+    /// 14: the output, or the numbers of `mlhe_read` or the counts of a C function, are shorter than needed.
     Output = 14,
     /// 15: a pass list's mark or version is wrong.
     ListMark = 15,
     /// 16: a pass list's count or length is wrong, or there are more than 1,024 passes.
     ListLength = 16,
-    /// 17: no such rule, or a byte that has to be 0 is set in a pass list.
+    /// 17: no such rule, or a number that has to be 0 is set, in a pass list or a C call; or a C call is not lent four
+    /// numbers for its rule.
     Rule = 17,
+    /// 18: there are 0 segments or more than 16, smin is above smax, or smax is above 10,000.
+    Slopes = 18,
 }
 
 impl Refusal {
@@ -72,6 +75,7 @@ impl Refusal {
         Refusal::ListMark,
         Refusal::ListLength,
         Refusal::Rule,
+        Refusal::Slopes,
     ];
 
     /// The refusal's number, from 1 on.
@@ -100,7 +104,8 @@ impl Refusal {
             Refusal::Output => "the output is too short",
             Refusal::ListMark => "it is no pass list of version 1",
             Refusal::ListLength => "the pass list's count or length is wrong",
-            Refusal::Rule => "there is no such tone rule, or a byte that has to be 0 is set",
+            Refusal::Rule => "there is no such tone rule, or a number that has to be 0 is set",
+            Refusal::Slopes => "there are 0 segments or more than 16, smin is above smax, or smax is above 10,000",
         }
     }
 

@@ -20,3 +20,9 @@ pub const GREATEST_HIGH: u16 = 25_500;
 
 /// The greatest clip of the limited rule, in thousandths.
 pub const GREATEST_CLIP: u16 = 1_000;
+
+/// The most segments of the affine rule.
+pub const GREATEST_SEGMENTS: u8 = 16;
+
+/// The greatest slope of the affine rule, in hundredths.
+pub const GREATEST_SLOPE: u16 = 10_000;

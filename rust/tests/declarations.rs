@@ -1,11 +1,12 @@
 //! Nothing in the languages holds the declarations of the C functions against their source. This does: the functions of
 //! `crates/capi`, `include/mlhe.h` and `src/ffi.rs` have the same names, parameters and types, in the same order, and
 //! the house setting has the same numbers in `crates/levels`, `include/mlhe.h` and `src/settings.rs`. Header and crate
-//! have the same version, refusals, reasons, sizes and counts.
+//! have the same version, refusals, reasons, sizes, rules and counts.
 
-use mlhe::{Refusal, Rule, Settings};
+use mlhe::{Pass, PassList, Refusal, Rule, Settings};
 use mlhe::{
-    GREATEST_CLIP, GREATEST_HEADER, GREATEST_HIGH, GREATEST_LEVEL, GREATEST_PASSES, GREATEST_PIXELS, GREATEST_SIDE,
+    GREATEST_CLIP, GREATEST_HEADER, GREATEST_HIGH, GREATEST_LEVEL, GREATEST_PASSES, GREATEST_PIXELS, GREATEST_SEGMENTS,
+    GREATEST_SIDE, GREATEST_SLOPE,
 };
 use std::collections::BTreeMap;
 use std::fs;
@@ -139,6 +140,8 @@ fn the_sizes_of_the_header_are_those_of_the_crate() {
         ("LEVEL", GREATEST_LEVEL.into()),
         ("HIGH", GREATEST_HIGH.into()),
         ("CLIP", GREATEST_CLIP.into()),
+        ("SEGMENTS", GREATEST_SEGMENTS.into()),
+        ("SLOPE", GREATEST_SLOPE.into()),
     ];
     for (name, size) in sizes {
         assert_eq!(number_after(&header, &format!("MLHE_GREATEST_{name} = ")) as usize, size);
@@ -158,14 +161,27 @@ fn the_counts_of_the_header_are_those_of_the_crate() {
     assert!(text("rust/src/counts.rs").contains(&format!("of_lent([retoned, kept]: [usize; {counts}])")));
 }
 
+/// The crate writes the header's codes, and lends a rule's numbers in the header's places.
+#[test]
+fn the_rules_of_the_header_are_those_of_the_crate() {
+    let header = text("include/mlhe.h");
+    let numbers = |names: &[&str]| -> Vec<u32> {
+        names.iter().map(|name| number_after(&header, &format!("MLHE_{name} = "))).collect()
+    };
+    let rules =
+        [Rule::Plain { low: 0, high: 1 }, Rule::Limited { k: 2 }, Rule::Affine { segments: 3, smin: 4, smax: 5 }];
+    let list = PassList::new(&rules.map(|rule| Pass::new(0, 255, 1, rule))).expect("accepted");
+    let codes: Vec<u32> = list.bytes()[7..].chunks(12).map(|record| record[2].into()).collect();
+    assert_eq!(numbers(&["PLAIN", "LIMITED", "AFFINE"]), codes);
+    assert_eq!(numbers(&["RULE_CODE", "RULE_FIRST", "RULE_SECOND", "RULE_SEGMENTS", "RULE_NUMBERS"]), [0, 1, 2, 3, 4]);
+    assert!(text("rust/src/pass.rs").contains("[code.into(), first, second, segments.into()]"));
+}
+
 #[test]
 fn the_reasons_of_the_header_are_those_of_the_crate() {
     let header = text("include/mlhe.h");
-    let reasons: Vec<&str> = header
-        .lines()
-        .filter_map(|line| line.trim().strip_prefix("case MLHE_REFUSED_")?.split_once(": return \""))
-        .map(|(_, rest)| rest.strip_suffix("\";").expect("the end of a line"))
-        .collect();
+    let quoted = |case: &str| case.split('"').nth(1).expect("a reason").to_string();
+    let reasons: Vec<String> = header.split("case MLHE_REFUSED_").skip(1).map(quoted).collect();
     assert_eq!(reasons, Refusal::ALL.iter().map(|refusal| refusal.reason()).collect::<Vec<_>>());
 }
 
@@ -204,6 +220,7 @@ fn the_house_settings_agree() {
     let header = text("include/mlhe.h");
     assert_eq!(house_numbers(&header, "MLHE_HOUSE_", [""; 4]), library);
     assert!(header.contains("MLHE_HOUSE_RULE = MLHE_PLAIN,"));
+    assert!(header.contains("#define MLHE_HOUSE_NUMBERS {MLHE_HOUSE_RULE, MLHE_HOUSE_LOW, MLHE_HOUSE_HIGH, 0}\n"));
     let [last, area, low, high] = library;
     let number = |number: u32| u16::try_from(number).expect("16 bits");
     let rule = Rule::Plain { low: number(low), high: number(high) };

@@ -2,12 +2,16 @@
 
 use mlhe::{ffi, lent, Counts, Frame, Memory, Pass, PassList, Plane, Refusal, Rule, Settings};
 use mlhe::{
-    GREATEST_CLIP, GREATEST_HEADER, GREATEST_HIGH, GREATEST_LEVEL, GREATEST_PASSES, GREATEST_PIXELS, GREATEST_SIDE,
+    GREATEST_CLIP, GREATEST_HEADER, GREATEST_HIGH, GREATEST_LEVEL, GREATEST_PASSES, GREATEST_PIXELS, GREATEST_SEGMENTS,
+    GREATEST_SIDE, GREATEST_SLOPE,
 };
 use std::ptr::{null, null_mut};
 
 const PLAIN: Rule = Rule::Plain { low: 0, high: 25_500 };
 const WHOLE: Pass = Pass::new(0, 255, 1, PLAIN);
+
+/// The numbers of that rule, as a C function is lent them.
+const NUMBERS: [u16; 4] = [0, 0, 25_500, 0];
 
 #[test]
 fn frames_and_planes_have_the_length_of_their_sides() {
@@ -50,6 +54,8 @@ fn numbers_are_refused_and_nothing_changes() {
         (Pass::new(0, 255, 1_048_577, PLAIN), Refusal::Area),
         (Pass::new(0, 255, 1, Rule::Plain { low: 81, high: 80 }), Refusal::Limits),
         (Pass::new(0, 255, 1, Rule::Limited { k: 1_001 }), Refusal::Clip),
+        (Pass::new(0, 255, 1, Rule::Affine { segments: 0, smin: 0, smax: 0 }), Refusal::Slopes),
+        (Pass::new(0, 255, 1, Rule::Affine { segments: 1, smin: 5, smax: 4 }), Refusal::Slopes),
     ];
     for (pass, refusal) in refused {
         assert_eq!(plane.pass(&pass, &mut memory), Err(refusal));
@@ -87,6 +93,10 @@ fn the_sizes_are_those_of_the_library() {
     assert_eq!(enhanced(house.with_area(area + 1)), Err(Refusal::Area));
     let plain = |high| enhanced(house.with_rule(Rule::Plain { low: 0, high }));
     assert_eq!((plain(GREATEST_HIGH), plain(GREATEST_HIGH + 1)), (once, Err(Refusal::Limits)));
+    let affine = |segments, smax| enhanced(house.with_rule(Rule::Affine { segments, smin: 0, smax }));
+    assert_eq!(affine(GREATEST_SEGMENTS, GREATEST_SLOPE), once);
+    assert_eq!(affine(GREATEST_SEGMENTS + 1, GREATEST_SLOPE), Err(Refusal::Slopes));
+    assert_eq!(affine(GREATEST_SEGMENTS, GREATEST_SLOPE + 1), Err(Refusal::Slopes));
     let limited = |k| enhanced(house.with_area(2).with_rule(Rule::Limited { k }));
     let once = Ok(Counts { retoned: 1, kept: 0 });
     assert_eq!((limited(GREATEST_CLIP), limited(GREATEST_CLIP + 1)), (once, Err(Refusal::Clip)));
@@ -136,6 +146,7 @@ fn no_memory_at_all_is_refused() {
         let (mut plane, mut marks, mut queue) = ([1], [0], [0]);
         let (p, m, q) = (plane.as_mut_ptr(), marks.as_mut_ptr(), queue.as_mut_ptr());
         assert_eq!(ffi::mlhe_run_list(null(), 0, p, 1, m, 1, q, 1, 1, 1, null_mut(), 0), -16);
+        assert_eq!(ffi::mlhe_pass(p, 1, m, 1, q, 1, 1, 1, 0, 255, 1, null(), 0, null_mut(), 0), -17);
     }
 }
 
@@ -146,8 +157,9 @@ type Left = (i64, [u8; 2], [usize; 3]);
 fn counted_pass(area: u8, lent: usize) -> Left {
     let (mut plane, mut marks, mut queue, mut counts) = ([10, 20], [0; 2], [0; 2], [7; 3]);
     let (p, m, q, c) = (plane.as_mut_ptr(), marks.as_mut_ptr(), queue.as_mut_ptr(), counts.as_mut_ptr());
+    let (r, area) = (NUMBERS.as_ptr(), area.into());
     // SAFETY: each pointer goes with at most as many elements as there are.
-    let answer = unsafe { ffi::mlhe_pass(p, 2, m, 2, q, 2, 2, 1, 0, 255, area.into(), 0, 0, 25_500, c, lent) };
+    let answer = unsafe { ffi::mlhe_pass(p, 2, m, 2, q, 2, 2, 1, 0, 255, area, r, 4, c, lent) };
     (answer, plane, counts)
 }
 
@@ -167,9 +179,9 @@ fn counted_enhancement(area: u8, lent: usize) -> Left {
     let frame = [10, 10, 10, 20, 20, 20];
     let (mut plane, mut marks, mut queue, mut output, mut counts) = ([10, 20], [0; 2], [0; 2], frame, [7; 3]);
     let (p, m, q, c) = (plane.as_mut_ptr(), marks.as_mut_ptr(), queue.as_mut_ptr(), counts.as_mut_ptr());
-    let (f, o, area) = (frame.as_ptr(), output.as_mut_ptr(), area.into());
+    let (f, o, r, area) = (frame.as_ptr(), output.as_mut_ptr(), NUMBERS.as_ptr(), area.into());
     // SAFETY: each pointer goes with at most as many elements as there are.
-    let answer = unsafe { ffi::mlhe_enhance(f, 6, 2, 1, 0, area, 0, 0, 25_500, p, 2, m, 2, q, 2, o, 6, c, lent) };
+    let answer = unsafe { ffi::mlhe_enhance(f, 6, 2, 1, 0, area, r, 4, p, 2, m, 2, q, 2, o, 6, c, lent) };
     assert_eq!(output, [plane[0], plane[0], plane[0], plane[1], plane[1], plane[1]]);
     (answer, plane, counts)
 }
@@ -183,18 +195,5 @@ fn counts_that_are_too_short_are_refused_last() {
             let expected = if lent < 2 { (-14, [10, 20], [7; 3]) } else { (0, [128, 255], [1, 0, 7]) };
             assert_eq!(call(1, lent), expected);
         }
-    }
-}
-
-#[test]
-fn a_rule_that_there_is_not_is_refused_before_the_other_numbers() {
-    let (mut plane, mut marks, mut queue) = ([1u8], [0u8], [0u32]);
-    for (rule, second, refusal) in [(2, 0, -17), (255, 0, -17), (1, 1, -17), (1, 0, -5), (0, 1, -5)] {
-        // SAFETY: each of the three has one element.
-        let answer = unsafe {
-            let (plane, marks, queue) = (plane.as_mut_ptr(), marks.as_mut_ptr(), queue.as_mut_ptr());
-            ffi::mlhe_pass(plane, 1, marks, 1, queue, 1, 1, 1, 9, 8, 0, rule, 0, second, null_mut(), 0)
-        };
-        assert_eq!(answer, refusal);
     }
 }

@@ -11,6 +11,7 @@
 /* Below 128 the row has a component to retone, one of one value, and one pixel alone. The frame has the same greys. */
 enum { W = 7, H = 1, N = W * H, LENT = 4, LEFT = 77 };
 static const uint8_t row[N] = {10, 20, 200, 10, 10, 200, 30};
+static const uint16_t any[] = {MLHE_PLAIN, 0, 25500, 0}, growing[] = {MLHE_PLAIN, 130, 25500, 0};
 static uint8_t frame[3 * N];
 
 /* What a call is lent, but for its frame or list. */
@@ -21,8 +22,8 @@ static struct lent {
 } lent;
 
 static int64_t pass(uint32_t area, size_t length) {
-    return mlhe_pass(lent.plane, N, lent.marks, N, lent.queue, N, W, H, 0, 127, area, MLHE_PLAIN, 0, 25500, lent.counts,
-                     length);
+    return mlhe_pass(lent.plane, N, lent.marks, N, lent.queue, N, W, H, 0, 127, area, any, MLHE_RULE_NUMBERS,
+                     lent.counts, length);
 }
 
 /* The same pass twice: the second time what was retoned is retoned again. */
@@ -34,8 +35,8 @@ static int64_t run_list(uint32_t area, size_t length) {
 
 /* Levels 0 and 1. At level 0 the range of the row would not grow to 130 hundredths, and the row is kept back. */
 static int64_t enhance(uint32_t area, size_t length) {
-    return mlhe_enhance(frame, 3 * N, W, H, 1, area, MLHE_PLAIN, 130, 25500, lent.plane, N, lent.marks, N, lent.queue,
-                        N, lent.output, 3 * N, lent.counts, length);
+    return mlhe_enhance(frame, 3 * N, W, H, 1, area, growing, MLHE_RULE_NUMBERS, lent.plane, N, lent.marks, N,
+                        lent.queue, N, lent.output, 3 * N, lent.counts, length);
 }
 
 static const struct call {

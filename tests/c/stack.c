@@ -19,10 +19,15 @@ static struct frame {
     uint32_t *queue;
 } frame;
 
-/* The numbers of the setting of a call; a list has one pass with the same. */
-static uint8_t rule;
-static uint16_t first, second;
-static uint32_t area;
+/* The setting of a call; a list has one pass with the same. */
+static const struct setting {
+    uint16_t rule[MLHE_RULE_NUMBERS];
+    uint8_t area;
+} settings[] = {{MLHE_HOUSE_NUMBERS, MLHE_HOUSE_AREA},
+                {{MLHE_PLAIN, 0, MLHE_GREATEST_HIGH, 0}, 1},
+                {{MLHE_LIMITED, 20, 0, 0}, 1},
+                {{MLHE_AFFINE, 0, MLHE_GREATEST_SLOPE, MLHE_GREATEST_SEGMENTS}, 1}};
+static const struct setting *setting;
 static size_t counts[MLHE_COUNTS];
 static int64_t answer;
 
@@ -43,12 +48,14 @@ static void intensity(void) {
 }
 
 static void pass(void) {
-    answer = mlhe_pass(frame.plane, frame.n, frame.marks, frame.n, frame.queue, frame.n, frame.w, frame.h, 0, 255, area,
-                       rule, first, second, counts, MLHE_COUNTS);
+    answer = mlhe_pass(frame.plane, frame.n, frame.marks, frame.n, frame.queue, frame.n, frame.w, frame.h, 0, 255,
+                       setting->area, setting->rule, MLHE_RULE_NUMBERS, counts, MLHE_COUNTS);
 }
 
 static void run_list(void) {
-    const uint8_t list[] = {'M', 'L', 'P', 1, 0, 1, 0, 0, 255, rule, 0, (uint8_t)area, 0, 0, 0, (uint8_t)first,
+    const uint16_t *rule = setting->rule, first = rule[MLHE_RULE_FIRST], second = rule[MLHE_RULE_SECOND];
+    const uint8_t code = (uint8_t)rule[MLHE_RULE_CODE], segments = (uint8_t)rule[MLHE_RULE_SEGMENTS];
+    const uint8_t list[] = {'M', 'L', 'P', 1, 0, 1, 0, 0, 255, code, segments, setting->area, 0, 0, 0, (uint8_t)first,
                             (uint8_t)(first >> 8), (uint8_t)second, (uint8_t)(second >> 8)};
     answer = mlhe_run_list(list, sizeof list, frame.plane, frame.n, frame.marks, frame.n, frame.queue, frame.n, frame.w,
                            frame.h, counts, MLHE_COUNTS);
@@ -59,9 +66,9 @@ static void recolour(void) {
 }
 
 static void enhance(void) {
-    answer = mlhe_enhance(frame.bytes, 3 * frame.n, frame.w, frame.h, 7, area, rule, first, second, frame.plane,
-                          frame.n, frame.marks, frame.n, frame.queue, frame.n, frame.output, 3 * frame.n, counts,
-                          MLHE_COUNTS);
+    answer = mlhe_enhance(frame.bytes, 3 * frame.n, frame.w, frame.h, 7, setting->area, setting->rule,
+                          MLHE_RULE_NUMBERS, frame.plane, frame.n, frame.marks, frame.n, frame.queue, frame.n,
+                          frame.output, 3 * frame.n, counts, MLHE_COUNTS);
 }
 
 /* In the order in which each leaves what the next one needs: mlhe_read takes what mlhe_write wrote. */
@@ -126,11 +133,8 @@ static void measure(size_t w, size_t h, uint8_t *stack, size_t *most) {
         for (size_t p = 0; p < 3 * n; p++) {
             frame.bytes[p] = value(kind, p / 3, w);
         }
-        for (int setting = 0; setting < 3; setting++) {
-            rule = setting == 2 ? MLHE_LIMITED : MLHE_PLAIN;
-            first = (uint16_t[]){MLHE_HOUSE_LOW, 0, 20}[setting];
-            second = (uint16_t[]){MLHE_HOUSE_HIGH, 25500, 0}[setting];
-            area = setting == 0 ? MLHE_HOUSE_AREA : 1;
+        for (size_t i = 0; i < sizeof settings / sizeof *settings; i++) {
+            setting = &settings[i];
             for (int call = 0; call < CALLS; call++) {
                 const size_t bytes = taken(calls[call].run, stack);
                 if (answer < 0) {

@@ -5,6 +5,9 @@ use clap::{Args, Parser, Subcommand};
 use mlhe::{Frame, Memory, Rule, Settings};
 use std::path::PathBuf;
 
+/// The arguments of settings, none of which goes with a list.
+const SETTINGS: [&str; 5] = ["last", "area", "plain", "limited", "affine"];
+
 /// Enhances frames by morpho-local histogram equalisation, on the proved library.
 #[derive(Parser)]
 #[command(name = "zopykue", version, propagate_version = true)]
@@ -43,7 +46,7 @@ pub struct Enhance {
     #[command(flatten)]
     pub settings: Numbers,
     /// Run the passes of a pass list, in place of settings
-    #[arg(long, value_name = "FILE", conflicts_with_all = ["last", "area", "plain", "limited"])]
+    #[arg(long, value_name = "FILE", conflicts_with_all = SETTINGS)]
     pub list: Option<PathBuf>,
     /// Write a line for each file, with tabs between file, size, answer, components retoned, components kept back, and
     /// reason
@@ -60,15 +63,15 @@ pub struct Enhance {
 /// Prints a pass list as text, or writes one
 ///
 /// The list is read from a file, made from lines of text, or else the one that an enhancement with the settings equals.
-/// A line of text is a pass: first value, last value, least area, and `plain LOW HIGH` or `limited K`. Empty lines and
-/// what follows a # are passed over. What is printed has this form too.
+/// A line of text is a pass: first value, last value, least area, and `plain LOW HIGH`, `limited K` or
+/// `affine N SMIN SMAX`. Empty lines and what follows a # are passed over. What is printed has this form too.
 #[derive(Args)]
 pub struct List {
     /// A pass list, in the bytes of its file format
-    #[arg(value_name = "FILE", conflicts_with_all = ["text", "last", "area", "plain", "limited"])]
+    #[arg(value_name = "FILE", conflicts_with_all = SETTINGS, conflicts_with = "text")]
     pub file: Option<PathBuf>,
     /// Lines of text; - is standard input
-    #[arg(long, value_name = "LINES", conflicts_with_all = ["last", "area", "plain", "limited"])]
+    #[arg(long, value_name = "LINES", conflicts_with_all = SETTINGS)]
     pub text: Option<PathBuf>,
     #[command(flatten)]
     pub settings: Numbers,
@@ -93,18 +96,31 @@ pub struct Numbers {
     /// Contrast-limited equalisation with a clip of K thousandths, in place of plain
     #[arg(long, value_name = "K", conflicts_with = "plain")]
     limited: Option<u16>,
+    /// Piecewise affine equalisation with N segments, 1 to 16, whose slopes are held between SMIN and SMAX hundredths,
+    /// in place of plain; kept back where the segments do not reach the range's upper end
+    #[arg(long, num_args = 3, value_names = ["N", "SMIN", "SMAX"], conflicts_with_all = ["plain", "limited"])]
+    affine: Option<Vec<u16>>,
 }
 
 impl Numbers {
+    /// The rule, if one is given.
+    fn rule(&self) -> Option<Rule> {
+        match (self.plain.as_deref(), self.limited, self.affine.as_deref()) {
+            (Some(&[low, high]), ..) => Some(Rule::Plain { low, high }),
+            (_, Some(k), _) => Some(Rule::Limited { k }),
+            // More segments than a byte holds are refused as 255 are.
+            (.., Some(&[n, smin, smax])) => {
+                Some(Rule::Affine { segments: n.try_into().unwrap_or(u8::MAX), smin, smax })
+            }
+            _ => None,
+        }
+    }
+
     /// The settings, which the library has accepted.
     pub fn settings(&self) -> Result<Settings, Stop> {
         let house = Settings::house();
-        let rule = match (self.plain.as_deref(), self.limited) {
-            (_, Some(k)) => Rule::Limited { k },
-            (Some(&[low, high]), None) => Rule::Plain { low, high },
-            _ => house.rule,
-        };
-        let settings = Settings::new(self.last.unwrap_or(house.last), self.area.unwrap_or(house.area), rule);
+        let (last, area) = (self.last.unwrap_or(house.last), self.area.unwrap_or(house.area));
+        let settings = Settings::new(last, area, self.rule().unwrap_or(house.rule));
         let pixel = Frame::new(1, 1, vec![0; 3]).expect("one pixel is a frame");
         match pixel.enhanced(&settings, &mut Memory::new()) {
             Ok(_) => Ok(settings),

@@ -13,6 +13,9 @@ use std::{fs, io};
 const HEAD: usize = 7;
 const RECORD: usize = 12;
 
+/// The rules as they stand in a line.
+const RULES: &str = "plain LOW HIGH, limited K, or affine N SMIN SMAX";
+
 /// Prints or writes a list.
 pub fn run(arguments: &List) -> Result<ExitCode, Stop> {
     let list = match (&arguments.file, &arguments.text) {
@@ -76,11 +79,16 @@ fn pass(line: &str) -> Result<Pass, String> {
     let rule = match words.next() {
         Some("plain") => Rule::Plain { low: number(&mut words, "low")?, high: number(&mut words, "high")? },
         Some("limited") => Rule::Limited { k: number(&mut words, "clip")? },
-        Some(word) => return Err(format!("the rule is plain or limited, not {word}")),
-        None => return Err("the rule is missing: plain LOW HIGH, or limited K".to_owned()),
+        Some("affine") => Rule::Affine {
+            segments: number(&mut words, "segment count")?,
+            smin: number(&mut words, "least slope")?,
+            smax: number(&mut words, "greatest slope")?,
+        },
+        Some(word) => return Err(format!("the rule is plain, limited or affine, not {word}")),
+        None => return Err(format!("the rule is missing: {RULES}")),
     };
     if let Some(word) = words.next() {
-        return Err(format!("{word} is too much: a line is A B AREA plain LOW HIGH, or A B AREA limited K"));
+        return Err(format!("{word} is too much: a line is A B AREA and {RULES}"));
     }
     let pass = Pass::new(a, b, area, rule);
     PassList::new(&[pass]).map_err(|refusal| refusal.to_string())?;
@@ -102,7 +110,8 @@ fn text(list: &PassList) -> String {
         let _ = write!(text, "{} {} {area} ", record[0], record[1]);
         let _ = match record[2] {
             0 => writeln!(text, "plain {} {}", half(8), half(10)),
-            _ => writeln!(text, "limited {}", half(8)),
+            1 => writeln!(text, "limited {}", half(8)),
+            _ => writeln!(text, "affine {} {} {}", record[3], half(8), half(10)),
         };
     }
     text
@@ -124,10 +133,25 @@ mod tests {
     }
 
     #[test]
+    fn all_rules_have_a_text() {
+        let lines = ["0 255 1 plain 80 300", "16 200 3 limited 25", "128 255 20 affine 16 50 10000"];
+        let passes = lines.map(|line| pass(line).unwrap());
+        assert_eq!(passes[2], Pass::new(128, 255, 20, Rule::Affine { segments: 16, smin: 50, smax: 10_000 }));
+        let printed = text(&PassList::new(&passes).unwrap());
+        assert_eq!(printed.lines().skip(1).collect::<Vec<_>>(), lines);
+    }
+
+    #[test]
     fn wrong_lines_are_told() {
         assert_eq!(pass("0 256 1 plain 0 1").unwrap_err(), "the last value is a number in its range, not 256");
         assert_eq!(pass("0 255 1 limited").unwrap_err(), "the clip is missing");
         assert!(pass("9 8 1 limited 5").unwrap_err().starts_with("refused 5: "));
         assert!(pass("0 9 1 limited 5 6").unwrap_err().starts_with("6 is too much"));
+        assert!(pass("0 9 1").unwrap_err().starts_with("the rule is missing: plain LOW HIGH, limited K, or affine N "));
+        assert_eq!(pass("0 9 1 affine").unwrap_err(), "the segment count is missing");
+        assert_eq!(pass("0 9 1 affine 2 5").unwrap_err(), "the greatest slope is missing");
+        assert!(pass("0 9 1 affine 2 5 6 7").unwrap_err().starts_with("7 is too much"));
+        assert!(pass("0 9 1 affine 0 5 6").unwrap_err().starts_with("refused 18: "));
+        assert!(pass("0 9 1 affine 2 6 5").unwrap_err().starts_with("refused 18: "));
     }
 }

@@ -10,6 +10,8 @@ use std::process::Command;
 /// Frame, plane and counts, as the second implementation has them.
 type Answer = (Vec<u8>, Vec<u8>, Counts);
 
+const AFFINE: Rule = Rule::Affine { segments: 5, smin: 50, smax: 300 };
+
 /// Frames of the corpus that are accepted.
 const FRAMES: [&str; 7] = [
     "pil.ppm",
@@ -84,6 +86,7 @@ fn settings() {
         (&["--last", "3", "--area", "5"], plain(3, 5, 80, 300)),
         (&["--plain", "0", "25500", "--area", "1"], plain(7, 1, 0, 25_500)),
         (&["--limited", "40", "--last", "2"], Settings { last_level: 2, area: 20, rule: Rule::Limited { k: 40 } }),
+        (&["--affine", "5", "50", "300"], Settings { last_level: 7, area: 20, rule: AFFINE }),
     ] {
         for name in FRAMES {
             let bytes = fs::read(corpus(name)).unwrap();
@@ -97,11 +100,13 @@ fn lists() {
     let folder = folder("lists");
     let [text, list] = ["list.txt", "list.mlp"].map(|name| folder.join(name));
     let (text, list) = (text.to_str().unwrap(), list.to_str().unwrap());
-    fs::write(text, "# two passes\n\n 0 255 1 plain 0 25500\n16 200 3 limited 25 # clipped\n").unwrap();
+    let lines = "# three\n\n 0 255 1 plain 0 25500\n16 200 3 limited 25 # clipped\n0 127 2 affine 5 50 300\n";
+    fs::write(text, lines).unwrap();
     zopykue(&["list", "--text", text, "--to", list]);
     let passes = [
         Pass { a: 0, b: 255, area: 1, rule: Rule::Plain { low: 0, high: 25_500 } },
         Pass { a: 16, b: 200, area: 3, rule: Rule::Limited { k: 25 } },
+        Pass { a: 0, b: 127, area: 2, rule: AFFINE },
     ];
     assert_eq!(fs::read(list).unwrap(), list_bytes(&passes));
     for name in FRAMES {
@@ -115,7 +120,7 @@ fn the_list_of_settings_is_the_enhancement() {
     let folder = folder("list-of-settings");
     let list = folder.join("list.mlp");
     let list = list.to_str().unwrap();
-    for words in [&[][..], &["--last", "4", "--area", "3", "--limited", "30"]] {
+    for words in [&[][..], &["--last", "4", "--area", "3", "--limited", "30"], &["--affine", "5", "50", "300"]] {
         zopykue(&[&["list", "--to", list], words].concat());
         let frame = corpus("opencv.ppm");
         assert!(written(&folder, &frame, &["--list", list]) == written(&folder, &frame, words), "{words:?}");

@@ -136,12 +136,12 @@ some-14 (suc x) e = omega arith
 
 -- ## Passes
 
-module _ (w h a b area rule first second : ℕ) (plane marks queue numbers : List ℕ) where
+module _ (w h a b area : ℕ) (rule plane marks queue numbers : List ℕ) where
   abbrev z : Shape
   z = shapeOf w h
 
   abbrev form : RuleNumbers
-  form = numbersFor rule first second
+  form = numbersFor rule
 
   -- 1 to 4 and 17
   abbrev lent : ℕ
@@ -151,7 +151,7 @@ module _ (w h a b area rule first second : ℕ) (plane marks queue numbers : Lis
   passFirst = lent ▷ formRefusal form
 
   abbrev thePass : Pass
-  thePass = passOf a b area rule first second
+  thePass = passOf a b area rule
 
   -- a pass with these numbers and a rule
   abbrev ruled : Rule → Pass
@@ -172,7 +172,7 @@ module _ (w h a b area rule first second : ℕ) (plane marks queue numbers : Lis
 
   -- refused before the pass is made
   pub pass-refused : {k : ℕ} {r : ℤ} → k ≡ passFirst → (k ≡ 0 → ⊥) → r ≡ encoded k 0
-      → PassNumber w h a b area rule first second plane marks queue numbers r plane marks queue numbers
+      → PassNumber w h a b area rule plane marks queue numbers r plane marks queue numbers
   pass-refused {k} e f d =
       let next : passNext ≡ k = ▷-left passFirst _ (λ x. f (e ∙ x)) ∙ sym e in
       let is : k ≡ passWhole =
@@ -182,7 +182,7 @@ module _ (w h a b area rule first second : ℕ) (plane marks queue numbers : Lis
   -- refused for too few numbers, unless for something else
   pub pass-short : {rule' : Rule} {k : ℕ} {r : ℤ} → passFirst ≡ 0 → rule' ≡ ruleOf form → length numbers < 2
       → k ≡ numbersRefusal (ruled rule') → r ≡ encoded (k ▷ 14) 0
-      → PassNumber w h a b area rule first second plane marks queue numbers r plane marks queue numbers
+      → PassNumber w h a b area rule plane marks queue numbers r plane marks queue numbers
   pass-short {rule'} {k} e rule-is few told d =
       let same : passNext ≡ k =
       ▷-right passFirst _ e ∙ sym (told ∙ ap (λ (x : Rule). numbersRefusal (ruled x)) rule-is) in
@@ -203,7 +203,7 @@ module _ (w h a b area rule first second : ℕ) (plane marks queue numbers : Lis
       → 2 ≤ length numbers → rule' ≡ ruleOf form
       → PassOutcome z (ruled rule') plane marks queue (answerReply s) plane' marks' queue'
       → r ≡ answerNumber s → numbers' ≡ countsAfter s numbers
-      → PassNumber w h a b area rule first second plane marks queue numbers r plane' marks' queue' numbers'
+      → PassNumber w h a b area rule plane marks queue numbers r plane' marks' queue' numbers'
   pass-made {rule'} {plane'} {marks'} {queue'} s e enough d o g f =
       let made : PassOutcome z thePass plane marks queue (answerReply s) plane' marks' queue' =
       subst (λ (x : Rule). PassOutcome z (ruled x) plane marks queue (answerReply s) plane' marks' queue') d o in
@@ -231,12 +231,12 @@ module _ (w h : ℕ) (list plane marks queue numbers : List ℕ) where
 
 -- ## Enhancement
 
-module _ (w h last area rule first second : ℕ) (frame plane marks queue output numbers : List ℕ) where
+module _ (w h last area : ℕ) (rule frame plane marks queue output numbers : List ℕ) where
   abbrev shape : Shape
   shape = shapeOf w h
 
   abbrev ruleNumbers : RuleNumbers
-  ruleNumbers = numbersFor rule first second
+  ruleNumbers = numbersFor rule
 
   -- 1, 2, 3, 4, 14; and with 17
   abbrev memory : ℕ
@@ -246,7 +246,7 @@ module _ (w h last area rule first second : ℕ) (frame plane marks queue output
   enhanceFirst = memory ▷ formRefusal ruleNumbers
 
   abbrev theSettings : Settings
-  theSettings = settingsOf last area rule first second
+  theSettings = settingsOf last area rule
 
   -- settings with these numbers and a rule
   abbrev settled : Rule → Settings
@@ -268,7 +268,7 @@ module _ (w h last area rule first second : ℕ) (frame plane marks queue output
 
   -- refused before the enhancement is made
   pub enhance-refused : {k : ℕ} {r : ℤ} → k ≡ enhanceFirst → (k ≡ 0 → ⊥) → r ≡ encoded k 0
-      → EnhanceNumber w h last area rule first second frame plane marks queue output numbers r
+      → EnhanceNumber w h last area rule frame plane marks queue output numbers r
       plane marks queue output numbers
   enhance-refused {k} e f d =
       let next : enhanceNext ≡ k = ▷-left enhanceFirst _ (λ x. f (e ∙ x)) ∙ sym e in
@@ -279,7 +279,7 @@ module _ (w h last area rule first second : ℕ) (frame plane marks queue output
   -- refused for too few numbers, unless for something else
   pub enhance-short : {rule' : Rule} {k : ℕ} {r : ℤ} → enhanceFirst ≡ 0 → rule' ≡ ruleOf ruleNumbers
       → length numbers < 2 → k ≡ enhance.settingsRefusal (settled rule') → r ≡ encoded (k ▷ 14) 0
-      → EnhanceNumber w h last area rule first second frame plane marks queue output numbers r
+      → EnhanceNumber w h last area rule frame plane marks queue output numbers r
       plane marks queue output numbers
   enhance-short {rule'} {k} e rule-is few told d =
       let same : enhanceNext ≡ k =
@@ -303,7 +303,7 @@ module _ (w h last area rule first second : ℕ) (frame plane marks queue output
       → enhance.EnhanceOutcome shape (settled rule') frame plane marks queue output (answerReply s)
       plane' marks' queue' output'
       → r ≡ answerNumber s → numbers' ≡ countsAfter s numbers
-      → EnhanceNumber w h last area rule first second frame plane marks queue output numbers r
+      → EnhanceNumber w h last area rule frame plane marks queue output numbers r
       plane' marks' queue' output' numbers'
   enhance-made {rule'} {plane'} {marks'} {queue'} {output'} s e enough d o g f =
       let Made : Rule → Type 0 =

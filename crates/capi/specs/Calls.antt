@@ -47,18 +47,18 @@ pub record CountsOutputOutcome (n number : ℕ) (e : Effect) (bytes plane marks 
 
 -- ## A pass
 
--- 1 to 4, 17, 5 to 8, 14
+-- 1 to 4, 17, 5 to 8, 18, 14
 unfoldable pub passRefusalOf : Shape → RuleNumbers → Pass → List ℕ → List ℕ → List ℕ → List ℕ → ℕ
 passRefusalOf z n s plane marks queue numbers =
     lentRefusal z (length plane) (length marks) (length queue)
     ▷ formRefusal n ▷ numbersRefusal s ▷ countsRefusal (length numbers)
 
-abbrev pub PassNumber : (w h a b area rule first second : ℕ) (plane marks queue numbers : List ℕ) (r : ℤ)
+abbrev pub PassNumber : (w h a b area : ℕ) (rule plane marks queue numbers : List ℕ) (r : ℤ)
     (plane' marks' queue' numbers' : List ℕ) → Type 0
-PassNumber w h a b area rule first second plane marks queue numbers =
+PassNumber w h a b area rule plane marks queue numbers =
     let z = shapeOf w h in
-    let s = passOf a b area rule first second in
-    CountsOutcome (pixels z) (passRefusalOf z (numbersFor rule first second) s plane marks queue numbers)
+    let s = passOf a b area rule in
+    CountsOutcome (pixels z) (passRefusalOf z (numbersFor rule) s plane marks queue numbers)
     (passEffect (passNeighbours z) s plane) plane marks queue numbers
 
 -- ## A list of passes: the sums of both counts
@@ -77,20 +77,20 @@ ListNumber w h list plane marks queue numbers =
 
 -- ## An enhancement: the sums of both counts over its passes
 
--- 1, 2, 3, 4, 14 for the output, 17, 9, 6, 7, 8, 14 for the counts
+-- 1, 2, 3, 4, 14 for the output, 17, 9, 6, 7, 8, 18, 14 for the counts
 unfoldable pub enhanceRefusalOf : Shape → RuleNumbers → Settings → List ℕ → List ℕ → List ℕ → List ℕ → List ℕ → List ℕ
     → ℕ
 enhanceRefusalOf z n t frame plane marks queue output numbers =
     memoryRefusal z (length frame) (length plane) (length marks) (length queue) (length output)
     ▷ formRefusal n ▷ settingsRefusal t ▷ countsRefusal (length numbers)
 
-abbrev pub EnhanceNumber : (w h last area rule first second : ℕ) (frame plane marks queue output numbers : List ℕ)
+abbrev pub EnhanceNumber : (w h last area : ℕ) (rule frame plane marks queue output numbers : List ℕ)
     (r : ℤ) (plane' marks' queue' output' numbers' : List ℕ) → Type 0
-EnhanceNumber w h last area rule first second frame plane marks queue output numbers =
+EnhanceNumber w h last area rule frame plane marks queue output numbers =
     let z = shapeOf w h in
-    let t = settingsOf last area rule first second in
+    let t = settingsOf last area rule in
     CountsOutputOutcome (pixels z)
-    (enhanceRefusalOf z (numbersFor rule first second) t frame plane marks queue output numbers)
+    (enhanceRefusalOf z (numbersFor rule) t frame plane marks queue output numbers)
     (chainEffect (chainOf z t frame)) (recolour frame (chainOf z t frame .plane))
     plane marks queue output numbers
 

@@ -16,7 +16,6 @@ use enhance::Settings;
 use model::Pass;
 use netpbm::Header;
 use planes::Shape;
-use tones::RuleNumbers;
 
 // Fills the plane with the intensities of the frame.
 #[no_mangle]
@@ -53,22 +52,15 @@ pub extern "C" fn mlhe_pass(
     a: u8,
     b: u8,
     area: u32,
-    rule: u8,
-    first: u16,
-    second: u16,
+    rule: &[u16],
     counts: &mut [usize],
 ) -> i64
-    ensures { λ r. ⌜ PassNumber w h a b area rule first second (now (plane .entry)) (now (marks .entry))
+    ensures { λ r. ⌜ PassNumber w h a b area (now (rule .entry)) (now (plane .entry)) (now (marks .entry))
         (now (queue .entry)) (now (counts .entry)) r (now (plane .exit)) (now (marks .exit)) (now (queue .exit))
         (now (counts .exit)) ⌝ }
 {
     let shape = Shape { w, h };
-    let numbers = RuleNumbers {
-        code: rule,
-        extra: 0,
-        first,
-        second,
-    };
+    let numbers = cnumbers::rule_numbers(rule);
     let refusal = cnumbers::pass_form_refusal(
         shape,
         plane.len(),
@@ -121,26 +113,19 @@ pub extern "C" fn mlhe_enhance(
     h: usize,
     last: u8,
     area: u32,
-    rule: u8,
-    first: u16,
-    second: u16,
+    rule: &[u16],
     plane: &mut [u8],
     marks: &mut [u8],
     queue: &mut [u32],
     output: &mut [u8],
     counts: &mut [usize],
 ) -> i64
-    ensures { λ r. ⌜ EnhanceNumber w h last area rule first second (now (frame .entry)) (now (plane .entry))
+    ensures { λ r. ⌜ EnhanceNumber w h last area (now (rule .entry)) (now (frame .entry)) (now (plane .entry))
         (now (marks .entry)) (now (queue .entry)) (now (output .entry)) (now (counts .entry)) r
         (now (plane .exit)) (now (marks .exit)) (now (queue .exit)) (now (output .exit)) (now (counts .exit)) ⌝ }
 {
     let shape = Shape { w, h };
-    let numbers = RuleNumbers {
-        code: rule,
-        extra: 0,
-        first,
-        second,
-    };
+    let numbers = cnumbers::rule_numbers(rule);
     let refusal = cnumbers::enhance_form_refusal(
         shape,
         frame.len(),

@@ -3,7 +3,7 @@
 ghost use Prim.Native.Nat.{_<_};
 
 // The length of a head.
-pub const HEAD: usize = 36;
+pub const HEAD: usize = 37;
 
 // One case. A call uses the fields that it needs; lengths are those of what is lent.
 pub struct Case {
@@ -24,6 +24,7 @@ pub struct Case {
     pub limit: usize,
     pub bytes: usize,
     pub plane: usize,
+    pub segments: u8,
 }
 
 // The number of two bytes.
@@ -84,5 +85,6 @@ pub fn case_of(head: &[u8; HEAD]) -> Case {
         limit: size_at(head, 28),
         bytes: length_at(head, 32),
         plane: length_at(head, 34),
+        segments: head[36],
     }
 }

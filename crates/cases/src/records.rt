@@ -10,19 +10,14 @@ use tones::RuleNumbers;
 // The length of a record.
 pub const RECORD: usize = 12;
 
-// The tone rule of these numbers.
-fn rule_of(code: u8, first: u16, second: u16) -> Rule {
-    tones::rule_of(RuleNumbers {
-        code,
-        extra: 0,
-        first,
-        second,
-    })
-}
-
 // The tone rule of a case.
 pub fn case_rule(case: Case) -> Rule {
-    rule_of(case.rule, case.first, case.second)
+    tones::rule_of(RuleNumbers {
+        code: case.rule,
+        extra: case.segments,
+        first: case.first,
+        second: case.second,
+    })
 }
 
 // The pass of a case.
@@ -59,11 +54,12 @@ fn long_at(bytes: &[u8], i: usize) -> u32
 fn pass_at(bytes: &[u8], i: usize) -> Pass
     requires { ⌜ i < 60000 ⌝ }
 {
-    let rule = rule_of(
-        byte_at(bytes, i + 2),
-        short_at(bytes, i + 8),
-        short_at(bytes, i + 10),
-    );
+    let rule = tones::rule_of(RuleNumbers {
+        code: byte_at(bytes, i + 2),
+        extra: byte_at(bytes, i + 3),
+        first: short_at(bytes, i + 8),
+        second: short_at(bytes, i + 10),
+    });
     Pass {
         a: byte_at(bytes, i),
         b: byte_at(bytes, i + 1),

@@ -14,7 +14,8 @@ use Rattle.planes.specs.Shapes.{shapeOf, lentRefusal}
 use Rattle.planes.specs.declared.Shape.{Shape}
 use Rattle.planes.proofs.Refusals.{▷-none, ▷-assoc}
 use Rattle.tones.specs.declared.RuleNumbers.{RuleNumbers}
-use Rattle.tones.specs.Numbers.{formRefusal}
+use Rattle.tones.specs.Numbers.{ruleOf, formRefusal}
+use Rattle.tones.proofs.Numbers.{read-rule, formed-rule}
 use Rattle.planes.proofs.Replies.{refuses-not-gives, gives-same, replied-gives, replied-refuses, replied-refused}
 use Rattle.planes.proofs.Replies.{after-refused}
 use Rattle.colours.specs.declared.Status.{Status}
@@ -41,6 +42,7 @@ use Rattle.netpbm.proofs.Replies.{refused-answer, framed-answer, refused-some}
 use Rattle.cnumbers.specs.Numbers.{encoded, numberReply, doneReply, statusNumber, writtenNumber}
 use Rattle.cnumbers.specs.Numbers.{countsRefusal, countsReply}
 use Rattle.cnumbers.specs.Numbers.{numbersFor, passOf, settingsOf}
+use Rattle.cnumbers.proofs.Numbers.{rule-lent, no-rule-lent}
 use Rattle.cnumbers.specs.Numbers.{readNumber, numbersAfter}
 use Rattle.capi.specs.Calls.{CountsOutcome, CountsOutputOutcome, passRefusalOf, enhanceRefusalOf, ReadNumber}
 use Rattle.claims.specs.CFunctions.{Stands, StandsCounted, CFunctions}
@@ -256,24 +258,28 @@ c-functions = record {
   of-recolour = λ w h {frame} {plane} {output} {output'} r O.
       stands-status (λ y. RecolourOutcome w h frame plane output y output')
       (recolourRefusal w h (length frame) (length plane) (length output)) r (O .answer) O;
-  of-pass = λ w h a b area rule first second {plane} {marks} {queue} {plane'} {marks'} {queue'} numbers {numbers'} r
+  of-rule = λ r fits.
+      let is = rule-lent r fits in
+      (ap ruleOf is ∙ read-rule r, ap formRefusal is ∙ ap (λ (t : Bool). when t 17) (formed-rule r));
+  of-no-rule = no-rule-lent;
+  of-pass = λ w h a b area rule {plane} {marks} {queue} {plane'} {marks'} {queue'} numbers {numbers'} r
       fine room O.
       let z = shapeOf w h in
-      let s = passOf a b area rule first second in
-      let is = pass-ruled z (numbersFor rule first second) s plane marks queue numbers fine ∙ enough _ numbers room in
+      let s = passOf a b area rule in
+      let is = pass-ruled z (numbersFor rule) s plane marks queue numbers fine ∙ enough _ numbers room in
       counted-stands (λ y. PassOutcome z s plane marks queue y plane' marks' queue') O (outcome-number is (O .outcome));
-  of-no-pass = λ w h a b area rule first second {plane} {marks} {queue} numbers r bad O.
+  of-no-pass = λ w h a b area rule {plane} {marks} {queue} numbers r bad O.
       let z = shapeOf w h in
-      let n = numbersFor rule first second in
-      let s = passOf a b area rule first second in
+      let n = numbersFor rule in
+      let s = passOf a b area rule in
       counts-refused (lent z n s plane marks queue numbers ▷ 17) (pass-unruled z n s plane marks queue numbers bad)
       (some-17 (lent z n s plane marks queue numbers)) O;
-  of-pass-short = λ w h a b area rule first second {plane} {marks} {queue} numbers r fine few O.
+  of-pass-short = λ w h a b area rule {plane} {marks} {queue} numbers r fine few O.
       let z = shapeOf w h in
-      let s = passOf a b area rule first second in
+      let s = passOf a b area rule in
       let number = passCallRefusal z s plane marks queue in
       counts-refused (number ▷ 14)
-      (pass-ruled z (numbersFor rule first second) s plane marks queue numbers fine ∙ too-few number numbers few)
+      (pass-ruled z (numbersFor rule) s plane marks queue numbers fine ∙ too-few number numbers few)
       (some-14 number) O;
   of-list = λ w h list {plane} {marks} {queue} {plane'} {marks'} {queue'} numbers {numbers'} r room O.
       let z = shapeOf w h in
@@ -282,27 +288,27 @@ c-functions = record {
   of-list-short = λ w h list {plane} {marks} {queue} numbers r few O.
       let number = runListRefusal (shapeOf w h) list plane marks queue in
       counts-refused (number ▷ 14) (too-few number numbers few) (some-14 number) O;
-  of-enhance = λ w h last area rule first second frame {plane} {marks} {queue} {output} {plane'} {marks'} {queue'}
+  of-enhance = λ w h last area rule frame {plane} {marks} {queue} {output} {plane'} {marks'} {queue'}
       {output'} numbers {numbers'} r fine room O.
       let z = shapeOf w h in
-      let t = settingsOf last area rule first second in
-      let is = enhance-ruled z (numbersFor rule first second) t frame plane marks queue output numbers fine
+      let t = settingsOf last area rule in
+      let is = enhance-ruled z (numbersFor rule) t frame plane marks queue output numbers fine
       ∙ enough _ numbers room in
       output-stands (λ y. EnhanceOutcome z t frame plane marks queue output y plane' marks' queue' output') O
       (output-number is (O .outcome));
-  of-no-enhance = λ w h last area rule first second frame {plane} {marks} {queue} {output} numbers r bad O.
+  of-no-enhance = λ w h last area rule frame {plane} {marks} {queue} {output} numbers r bad O.
       let z = shapeOf w h in
-      let n = numbersFor rule first second in
-      let t = settingsOf last area rule first second in
+      let n = numbersFor rule in
+      let t = settingsOf last area rule in
       output-refused (memory z n t frame plane marks queue output numbers ▷ 17)
       (enhance-unruled z n t frame plane marks queue output numbers bad)
       (some-17 (memory z n t frame plane marks queue output numbers)) O;
-  of-enhance-short = λ w h last area rule first second frame {plane} {marks} {queue} {output} numbers r fine few O.
+  of-enhance-short = λ w h last area rule frame {plane} {marks} {queue} {output} numbers r fine few O.
       let z = shapeOf w h in
-      let t = settingsOf last area rule first second in
+      let t = settingsOf last area rule in
       let number = enhanceCallRefusal z t frame plane marks queue output in
       output-refused (number ▷ 14)
-      (enhance-ruled z (numbersFor rule first second) t frame plane marks queue output numbers fine
+      (enhance-ruled z (numbersFor rule) t frame plane marks queue output numbers fine
       ∙ too-few number numbers few)
       (some-14 number) O;
   of-write = λ w h {raster} {output} {output'} r O.

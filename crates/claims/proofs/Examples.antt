@@ -11,6 +11,7 @@ use Rattle.planes.specs.Extrema.{flat, extreme, extremes}
 use Rattle.planes.proofs.Lists.{beyond-refl}
 use Rattle.plain.specs.Plain.{plainTone, plainKept}
 use Rattle.limited.specs.Limited.{clipped, limitedTone}
+use Rattle.affine.specs.Affine.{leastFrom, nextPoint, pointsAfter, joined, affineTop, affineTone, affineKept}
 use Rattle.tones.specs.Tones.{tone, kept}
 use Rattle.channels.specs.Channels.{third, newChannel}
 use Rattle.colours.specs.Frames.{pixelIntensity, intensity, greatestChannel, recolour}
@@ -22,6 +23,7 @@ use Rattle.tones.specs.Refusals.{ruleRefusal}
 use Rattle.model.specs.Calls.{areaRefusal, numbersRefusal, passRefusal, call, chain}
 use Rattle.model.specs.Enhancement.{section, level, levels, passes, callOf, enhanced}
 use Rattle.tones.specs.Examples.{anyRatio}
+use Rattle.tones.proofs.Examples.{tone-examples}
 use Rattle.model.proofs.PublishedExamples.{published-examples}
 use Rattle.passes.specs.Calls.{none, more}
 use Rattle.tones.specs.Numbers.{malformed}
@@ -40,6 +42,7 @@ use Rattle.claims.specs.Examples.{on, PassExamples, ExtremaExamples, Sta
 
 pass-examples : PassExamples
 unfolding passNeighbours neighbours four linked component first plainTone plainKept clipped limitedTone tone kept
+    affineTone affineTop affineKept leastFrom nextPoint pointsAfter joined
     inside componentValues changes keptBack retone newTone passed componentCount
 pass-examples = record {
   A = refl;
@@ -52,6 +55,10 @@ pass-examples = record {
   H = refl;
   I = refl;
   J = refl;
+  U = refl;
+  U-kept = refl;
+  U-flat = refl;
+  U-same = refl;
   least = refl;
   joined = refl;
 }
@@ -72,6 +79,7 @@ extrema-examples = record {
 pub starred : Starred
 unfolding shapeRefusal sizeRefusal sideRefusal pixelRefusal lengthRefusal passNeighbours neighbours four linked
     component first plainTone plainKept clipped limitedTone tone kept
+    affineTone affineTop affineKept leastFrom nextPoint pointsAfter joined
     third pixelIntensity intensity greatestChannel newChannel recolour
     inside componentValues changes keptBack retone newTone passed componentCount runEffect
     roomRefusal areaRefusal ruleRefusal numbersRefusal lentRefusal passRefusal call chain
@@ -81,12 +89,14 @@ unfolding shapeRefusal sizeRefusal sideRefusal pixelRefusal lengthRefusal passNe
     isDigit isWhite isSign endsComment pieces gap mark numeral field headerWith header
     maxvalRefusal rasterRefusal trailingRefusal frameRefusal readAnswer decimal heading enhancedFrame programOutput
 starred = record {
+  tones = tone-examples;
   passes = pass-examples;
   extrema = extrema-examples;
   K = refl;
   L = refl;
   flat = refl;
   flat-small = refl;
+  flat-affine = refl;
   published = published-examples;
   N = refl;
   N′ = refl;
@@ -96,6 +106,9 @@ starred = record {
   Q-is = refl;
   Q-accepted = refl;
   Q = refl;
+  W-is = refl;
+  W-accepted = refl;
+  W = refl;
 }
 
 -- ## Demand 3 on a chain

@@ -3,8 +3,9 @@
 --
 --   Stands          an answer of some kind that the number stands for, with what holds of it
 --   StandsCounted   the same of a call that tells both counts, which stand in two lent numbers
---   CFunctions      one claim for each function; a pass and an enhancement by numbers that stand for no rule get 17; a
---                   call that tells both counts gets 14, last of all, where fewer than two numbers are lent
+--   CFunctions      one claim for each function; a rule is four numbers, and a pass and an enhancement by numbers that
+--                   stand for no rule get 17; a call that tells both counts gets 14, last of all, where fewer than two
+--                   numbers are lent
 use Prim.Native.Nat.{ℕ, _≤_, _<_}
 use mathlib.Core.Path.{_≡_}
 use mathlib.Core.List.{List, [], _∷_}
@@ -13,7 +14,8 @@ use lib.ListN.{length, drop}
 use Rattle.planes.specs.Refusals.{_▷_, greatestPixels}
 use Rattle.planes.specs.Replies.{refuses, gives}
 use Rattle.planes.specs.Shapes.{shapeOf, lentRefusal}
-use Rattle.tones.specs.Numbers.{formRefusal}
+use Rattle.tones.specs.declared.Rule.{Rule}
+use Rattle.tones.specs.Numbers.{ruleOf, formRefusal, RuleFits}
 use Rattle.colours.specs.Calls.{statusReply, IntensityOutcome, RecolourOutcome}
 use Rattle.model.specs.declared.Answer.{Answer}
 use Rattle.model.specs.Outcomes.{answerReply}
@@ -23,7 +25,7 @@ use Rattle.passlists.specs.Outcomes.{runListRefusal, ListOutcome}
 use Rattle.netpbm.specs.Reading.{readReply}
 use Rattle.netpbm.specs.Writing.{writtenReply, WriteOutcome}
 use Rattle.cnumbers.specs.Numbers.{numberReply, doneReply, statusNumber, answerNumber, countsAfter, writtenNumber}
-use Rattle.cnumbers.specs.Numbers.{numbersFor, passOf, settingsOf}
+use Rattle.cnumbers.specs.Numbers.{numbersFor, ruleLent, passOf, settingsOf}
 use Rattle.capi.specs.Calls.{PassNumber, ListNumber, EnhanceNumber, ReadNumber}
 
 -- r is the number of an answer a of which P holds
@@ -46,26 +48,30 @@ pub record CFunctions : Type 0 where
   pub of-recolour : (w h : ℕ) {frame plane output output' : List ℕ} (r : ℤ)
       → RecolourOutcome w h frame plane output (doneReply r) output'
       → Stands statusNumber (λ s. RecolourOutcome w h frame plane output (statusReply s) output') r
-  pub of-pass : (w h a b area rule first second : ℕ) {plane marks queue plane' marks' queue' : List ℕ}
+  -- every rule has four numbers that stand for it; no other number of them stands for a rule
+  pub of-rule : (r : Rule) → RuleFits r → (ruleOf (numbersFor (ruleLent r)) ≡ r)
+      × (formRefusal (numbersFor (ruleLent r)) ≡ 0)
+  pub of-no-rule : (rule : List ℕ) → (length rule ≡ 4 → ⊥) → formRefusal (numbersFor rule) ≡ 17
+  pub of-pass : (w h a b area : ℕ) (rule : List ℕ) {plane marks queue plane' marks' queue' : List ℕ}
       (numbers : List ℕ) {numbers' : List ℕ} (r : ℤ)
-      → formRefusal (numbersFor rule first second) ≡ 0 → 2 ≤ length numbers
-      → PassNumber w h a b area rule first second plane marks queue numbers r plane' marks' queue' numbers'
-      → StandsCounted (λ s. PassOutcome (shapeOf w h) (passOf a b area rule first second)
+      → formRefusal (numbersFor rule) ≡ 0 → 2 ≤ length numbers
+      → PassNumber w h a b area rule plane marks queue numbers r plane' marks' queue' numbers'
+      → StandsCounted (λ s. PassOutcome (shapeOf w h) (passOf a b area rule)
       plane marks queue (answerReply s) plane' marks' queue') numbers r numbers'
   -- 17 after 1 to 4, and nothing changes
-  pub of-no-pass : (w h a b area rule first second : ℕ) {plane marks queue plane' marks' queue' : List ℕ}
+  pub of-no-pass : (w h a b area : ℕ) (rule : List ℕ) {plane marks queue plane' marks' queue' : List ℕ}
       (numbers : List ℕ) {numbers' : List ℕ} (r : ℤ)
-      → formRefusal (numbersFor rule first second) ≡ 17
-      → PassNumber w h a b area rule first second plane marks queue numbers r plane' marks' queue' numbers'
+      → formRefusal (numbersFor rule) ≡ 17
+      → PassNumber w h a b area rule plane marks queue numbers r plane' marks' queue' numbers'
       → (numberReply r ≡ refuses (lentRefusal (shapeOf w h) (length plane) (length marks) (length queue) ▷ 17))
       × (((plane' ≡ plane) × ((marks' ≡ marks) × (queue' ≡ queue))) × (numbers' ≡ numbers))
   -- 14 after all others, and nothing changes
-  pub of-pass-short : (w h a b area rule first second : ℕ) {plane marks queue plane' marks' queue' : List ℕ}
+  pub of-pass-short : (w h a b area : ℕ) (rule : List ℕ) {plane marks queue plane' marks' queue' : List ℕ}
       (numbers : List ℕ) {numbers' : List ℕ} (r : ℤ)
-      → formRefusal (numbersFor rule first second) ≡ 0 → length numbers < 2
-      → PassNumber w h a b area rule first second plane marks queue numbers r plane' marks' queue' numbers'
+      → formRefusal (numbersFor rule) ≡ 0 → length numbers < 2
+      → PassNumber w h a b area rule plane marks queue numbers r plane' marks' queue' numbers'
       → (numberReply r
-      ≡ refuses (passCallRefusal (shapeOf w h) (passOf a b area rule first second) plane marks queue ▷ 14))
+      ≡ refuses (passCallRefusal (shapeOf w h) (passOf a b area rule) plane marks queue ▷ 14))
       × (((plane' ≡ plane) × ((marks' ≡ marks) × (queue' ≡ queue))) × (numbers' ≡ numbers))
   pub of-list : (w h : ℕ) (list : List ℕ) {plane marks queue plane' marks' queue' : List ℕ}
       (numbers : List ℕ) {numbers' : List ℕ} (r : ℤ) → 2 ≤ length numbers
@@ -77,31 +83,31 @@ pub record CFunctions : Type 0 where
       → ListNumber w h list plane marks queue numbers r plane' marks' queue' numbers'
       → (numberReply r ≡ refuses (runListRefusal (shapeOf w h) list plane marks queue ▷ 14))
       × (((plane' ≡ plane) × ((marks' ≡ marks) × (queue' ≡ queue))) × (numbers' ≡ numbers))
-  pub of-enhance : (w h last area rule first second : ℕ) (frame : List ℕ)
+  pub of-enhance : (w h last area : ℕ) (rule frame : List ℕ)
       {plane marks queue output plane' marks' queue' output' : List ℕ} (numbers : List ℕ) {numbers' : List ℕ} (r : ℤ)
-      → formRefusal (numbersFor rule first second) ≡ 0 → 2 ≤ length numbers
-      → EnhanceNumber w h last area rule first second frame plane marks queue output numbers r
+      → formRefusal (numbersFor rule) ≡ 0 → 2 ≤ length numbers
+      → EnhanceNumber w h last area rule frame plane marks queue output numbers r
       plane' marks' queue' output' numbers'
-      → StandsCounted (λ s. EnhanceOutcome (shapeOf w h) (settingsOf last area rule first second) frame
+      → StandsCounted (λ s. EnhanceOutcome (shapeOf w h) (settingsOf last area rule) frame
       plane marks queue output (answerReply s) plane' marks' queue' output') numbers r numbers'
   -- 17 after 1, 2, 3, 4 and 14 for the output, and nothing changes
-  pub of-no-enhance : (w h last area rule first second : ℕ) (frame : List ℕ)
+  pub of-no-enhance : (w h last area : ℕ) (rule frame : List ℕ)
       {plane marks queue output plane' marks' queue' output' : List ℕ} (numbers : List ℕ) {numbers' : List ℕ} (r : ℤ)
-      → formRefusal (numbersFor rule first second) ≡ 17
-      → EnhanceNumber w h last area rule first second frame plane marks queue output numbers r
+      → formRefusal (numbersFor rule) ≡ 17
+      → EnhanceNumber w h last area rule frame plane marks queue output numbers r
       plane' marks' queue' output' numbers'
       → (numberReply r
       ≡ refuses (memoryRefusal (shapeOf w h) (length frame) (length plane) (length marks) (length queue) (length output)
       ▷ 17))
       × (((plane' ≡ plane) × ((marks' ≡ marks) × ((queue' ≡ queue) × (output' ≡ output)))) × (numbers' ≡ numbers))
   -- 14 after all others, and nothing changes
-  pub of-enhance-short : (w h last area rule first second : ℕ) (frame : List ℕ)
+  pub of-enhance-short : (w h last area : ℕ) (rule frame : List ℕ)
       {plane marks queue output plane' marks' queue' output' : List ℕ} (numbers : List ℕ) {numbers' : List ℕ} (r : ℤ)
-      → formRefusal (numbersFor rule first second) ≡ 0 → length numbers < 2
-      → EnhanceNumber w h last area rule first second frame plane marks queue output numbers r
+      → formRefusal (numbersFor rule) ≡ 0 → length numbers < 2
+      → EnhanceNumber w h last area rule frame plane marks queue output numbers r
       plane' marks' queue' output' numbers'
       → (numberReply r
-      ≡ refuses (enhanceCallRefusal (shapeOf w h) (settingsOf last area rule first second) frame plane marks queue
+      ≡ refuses (enhanceCallRefusal (shapeOf w h) (settingsOf last area rule) frame plane marks queue
       output ▷ 14))
       × (((plane' ≡ plane) × ((marks' ≡ marks) × ((queue' ≡ queue) × (output' ≡ output)))) × (numbers' ≡ numbers))
   pub of-write : (w h : ℕ) {raster output output' : List ℕ} (r : ℤ)

@@ -134,17 +134,16 @@ pub record CContracts : Type 0 where
       → RecolourOutcome (a .1 .0) (a .1 .1 .0) (now (a .0)) (now (a .1 .1 .1 .0)) (now (a .1 .1 .1 .1 .0))
       (doneReply r) (now (s .1 .1 .1 .1 .0))
   pub recolour-asks : (κs : Lfts 3) (a : ArgsD mlhe-recolour.signature κs) → mlhe-recolour-reads.Asked κs a
-  -- mlhe_pass(plane, marks, queue, w, h, a, b, area, rule, first, second, counts)
-  pub of-pass : (κs : Lfts 4) (a : ArgsD mlhe-pass.signature κs) (r : ResD mlhe-pass.signature κs)
+  -- mlhe_pass(plane, marks, queue, w, h, a, b, area, rule, counts)
+  pub of-pass : (κs : Lfts 5) (a : ArgsD mlhe-pass.signature κs) (r : ResD mlhe-pass.signature κs)
       (s : AtExit mlhe-pass.ended κs) → mlhe-pass-reads.Learnt κs a r s → (
       let numbers = a .1 .1 .1 in
-      let lent = numbers .1 .1 .1 .1 .1 .1 .1 .1 in
-      let left = s .1 .1 .1 .1 .1 .1 .1 .1 .1 .1 .1 in
+      let lent = numbers .1 .1 .1 .1 .1 in
+      let left = s .1 .1 .1 .1 .1 .1 .1 .1 .1 in
       PassNumber (numbers .0) (numbers .1 .0) (numbers .1 .1 .0) (numbers .1 .1 .1 .0) (numbers .1 .1 .1 .1 .0)
-      (numbers .1 .1 .1 .1 .1 .0) (numbers .1 .1 .1 .1 .1 .1 .0) (numbers .1 .1 .1 .1 .1 .1 .1 .0)
-      (now (a .0)) (now (a .1 .0)) (now (a .1 .1 .0)) (now (lent .0)) r
+      (now (lent .0)) (now (a .0)) (now (a .1 .0)) (now (a .1 .1 .0)) (now (lent .1 .0)) r
       (now (s .0)) (now (s .1 .0)) (now (s .1 .1 .0)) (now (left .0)))
-  pub pass-asks : (κs : Lfts 4) (a : ArgsD mlhe-pass.signature κs) → mlhe-pass-reads.Asked κs a
+  pub pass-asks : (κs : Lfts 5) (a : ArgsD mlhe-pass.signature κs) → mlhe-pass-reads.Asked κs a
   -- mlhe_run_list(list, plane, marks, queue, w, h, counts)
   pub of-list : (κs : Lfts 5) (a : ArgsD mlhe-run-list.signature κs) (r : ResD mlhe-run-list.signature κs)
       (s : AtExit mlhe-run-list.ended κs) → mlhe-run-list-reads.Learnt κs a r s
@@ -152,18 +151,18 @@ pub record CContracts : Type 0 where
       (now (a .1 .0)) (now (a .1 .1 .0)) (now (a .1 .1 .1 .0)) (now (a .1 .1 .1 .1 .1 .1 .0)) r
       (now (s .1 .0)) (now (s .1 .1 .0)) (now (s .1 .1 .1 .0)) (now (s .1 .1 .1 .1 .1 .1 .0))
   pub list-asks : (κs : Lfts 5) (a : ArgsD mlhe-run-list.signature κs) → mlhe-run-list-reads.Asked κs a
-  -- mlhe_enhance(frame, w, h, last, area, rule, first, second, plane, marks, queue, output, counts)
-  pub of-enhance : (κs : Lfts 6) (a : ArgsD mlhe-enhance.signature κs) (r : ResD mlhe-enhance.signature κs)
+  -- mlhe_enhance(frame, w, h, last, area, rule, plane, marks, queue, output, counts)
+  pub of-enhance : (κs : Lfts 7) (a : ArgsD mlhe-enhance.signature κs) (r : ResD mlhe-enhance.signature κs)
       (s : AtExit mlhe-enhance.ended κs) → mlhe-enhance-reads.Learnt κs a r s → (
       let numbers = a .1 in
-      let memory = a .1 .1 .1 .1 .1 .1 .1 .1 in
-      let left = s .1 .1 .1 .1 .1 .1 .1 .1 in
-      EnhanceNumber (numbers .0) (numbers .1 .0) (numbers .1 .1 .0) (numbers .1 .1 .1 .0) (numbers .1 .1 .1 .1 .0)
-      (numbers .1 .1 .1 .1 .1 .0) (numbers .1 .1 .1 .1 .1 .1 .0) (now (a .0))
+      let memory = a .1 .1 .1 .1 .1 .1 in
+      let left = s .1 .1 .1 .1 .1 .1 in
+      EnhanceNumber (numbers .0) (numbers .1 .0) (numbers .1 .1 .0) (numbers .1 .1 .1 .0)
+      (now (numbers .1 .1 .1 .1 .0)) (now (a .0))
       (now (memory .0)) (now (memory .1 .0)) (now (memory .1 .1 .0)) (now (memory .1 .1 .1 .0))
       (now (memory .1 .1 .1 .1 .0)) r
       (now (left .0)) (now (left .1 .0)) (now (left .1 .1 .0)) (now (left .1 .1 .1 .0)) (now (left .1 .1 .1 .1 .0)))
-  pub enhance-asks : (κs : Lfts 6) (a : ArgsD mlhe-enhance.signature κs) → mlhe-enhance-reads.Asked κs a
+  pub enhance-asks : (κs : Lfts 7) (a : ArgsD mlhe-enhance.signature κs) → mlhe-enhance-reads.Asked κs a
   -- mlhe_read(bytes, numbers)
   pub of-read : (κs : Lfts 2) (a : ArgsD mlhe-read.signature κs) (r : ResD mlhe-read.signature κs)
       (s : AtExit mlhe-read.ended κs) → mlhe-read-reads.Learnt κs a r s

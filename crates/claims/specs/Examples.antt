@@ -15,7 +15,7 @@ use Rattle.planes.specs.Shapes.{shapeOf, neighbours}
 use Rattle.planes.specs.declared.Shape.{Shape}
 use Rattle.planes.specs.Extrema.{maxima, minima}
 use Rattle.tones.specs.declared.Rule.{Rule}
-use Rattle.tones.specs.declared.Rule.the-variants.{Plain, Limited}
+use Rattle.tones.specs.declared.Rule.the-variants.{Plain, Limited, Affine}
 use Rattle.colours.specs.Frames.{intensity, recolour}
 use Rattle.colours.specs.Calls.{IntensityOutcome}
 use Rattle.model.specs.declared.Pass.{Pass}
@@ -23,7 +23,7 @@ use Rattle.model.specs.Neighbourhoods.{passNeighbours}
 use Rattle.model.specs.Effects.{passEffect, runEffect}
 use Rattle.model.specs.Calls.{chainEffect}
 use Rattle.model.specs.Enhancement.{enhanced}
-use Rattle.tones.specs.Examples.{anyRatio, rowA}
+use Rattle.tones.specs.Examples.{anyRatio, rowA, ToneExamples}
 use Rattle.model.specs.PublishedExamples.{PublishedExamples}
 use Rattle.passes.specs.Calls.{callOn, Sequence}
 use Rattle.listformat.specs.Format.{passesOf, encode}
@@ -71,6 +71,12 @@ pub record PassExamples : Type 0 where
   pub I : After (row 4) rowA (on 0 255 1 (Limited 0)) (11 ∷ 11 ∷ 21 ∷ 31 ∷ []) 1 0
   -- 10 and 20 touch at a corner only: two components of one pixel, both kept back
   pub J : After (shapeOf 2 2) planeJ (on 0 127 1 anyRatio) planeJ 0 2
+  -- A under the affine rule; kept back where the slopes do not reach b; a component of one value may be retoned; one
+  -- that gets the rule and comes out as it was is retoned
+  pub U : After (row 4) rowA (on 0 255 1 (Affine 2 100 10000)) (128 ∷ 128 ∷ 191 ∷ 255 ∷ []) 1 0
+  pub U-kept : After (row 4) rowA (on 0 255 1 (Affine 2 100 300)) rowA 0 1
+  pub U-flat : After (row 2) (7 ∷ 7 ∷ []) (on 0 255 1 (Affine 1 0 10000)) (255 ∷ 255 ∷ []) 1 0
+  pub U-same : After (row 2) (8 ∷ 10 ∷ []) (on 0 10 1 (Affine 2 200 10000)) (8 ∷ 10 ∷ []) 1 0
   -- components of exactly the least area
   pub least : After (row 5) rowE (on 0 127 2 anyRatio) (64 ∷ 127 ∷ 200 ∷ 10 ∷ 10 ∷ []) 1 1
   -- neighbours may become one
@@ -125,7 +131,20 @@ commentedP = ascii "P6# by hand\n2#1\r1 #\n# 15\n255\n" ++ greyK
 abbrev pub listQ : List ℕ
 listQ = 77 ∷ 76 ∷ 80 ∷ 1 ∷ 0 ∷ 1 ∷ 0 ∷ 0 ∷ 127 ∷ 0 ∷ 0 ∷ 1 ∷ 0 ∷ 0 ∷ 0 ∷ 0 ∷ 0 ∷ 156 ∷ 99 ∷ []
 
+-- one pass of each rule, as a list
+abbrev pub passesW : List Pass
+passesW = on 0 127 1 anyRatio ∷ on 128 255 1 (Limited 10) ∷ on 0 255 1 (Affine 2 100 10000) ∷ []
+
+abbrev pub listW : List ℕ
+listW =
+    77 ∷ 76 ∷ 80 ∷ 1 ∷ 0 ∷ 3 ∷ 0
+    ∷ 0 ∷ 127 ∷ 0 ∷ 0 ∷ 1 ∷ 0 ∷ 0 ∷ 0 ∷ 0 ∷ 0 ∷ 156 ∷ 99
+    ∷ 128 ∷ 255 ∷ 1 ∷ 0 ∷ 1 ∷ 0 ∷ 0 ∷ 0 ∷ 10 ∷ 0 ∷ 0 ∷ 0
+    ∷ 0 ∷ 255 ∷ 2 ∷ 2 ∷ 1 ∷ 0 ∷ 0 ∷ 0 ∷ 100 ∷ 0 ∷ 16 ∷ 39 ∷ []
+
 pub record Starred : Type 0 where
+  -- every rule on its own, with its boundaries
+  pub tones : ToneExamples
   pub passes : PassExamples
   pub extrema : ExtremaExamples
   pub K : Enhancing greyK (row 2) 0 20 anyRatio (128 ∷ 255 ∷ []) 1 0
@@ -133,6 +152,8 @@ pub record Starred : Type 0 where
   -- one value: kept back on both levels; on level 0 alone where its area is below the least
   pub flat : Enhancing greyFlat (row 2) 1 2 (Plain 80 300) (7 ∷ 7 ∷ []) 0 2
   pub flat-small : Enhancing greyFlat (row 2) 1 3 (Plain 80 300) (7 ∷ 7 ∷ []) 0 1
+  -- the affine rule may retone one value, on both levels
+  pub flat-affine : Enhancing greyFlat (row 2) 1 2 (Affine 1 0 10000) (255 ∷ 255 ∷ []) 2 0
   -- K, L and M by components
   pub published : PublishedExamples
   pub N : recolour (200 ∷ 100 ∷ 0 ∷ []) (120 ∷ []) ≡ 240 ∷ 120 ∷ 0 ∷ []
@@ -147,6 +168,11 @@ pub record Starred : Type 0 where
   pub Q-accepted : listRefusal listQ ≡ 0
   pub Q : runEffect (passNeighbours (row 5)) (passesOf listQ) rowE
       ≡ record { plane = 64 ∷ 127 ∷ 200 ∷ 10 ∷ 10 ∷ []; retoned = 1; kept = 1 }
+  -- a list of all three rules
+  pub W-is : encode passesW ≡ listW
+  pub W-accepted : listRefusal listW ≡ 0
+  pub W : runEffect (passNeighbours (row 5)) (passesOf listW) rowE
+      ≡ record { plane = 123 ∷ 184 ∷ 255 ∷ 19 ∷ 19 ∷ []; retoned = 3; kept = 1 }
 
 -- ## The hypotheses of demand 3 can be met
 

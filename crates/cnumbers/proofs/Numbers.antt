@@ -1,12 +1,13 @@
--- Answers as numbers: what the machine makes of a negated refusal, and that the number of a call's answer stands for
--- the reply of that answer. Assumes nothing.
-use Prim.Native.Nat.{ℕ, zero, suc, _-_, _<_, _^_, _≤_}
+-- The numbers of a rule stand for it. Answers as numbers: what the machine makes of a negated refusal, and that the
+-- number of a call's answer stands for the reply of that answer. Assumes nothing.
+use Prim.Native.Nat.{ℕ, zero, suc, _-_, _<_, _^_, _≤_, min}
 use mathlib.Core.Path.{_≡_, refl, sym, ap, _∙_}
 use mathlib.Core.Bool.{Bool, cond}
 use mathlib.Core.List.{List, [], _∷_}
 use lib.ListN.{length, drop, set}
 use lib.IntN.{ℤ, pos, negsuc, _-ℤ_}
-use borrow.Author.Tests.{lt-ltb}
+use borrow.Author.Tests.{lt-ltb, ne-eqb}
+use native.Mathlib.Nat.{min-eq-left}
 use native.Mathlib.Omega.{arith}
 use lib.Signed.{mag}
 use mir.Syntax.{w64}
@@ -20,11 +21,33 @@ use Rattle.colours.specs.declared.Status.the-variants as Status
 use Rattle.model.specs.Outcomes.{answerReply}
 use Rattle.model.specs.declared.Answer.{Answer}
 use Rattle.model.specs.declared.Answer.the-variants as Answer
+use Rattle.tones.specs.declared.Rule.{Rule}
+use Rattle.tones.specs.declared.Rule.the-variants.{Plain, Limited, Affine}
+use Rattle.tones.specs.declared.RuleNumbers.{RuleNumbers}
+use Rattle.tones.specs.Numbers.{malformed, formRefusal, numbersOf, RuleFits}
 use Rattle.netpbm.specs.Writing.{writtenReply}
 use Rattle.netpbm.specs.declared.Written.{Written}
 use Rattle.netpbm.specs.declared.Written.the-variants as Written
 use Rattle.cnumbers.specs.Numbers.{encoded, numberReply, doneReply, statusNumber, answerNumber, writtenNumber}
-use Rattle.cnumbers.specs.Numbers.{countsAfter, countsReply}
+use Rattle.cnumbers.specs.Numbers.{countsAfter, countsReply, numbersFor, ruleLent}
+
+-- ## The numbers of a rule
+
+-- the four numbers of a rule stand for it
+pub rule-lent : (r : Rule) → RuleFits r → numbersFor (ruleLent r) ≡ numbersOf r
+rule-lent (Plain low high) f = refl
+rule-lent (Limited k) f = refl
+rule-lent (Affine segments smin smax) f =
+    let byte : min segments 255 ≡ segments = min-eq-left (omega (arith, f .0)) in
+    let numbers : ℕ → RuleNumbers = λ x. record { code = 2; extra = x; first = smin; second = smax } in
+    ap numbers byte
+
+-- fewer or more stand for no rule
+pub no-rule-lent : (rule : List ℕ) → (length rule ≡ 4 → ⊥) → formRefusal (numbersFor rule) ≡ 17
+unfolding malformed
+no-rule-lent rule other = simp (ne-eqb (length rule) 4 other)
+
+-- ## What is handed on
 
 -- a result that is handed on is read back from its bits
 pub returned : {z v : ℤ} → mag z < 9223372036854775808 → z ≡ v → toZ w64 (ofZ w64 z) ≡ v

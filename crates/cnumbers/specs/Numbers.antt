@@ -9,16 +9,18 @@
 --   countsRefusal  14, where too few numbers are lent for both counts
 --   countsReply    the reply that a number and the lent numbers stand for, of such a call
 --   writtenNumber  the answer of writing, encoded
---   numbersFor     the numbers of a rule, as in a record of a pass list
+--   numbersFor     the numbers of a rule, by the four that are lent for it
+--   ruleLent       the four numbers of a rule
 --   passOf         the pass for its numbers
---   settingsOf     the settings for their numbers; the rule's are those of a record of a pass list
-use Prim.Native.Nat.{ℕ, zero, suc, _<_}
+--   settingsOf     the settings for their numbers
+use Prim.Native.Nat.{ℕ, zero, suc, _<_, min}
 use mathlib.Core.Bool.{cond}
 use mathlib.Core.Path.{_≡_}
 use mathlib.Core.List.{List, [], _∷_}
 use lib.IntN.{ℤ, pos, negsuc}
 use lib.ListN.{length, take, drop}
-use lib.Dec.{ltb}
+use lib.Dec.{eqb, ltb}
+use Rattle.planes.specs.Lists.{at}
 use Rattle.planes.specs.Refusals.{when}
 use Rattle.planes.specs.Replies.{Reply, refuses, gives, overwritten}
 use Rattle.model.specs.declared.Pass.{Pass}
@@ -31,8 +33,9 @@ use Rattle.netpbm.specs.declared.Header.the-variants as Header
 use Rattle.netpbm.specs.declared.Written.{Written}
 use Rattle.netpbm.specs.declared.Written.the-variants as Written
 use Rattle.levels.specs.declared.Settings.{Settings}
+use Rattle.tones.specs.declared.Rule.{Rule}
 use Rattle.tones.specs.declared.RuleNumbers.{RuleNumbers}
-use Rattle.tones.specs.Numbers.{ruleOf}
+use Rattle.tones.specs.Numbers.{ruleOf, numbersOf}
 
 -- the number of a refusal, 0 where there is none, and a value; negsuc k is -(k + 1)
 abbrev pub encoded : ℕ → ℕ → ℤ
@@ -81,16 +84,22 @@ writtenNumber (Written.Length size) = encoded 0 size
 pub record Short (r : Written) : Type 0 where
   pub short : (size : ℕ) → r ≡ Written.Length size → size < 9223372036854775808
 
--- a rule by its numbers, as in a record of a pass list whose extra byte is 0
-abbrev pub numbersFor : ℕ → ℕ → ℕ → RuleNumbers
-numbersFor rule first second = record { code = rule; extra = 0; first = first; second = second }
+-- a rule by four numbers: its code, first and second number, and segments. Code and segments are bytes of a record: what
+-- is above 255 stands for 255, which is no code and too many segments. Fewer or more numbers stand for no rule.
+abbrev pub numbersFor : List ℕ → RuleNumbers
+numbersFor rule =
+    cond (eqb (length rule) 4)
+    (record { code = min (at rule 0) 255; extra = min (at rule 3) 255; first = at rule 1; second = at rule 2 })
+    (record { code = 255; extra = 0; first = 0; second = 0 })
 
-abbrev pub passOf : ℕ → ℕ → ℕ → ℕ → ℕ → ℕ → Pass
-passOf a b area rule first second = record { a = a; b = b; area = area; rule = ruleOf (numbersFor rule first second) }
+abbrev pub ruleLent : Rule → List ℕ
+ruleLent rule = let n = numbersOf rule in n .code ∷ n .first ∷ n .second ∷ n .extra ∷ []
 
-abbrev pub settingsOf : ℕ → ℕ → ℕ → ℕ → ℕ → Settings
-settingsOf last area rule first second =
-    record { last = last; area = area; rule = ruleOf (numbersFor rule first second) }
+abbrev pub passOf : ℕ → ℕ → ℕ → List ℕ → Pass
+passOf a b area rule = record { a = a; b = b; area = area; rule = ruleOf (numbersFor rule) }
+
+abbrev pub settingsOf : ℕ → ℕ → List ℕ → Settings
+settingsOf last area rule = record { last = last; area = area; rule = ruleOf (numbersFor rule) }
 
 -- ## What reading answers
 

@@ -6,17 +6,18 @@
 // put_counts                       both counts in two lent numbers, or the refusal
 // short_counts                     a refusal where fewer than two numbers are lent: the call's own, or 14
 // put_numbers                      width, height and offset in three lent numbers
+// rule_numbers                     the numbers of a rule, by the four that are lent for it
 // pass_form_refusal                1 to 4, 17
 // enhance_form_refusal             1, 2, 3, 4, 14, 17
 ghost use mathlib.Core.Path.{_≡_};
-ghost use Prim.Native.Nat.{_≤_};
+ghost use Prim.Native.Nat.{_≤_, min};
 ghost use lib.ListN.{length};
 ghost use Rattle.planes.specs.Refusals.{_▷_};
 ghost use Rattle.planes.specs.Shapes.{lentRefusal};
 ghost use Rattle.tones.specs.Numbers.{formRefusal};
 ghost use Rattle.enhance.specs.Calls.{memoryRefusal};
 ghost use Rattle.cnumbers.specs.Numbers.{encoded, statusNumber, answerNumber, countsAfter, writtenNumber};
-ghost use Rattle.cnumbers.specs.Numbers.{Short};
+ghost use Rattle.cnumbers.specs.Numbers.{Short, numbersFor};
 ghost use Rattle.cnumbers.specs.Numbers.{readNumber, numbersAfter};
 use colours::Status;
 use model::Answer;
@@ -103,6 +104,44 @@ pub fn written_number(written: Written) -> i64
     match written {
         Written::Refused(k) => refused(k),
         Written::Length(size) => size as i64,
+    }
+}
+
+// A number as a byte, where all above 255 are 255.
+fn byte_of(x: u16) -> u8
+    ensures { λ r. ⌜ r ≡ min x 255 ⌝ }
+{
+    if x < 255 {
+        return x as u8;
+    }
+    255
+}
+
+// How many numbers are lent for a rule.
+pub const RULE_NUMBERS: usize = 4;
+
+// The numbers of a rule, by its code, first and second number, and segments; of fewer or more numbers, those of no
+// rule.
+pub fn rule_numbers(rule: &[u16]) -> RuleNumbers
+    ensures { λ r. ⌜ r ≡ numbersFor (now (rule .entry)) ⌝ }
+{
+    if rule.len() != RULE_NUMBERS {
+        return RuleNumbers {
+            code: 255,
+            extra: 0,
+            first: 0,
+            second: 0,
+        };
+    }
+    let code = byte_of(rule[0]);
+    let extra = byte_of(rule[3]);
+    let first = rule[1];
+    let second = rule[2];
+    RuleNumbers {
+        code,
+        extra,
+        first,
+        second,
     }
 }
 

@@ -2,7 +2,7 @@
 --
 --   house, levelRefusal, settingsRefusal   of the settings
 --   memoryRefusal    1, 2, 3, 4, 14, by the shape and by what is lent
---   enhanceRefusal   the number of the first refusal that applies, of 1, 2, 3, 4, 14, 9, 6, 7, 8; 0 where none does
+--   enhanceRefusal   the number of the first refusal that applies, of 1, 2, 3, 4, 14, 9, 6, 7, 8, 18; 0 where none does
 --   chainOf          the chain of passes that an enhancement stands for, from the frame's intensity
 --   sufficientOf     the components of sufficient area that the passes of this chain find
 --   Enhances         an accepted enhancement
@@ -32,7 +32,7 @@ memoryRefusal z frame plane marks queue output =
     shapeRefusal z ▷ lengthRefusal plane (pixels z) ▷ lengthRefusal frame (3 * pixels z)
     ▷ roomRefusal (pixels z) marks queue ▷ outputRefusal output (3 * pixels z)
 
--- 1, 2, 3, 4, 14, 9, 6, 7, 8
+-- 1, 2, 3, 4, 14, 9, 6, 7, 8, 18
 unfoldable pub enhanceRefusal : Shape → ℕ → ℕ → ℕ → ℕ → ℕ → Settings → ℕ
 enhanceRefusal z frame plane marks queue output t =
     memoryRefusal z frame plane marks queue output ▷ settingsRefusal t

@@ -4,7 +4,7 @@
 --
 --   house            the house setting
 --   levelRefusal     9, by the last level
---   settingsRefusal  9, 6, 7, 8, by the settings
+--   settingsRefusal  9, 6, 7, 8, 18, by the settings
 --   Wide             a section's width is a power of two, and so is the last level's
 --   Below            how many levels there are below a section's own
 --   Deeper           whether a section is split
@@ -33,7 +33,7 @@ house = record { last = 7; area = 20; rule = Plain 80 300 }
 unfoldable pub levelRefusal : ℕ → ℕ
 levelRefusal last = when (ltb 7 last) 9
 
--- 9, 6, 7, 8
+-- 9, 6, 7, 8, 18
 unfoldable pub settingsRefusal : Settings → ℕ
 settingsRefusal t = levelRefusal (t .last) ▷ areaRefusal (t .area) ▷ ruleRefusal (t .rule)
 

@@ -2,7 +2,7 @@
 // each section is split into two halves for the next level, down to the last.
 //
 // Settings           the last level, the least area and the tone rule, with the house setting
-// settings_refusal   refusals 9, 6, 7, 8 for settings, or 0
+// settings_refusal   refusals 9, 6, 7, 8, 18 for settings, or 0
 // below              how many levels there are below a section's own
 // deeper             whether a section has halves
 // next_of            the numbers of a section's halves
@@ -62,7 +62,7 @@ fn level_refusal(last: u8) -> u8
     0
 }
 
-// 9, 6, 7, 8 in that order for the settings, or 0.
+// 9, 6, 7, 8, 18 in that order for the settings, or 0.
 pub fn settings_refusal(settings: Settings) -> u8
     ensures { λ r. ⌜ r ≡ settingsRefusal settings ⌝ }
 {

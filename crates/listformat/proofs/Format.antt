@@ -331,7 +331,7 @@ storable-at bs b i = record {
   a-fits = b .each i;
   b-fits = b .each (i + 1);
   area-fits = omega (arith, two (i + 4), two (i + 4 + 2));
-  rule-fits = numbers-rule (numbersAt bs i) (two (i + 8)) (two (i + 10));
+  rule-fits = numbers-rule (numbersAt bs i) (b .each (i + 3)) (two (i + 8)) (two (i + 10));
 }
   where
     two : (j : ℕ) → number16 bs j < 65536

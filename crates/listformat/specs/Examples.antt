@@ -14,6 +14,10 @@ head n = 77 ∷ 76 ∷ 80 ∷ 1 ∷ 0 ∷ n ∷ 0 ∷ []
 abbrev pub recordQ : List ℕ
 recordQ = 0 ∷ 127 ∷ 0 ∷ 0 ∷ 1 ∷ 0 ∷ 0 ∷ 0 ∷ 0 ∷ 0 ∷ 156 ∷ 99 ∷ []
 
+-- a record of the affine rule: 2 segments, slopes 100 and 10,000
+abbrev pub recordS : List ℕ
+recordS = 0 ∷ 255 ∷ 2 ∷ 2 ∷ 1 ∷ 0 ∷ 0 ∷ 0 ∷ 100 ∷ 0 ∷ 16 ∷ 39 ∷ []
+
 abbrev pub one : List ℕ → List ℕ
 one r = head 1 ++ r
 
@@ -24,6 +28,7 @@ pub record ListRefusals : Type 0 where
   pub no-passes : listRefusal (head 0) ≡ 0
   pub two-passes : listRefusal (two recordQ recordQ) ≡ 0
   pub limited : listRefusal (one (0 ∷ 127 ∷ 1 ∷ 0 ∷ 1 ∷ 0 ∷ 0 ∷ 0 ∷ 232 ∷ 3 ∷ 0 ∷ 0 ∷ [])) ≡ 0
+  pub affine : listRefusal (one recordS) ≡ 0
   -- 16: under 7 bytes
   pub nothing : listRefusal [] ≡ 16
   pub mark-alone : listRefusal (77 ∷ 76 ∷ 80 ∷ []) ≡ 16
@@ -36,18 +41,23 @@ pub record ListRefusals : Type 0 where
   pub many : listRefusal (77 ∷ 76 ∷ 80 ∷ 1 ∷ 0 ∷ 1 ∷ 4 ∷ []) ≡ 16
   pub short : listRefusal (head 1) ≡ 16
   pub long : listRefusal (head 0 ++ recordQ) ≡ 16
-  pub length-before-record : listRefusal (head 2 ++ set recordQ 2 2) ≡ 16
+  pub length-before-record : listRefusal (head 2 ++ set recordQ 2 3) ≡ 16
   -- 17: the rule, the zero byte, limited's second number
-  pub rule-two : listRefusal (one (set recordQ 2 2)) ≡ 17
+  pub rule-three : listRefusal (one (set recordQ 2 3)) ≡ 17
   pub zero-byte : listRefusal (one (set recordQ 3 1)) ≡ 17
   pub second-number : listRefusal (one (set recordQ 2 1)) ≡ 17
-  -- 5 to 8: the pass's own numbers
+  -- 5 to 8, 18: the pass's own numbers
   pub interval : listRefusal (one (set recordQ 0 128)) ≡ 5
   pub area-zero : listRefusal (one (set recordQ 4 0)) ≡ 6
   pub area-large : listRefusal (one (set recordQ 6 16)) ≡ 6
   pub low-above-high : listRefusal (one (set recordQ 9 100)) ≡ 7
   pub high-large : listRefusal (one (set recordQ 10 157)) ≡ 7
   pub clip-large : listRefusal (one (0 ∷ 127 ∷ 1 ∷ 0 ∷ 1 ∷ 0 ∷ 0 ∷ 0 ∷ 233 ∷ 3 ∷ 0 ∷ 0 ∷ [])) ≡ 8
+  pub no-segments : listRefusal (one (set recordS 3 0)) ≡ 18
+  pub segments-large : listRefusal (one (set recordS 3 17)) ≡ 18
+  pub smin-above-smax : listRefusal (one (set recordS 9 40)) ≡ 18
+  pub slope-large : listRefusal (one (set recordS 10 17)) ≡ 18
+  pub area-before-slopes : listRefusal (one (set (set recordS 4 0) 3 0)) ≡ 6
   -- the first bad record decides, and in a record 17 comes first
   pub form-first : listRefusal (one (set (set recordQ 0 128) 3 1)) ≡ 17
   pub first-record : listRefusal (two (set recordQ 0 128) (set recordQ 3 1)) ≡ 5

@@ -1,8 +1,9 @@
 -- The byte format of a pass list, as functions that compute. Definitions only.
 --
 -- A list is the mark MLP, the version 1 and the count of its records, both 16-bit, then a record of 12 bytes for each
--- pass: a, b, the rule (0 plain, 1 limited), a zero byte, the least area (32-bit) and two 16-bit numbers, which are low
--- and high, or k and 0. Of each number the low byte comes first.
+-- pass: a, b, the rule (0 plain, 1 limited, 2 affine), a byte that is zero for plain and limited and the segments for
+-- affine, the least area (32-bit) and two 16-bit numbers, which are low and high, k and 0, or smin and smax. Of each
+-- number the low byte comes first.
 --
 --   number16, number32  the number that stands at an index of a byte list
 --   headLength, recordLength, recordStart

@@ -174,7 +174,7 @@ pub fn head_refusal(list: &[u8]) -> u8
     0
 }
 
-// 17, then 5 to 8, for record j of a list whose head is not refused, or 0.
+// 17, then 5 to 8, 18, for record j of a list whose head is not refused, or 0.
 fn record_refusal(list: &[u8], j: usize) -> u8
     requires { ⌜ (headRefusal (now list) ≡ 0) × (j < countOf (now list)) ⌝ }
     ensures { λ r. ⌜ r ≡ recordRefusal (now (list .entry)) (recordStart j) ⌝ }
@@ -203,7 +203,7 @@ fn records_refusal(list: &[u8]) -> u8
     0
 }
 
-// The refusal of a list: that of its head, then 17, 5, 6, 7, 8 for each record, or 0.
+// The refusal of a list: that of its head, then 17, 5, 6, 7, 8, 18 for each record, or 0.
 pub fn list_refusal(list: &[u8]) -> u8
     ensures { λ r. ⌜ r ≡ listRefusal (now (list .entry)) ⌝ }
 {

@@ -34,7 +34,7 @@ intervalRefusal a b = when (ltb b a) 5
 unfoldable pub areaRefusal : ℕ → ℕ
 areaRefusal area = when (eqb area 0 || ltb greatestPixels area) 6
 
--- 5 to 8: a pass's own numbers
+-- 5 to 8, 18: a pass's own numbers
 unfoldable pub numbersRefusal : Pass → ℕ
 numbersRefusal s = intervalRefusal (s .a) (s .b) ▷ areaRefusal (s .area) ▷ ruleRefusal (s .rule)
 
@@ -44,7 +44,7 @@ pub record Call : Type 0 where
   pub queue : ℕ
   pub pass : Pass
 
--- 1, 2, 3, 4 for a plane of the shape that is lent as `plane` bytes, then 5 to 8
+-- 1, 2, 3, 4 for a plane of the shape that is lent as `plane` bytes, then 5 to 8, 18
 unfoldable pub passRefusal : Shape → ℕ → Call → ℕ
 passRefusal z plane c = lentRefusal z plane (c .marks) (c .queue) ▷ numbersRefusal (c .pass)
 

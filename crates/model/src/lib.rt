@@ -3,7 +3,7 @@
 // Pass           an interval, a least area and a tone rule
 // Counts, plus   how many components were retoned, and how many kept back
 // Answer         what a pass, a list or an enhancement answers
-// pass_refusal   refusals 5 to 8 for a pass's own numbers, or 0
+// pass_refusal   refusals 5 to 8 and 18 for a pass's own numbers, or 0
 // area_refusal   refusal 6 for a least area, or 0
 ghost use mathlib.Core.Path.{_≡_};
 ghost use Prim.Native.Nat.{_+_, _<_};

@@ -1,8 +1,8 @@
 // Lists of passes: chains of passes that are kept in a file or in memory.
 //
 // run_list      the passes of a list of bytes, or the refusal that it meets with: 1 to 4, 16 for fewer bytes than a
-//               head has, 15, 16, then for each record 17, 5, 6, 7, 8
-// run_passes    lent passes, or the refusal that they meet with: 1 to 4, 16, then for each pass 5, 6, 7, 8
+//               head has, 15, 16, then for each record 17, 5, 6, 7, 8, 18
+// run_passes    lent passes, or the refusal that they meet with: 1 to 4, 16, then for each pass 5, 6, 7, 8, 18
 // list_refusal  the refusal that a list of bytes meets with, and nothing is run
 //
 // Both are one walk: a run begins, takes a turn for each pass, first to check it and then to run it, and answers. All

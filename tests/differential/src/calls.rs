@@ -3,7 +3,7 @@
 //! and both counts together with the components of sufficient area.
 
 use crate::guarded::Guarded;
-use crate::inputs::{self, one_in, PassNumbers, RuleNumbers, SettingsNumbers};
+use crate::inputs::{self, one_in, PassNumbers, SettingsNumbers};
 use crate::work::Work;
 use mlhe::ffi;
 use mlhe_reference as reference;
@@ -104,10 +104,14 @@ fn same_shapes(first: &[u8], last: &[u8], w: usize, h: usize) -> Result<(), Stri
     require(keeps_shapes(first, last, w, h), "neighbours or regional maxima or minima are not kept")
 }
 
-fn rule(numbers: RuleNumbers) -> Option<Rule> {
-    match numbers {
-        RuleNumbers { rule: 0, first, second } => Some(Rule::Plain { low: first.into(), high: second.into() }),
-        RuleNumbers { rule: 1, first, second: 0 } => Some(Rule::Limited { k: first.into() }),
+/// The rule that a C function makes of the numbers that it is lent; none where it answers 17.
+fn rule(lent: &Guarded<u16>) -> Option<Rule> {
+    let &[code, first, second, segments] = lent.now() else { return None };
+    let [first, second, segments] = [first, second, segments].map(u32::from);
+    match (code, second, segments) {
+        (0, _, 0) => Some(Rule::Plain { low: first, high: second }),
+        (1, 0, 0) => Some(Rule::Limited { k: first }),
+        (2, ..) => Some(Rule::Affine { segments, smin: first, smax: second }),
         _ => None,
     }
 }
@@ -170,7 +174,7 @@ fn single_pass(random: &mut Random) -> Compared {
     let mut work = Work::new(random, w * h);
     let pass = inputs::pass_numbers(random, w * h);
     let (w, h) = inputs::told_sides(random, w, h);
-    let answer = pass_call(&mut plane, &mut work, w, h, pass)?;
+    let answer = pass_call(&mut plane, &mut work, w, h, &pass)?;
     if answer.is_ok() {
         same_shapes(plane.then(), plane.now(), w, h)?;
     }
@@ -178,7 +182,7 @@ fn single_pass(random: &mut Random) -> Compared {
 }
 
 /// A pass by the second implementation.
-fn pass_by_reference(plane: &mut [u8], work: &Work, w: usize, h: usize, pass: PassNumbers) -> Counted {
+fn pass_by_reference(plane: &mut [u8], work: &Work, w: usize, h: usize, pass: &PassNumbers) -> Counted {
     let mut run = |pass: &Pass| reference::pass(plane, work.marks.len(), work.queue.len(), w, h, pass);
     match pass_of(pass) {
         Some(pass) => run(&pass),
@@ -194,8 +198,8 @@ fn pass_by_reference(plane: &mut [u8], work: &Work, w: usize, h: usize, pass: Pa
     }
 }
 
-fn pass_of(pass: PassNumbers) -> Option<Pass> {
-    rule(pass.rule).map(|rule| Pass { a: pass.a, b: pass.b, area: pass.area, rule })
+fn pass_of(pass: &PassNumbers) -> Option<Pass> {
+    rule(&pass.rule).map(|rule| Pass { a: pass.a, b: pass.b, area: pass.area, rule })
 }
 
 fn pass_call(
@@ -203,7 +207,7 @@ fn pass_call(
     work: &mut Work,
     w: usize,
     h: usize,
-    pass: PassNumbers,
+    pass: &PassNumbers,
 ) -> Result<Counted, String> {
     let first = plane.now().to_vec();
     let mut expected = first.clone();
@@ -222,9 +226,8 @@ fn pass_call(
             pass.a,
             pass.b,
             pass.area,
-            pass.rule.rule,
-            pass.rule.first,
-            pass.rule.second,
+            pass.rule.ptr(),
+            pass.rule.len(),
             work.counts.mut_ptr(),
             work.counts.len(),
         )
@@ -232,6 +235,7 @@ fn pass_call(
     same_answer(library, status(answer))?;
     same_content("plane", plane, if answer.is_ok() { &expected } else { &first })?;
     work.same(answer, plane.len())?;
+    require(pass.rule.untouched(), "the rule is not kept")?;
     if let (Ok(counts), Some(pass)) = (answer, pass_of(pass)) {
         sufficient(counts, &[pass], &first, w, h)?;
     }
@@ -303,8 +307,8 @@ fn enhance(random: &mut Random) -> Compared {
     let mut work = Work::new(random, n);
     let settings = inputs::settings_numbers(random, n);
     let (w, h) = inputs::told_sides(random, w, h);
-    let answer = enhance_call(&frame, w, h, settings, &mut plane, &mut work, &mut output)?;
-    if let (Ok(counts), Some(settings)) = (answer, settings_of(settings)) {
+    let answer = enhance_call(&frame, w, h, &settings, &mut plane, &mut work, &mut output)?;
+    if let (Ok(counts), Some(settings)) = (answer, settings_of(&settings)) {
         let mut first = vec![0; plane.len()];
         reference::intensity(frame.now(), w, h, &mut first).map_err(|_| "the frame is refused")?;
         same_shapes(&first, plane.now(), w, h)?;
@@ -318,7 +322,7 @@ fn enhance_by_reference(
     frame: &[u8],
     w: usize,
     h: usize,
-    settings: SettingsNumbers,
+    settings: &SettingsNumbers,
     plane: &mut [u8],
     work: &Work,
     output: &mut [u8],
@@ -343,7 +347,7 @@ fn enhance_by_library(
     frame: &Guarded<u8>,
     w: usize,
     h: usize,
-    settings: SettingsNumbers,
+    settings: &SettingsNumbers,
     plane: &mut Guarded<u8>,
     work: &mut Work,
     output: &mut Guarded<u8>,
@@ -357,9 +361,8 @@ fn enhance_by_library(
             h,
             settings.last,
             settings.area,
-            settings.rule.rule,
-            settings.rule.first,
-            settings.rule.second,
+            settings.rule.ptr(),
+            settings.rule.len(),
             plane.mut_ptr(),
             plane.len(),
             work.marks.mut_ptr(),
@@ -374,16 +377,15 @@ fn enhance_by_library(
     }
 }
 
-fn settings_of(settings: SettingsNumbers) -> Option<Settings> {
-    let SettingsNumbers { last, area, rule: numbers } = settings;
-    rule(numbers).map(|rule| Settings { last_level: last.into(), area, rule })
+fn settings_of(settings: &SettingsNumbers) -> Option<Settings> {
+    rule(&settings.rule).map(|rule| Settings { last_level: settings.last.into(), area: settings.area, rule })
 }
 
 fn enhance_call(
     frame: &Guarded<u8>,
     w: usize,
     h: usize,
-    settings: SettingsNumbers,
+    settings: &SettingsNumbers,
     plane: &mut Guarded<u8>,
     work: &mut Work,
     output: &mut Guarded<u8>,
@@ -395,7 +397,7 @@ fn enhance_call(
     same_content("plane", plane, if answer.is_ok() { &expected } else { plane.then() })?;
     same_content("output", output, if answer.is_ok() { &recoloured } else { output.then() })?;
     work.same(answer, plane.len())?;
-    require(frame.untouched(), "the frame is not kept")?;
+    require(frame.untouched() && settings.rule.untouched(), "the frame or the rule is not kept")?;
     if answer.is_ok() {
         let written = &output.now()[..frame.len()];
         require(reversed_channels(frame.now(), written) == 0, "channels are reversed")?;
@@ -409,7 +411,7 @@ pub fn greatest(w: usize, h: usize, random: &mut Random) -> Compared {
     let frame = Guarded::holding(&inputs::frame_bytes(random, w, 3 * n), random);
     let (mut plane, mut output) = (Guarded::filled(n, random), Guarded::filled(3 * n, random));
     let mut work = Work::exact(random, n);
-    Ok(Outcome::counted(enhance_call(&frame, w, h, inputs::HOUSE, &mut plane, &mut work, &mut output)?))
+    Ok(Outcome::counted(enhance_call(&frame, w, h, &inputs::house(random), &mut plane, &mut work, &mut output)?))
 }
 
 /// Enhancements of a grey frame with many components of one value, at every last level. The library's own list of the
@@ -423,11 +425,11 @@ fn levels(random: &mut Random) -> Compared {
     let (area, rule) = inputs::sound_numbers(random, n);
     let mut outcome = Outcome::default();
     for last in 0..=7 {
-        let settings = SettingsNumbers { last, area, rule };
+        let settings = SettingsNumbers { last, area, rule: Guarded::holding(&rule, random) };
         let (mut plane, mut output) = (Guarded::filled(n, random), Guarded::filled(3 * n, random));
         let mut work = Work::exact(random, n);
-        let enhanced = enhance_call(&frame, w, h, settings, &mut plane, &mut work, &mut output)?;
-        let settings = settings_of(settings).ok_or("there is no such rule")?;
+        let enhanced = enhance_call(&frame, w, h, &settings, &mut plane, &mut work, &mut output)?;
+        let settings = settings_of(&settings).ok_or("there is no such rule")?;
         let list = reference::list_bytes(&reference::level_by_level(&settings));
         let list = Guarded::holding(&list, random);
         let (mut listed, mut work) = (Guarded::holding(&greys, random), Work::exact(random, n));
@@ -507,7 +509,7 @@ fn chain(random: &mut Random) -> Compared {
             let list = Guarded::holding(&inputs::list_bytes(random, 4, n), random);
             list_call(&list, &mut plane, &mut work, w, h)?
         } else {
-            pass_call(&mut plane, &mut work, w, h, inputs::pass_numbers(random, n))?
+            pass_call(&mut plane, &mut work, w, h, &inputs::pass_numbers(random, n))?
         });
     }
     same_shapes(&first, plane.now(), w, h)?;

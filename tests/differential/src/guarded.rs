@@ -13,6 +13,12 @@ impl Element for u8 {
     }
 }
 
+impl Element for u16 {
+    fn random(random: &mut Random) -> Self {
+        random.bits() as u16
+    }
+}
+
 impl Element for u32 {
     fn random(random: &mut Random) -> Self {
         // Small numbers too: those could be pixels.

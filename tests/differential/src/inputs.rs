@@ -1,5 +1,6 @@
 //! Random input: sides, planes, frames, files, lists and numbers, most of them sound and the rest damaged.
 
+use crate::guarded::Guarded;
 use mlhe_reference::random::Random;
 
 /// One time in so many.
@@ -110,58 +111,81 @@ pub fn frame_bytes(random: &mut Random, w: usize, count: usize) -> Vec<u8> {
 }
 
 /// The numbers of a pass, in the types of the C function.
-#[derive(Clone, Copy, Debug)]
 pub struct PassNumbers {
     pub a: u8,
     pub b: u8,
     pub area: u32,
-    pub rule: RuleNumbers,
-}
-
-#[derive(Clone, Copy, Debug)]
-pub struct RuleNumbers {
-    pub rule: u8,
-    pub first: u16,
-    pub second: u16,
+    pub rule: Guarded<u16>,
 }
 
 /// The numbers of the settings of an enhancement.
-#[derive(Clone, Copy, Debug)]
 pub struct SettingsNumbers {
     pub last: u8,
     pub area: u32,
-    pub rule: RuleNumbers,
+    pub rule: Guarded<u16>,
 }
 
+/// A rule's numbers in the places of `enum mlhe_rule_number`: code, first, second and segments.
+pub type RuleNumbers = [u16; 4];
+
 /// The house setting.
-pub const HOUSE: SettingsNumbers =
-    SettingsNumbers { last: 7, area: 20, rule: RuleNumbers { rule: 0, first: 80, second: 300 } };
+pub fn house(random: &mut Random) -> SettingsNumbers {
+    SettingsNumbers { last: 7, area: 20, rule: Guarded::holding(&[0, 80, 300, 0], random) }
+}
 
 /// Settings for a plane of n pixels.
 pub fn settings_numbers(random: &mut Random, n: usize) -> SettingsNumbers {
     if one_in(random, 8) {
-        return HOUSE;
+        return house(random);
     }
     let last = if one_in(random, 20) { random.one_of(&[8, 9, 255]) } else { random.between(0, 7) as u8 };
-    SettingsNumbers { last, area: area(random, n), rule: rule_numbers(random) }
+    SettingsNumbers { last, area: area(random, n), rule: lent_rule(random) }
 }
 
-pub fn rule_numbers(random: &mut Random) -> RuleNumbers {
-    let numbers = [0, 1, 80, 81, 999, 1_000, 1_001, 25_499, 25_500, 25_501, 65_535];
-    match random.below(40) {
-        0 => return RuleNumbers { rule: 0, first: random.one_of(&numbers), second: random.one_of(&numbers) },
-        1 => return RuleNumbers { rule: 1, first: random.one_of(&numbers), second: 0 },
-        2 => return RuleNumbers { rule: 1, first: random.one_of(&numbers), second: random.one_of(&numbers) },
-        3 => return RuleNumbers { rule: random.one_of(&[2, 3, 128, 255]), first: 0, second: random.one_of(&numbers) },
-        _ => {}
+/// A rule to lend, and seldom fewer or more numbers than a rule has.
+fn lent_rule(random: &mut Random) -> Guarded<u16> {
+    let mut numbers = rule_numbers(random).to_vec();
+    if one_in(random, 40) {
+        numbers.resize(random.one_of(&[0, 1, 3, 5, 9]), 0);
     }
-    if one_in(random, 3) {
-        let k = random.one_of(&[0, 1, 10, 100, 300, 500, 999, 1_000]);
-        return RuleNumbers { rule: 1, first: k, second: 0 };
+    Guarded::holding(&numbers, random)
+}
+
+/// A rule's numbers: mostly sound, the others around each of their limits, of no rule, or set where they have to be 0.
+fn rule_numbers(random: &mut Random) -> RuleNumbers {
+    let numbers = [0, 1, 80, 81, 999, 1_000, 1_001, 9_999, 10_000, 10_001, 25_499, 25_500, 25_501, 65_535];
+    let (first, second) = (random.one_of(&numbers), random.one_of(&numbers));
+    let segments = random.one_of(&[0, 1, 2, 15, 16, 17, 255, 256, 258, 65_535]);
+    match random.below(64) {
+        0 => [0, first, second, 0],
+        1 => [1, first, 0, 0],
+        2 => [1, first, second, 0],
+        3 => [random.one_of(&[3, 4, 128, 255, 256, 258, 65_535]), 0, second, random.one_of(&[0, 2])],
+        4 => [random.one_of(&[0, 1]), 0, 0, segments],
+        5 => [2, first, second, random.between(1, 16) as u16],
+        6 => [2, 0, 10_000, segments],
+        _ => sound_rule(random),
     }
-    let low = random.one_of(&[0, 0, 0, 50, 80, 100, 200]);
-    let high = random.one_of(&[300, 300, 400, 1_000, 25_500, 25_500, 25_500]);
-    RuleNumbers { rule: 0, first: low, second: high }
+}
+
+/// The numbers of a rule that is not refused.
+fn sound_rule(random: &mut Random) -> RuleNumbers {
+    match random.below(9) {
+        0..=3 => {
+            let low = random.one_of(&[0, 0, 0, 50, 80, 100, 200]);
+            [0, low, random.one_of(&[300, 300, 400, 1_000, 25_500, 25_500, 25_500]), 0]
+        }
+        4 | 5 => [1, random.one_of(&[0, 1, 10, 100, 300, 500, 999, 1_000]), 0, 0],
+        _ => affine_rule(random),
+    }
+}
+
+/// The numbers of an affine rule that is not refused.
+fn affine_rule(random: &mut Random) -> RuleNumbers {
+    let slopes = [[0, 10_000], [0, 1_000], [50, 300], [100, 100], [100, 300], [100, 10_000], [200, 400], [0, 0]];
+    let [smin, smax] = random.one_of(&slopes);
+    let smin = if one_in(random, 8) { smax } else { smin };
+    [2, smin, smax, random.one_of(&[1, 1, 2, 2, 3, 5, 10, 16])]
 }
 
 /// A least area: small, about n, and seldom one that is refused.
@@ -179,38 +203,47 @@ pub fn area(random: &mut Random, n: usize) -> u32 {
 pub fn sound_numbers(random: &mut Random, n: usize) -> (u32, RuleNumbers) {
     let area = random.one_of(&[1, 1, 2, 4, 5, 9, 16, 25, n.saturating_sub(1).max(1), n, n + 1]);
     let [low, high] = random.one_of(&[[0, 25_500], [80, 300], [80, 300], [0, 100], [100, 100], [300, 25_500]]);
-    let rule = match random.below(5) {
-        0 => RuleNumbers { rule: 1, first: random.one_of(&[0, 10, 300, 1_000]), second: 0 },
-        _ => RuleNumbers { rule: 0, first: low, second: high },
+    let rule = match random.below(6) {
+        0 => [1, random.one_of(&[0, 10, 300, 1_000]), 0, 0],
+        1 | 2 => affine_rule(random),
+        _ => [0, low, high, 0],
     };
     (area as u32, rule)
 }
 
-/// A pass on a plane of n pixels.
-pub fn pass_numbers(random: &mut Random, n: usize) -> PassNumbers {
+/// An interval, mostly a sound one.
+fn interval(random: &mut Random) -> (u8, u8) {
     let (x, y) = (random.byte(), random.byte());
-    let (a, b) = match random.below(16) {
+    match random.below(16) {
         0 => (x.max(y), x.min(y)),
         1..=5 => (0, 255),
         6 => (x, x),
         7 => (0, 127),
         8 => (128, 255),
         _ => (x.min(y), x.max(y)),
-    };
-    PassNumbers { a, b, area: area(random, n), rule: rule_numbers(random) }
+    }
 }
 
-/// A pass list for a plane of n pixels, often with something wrong in it.
+/// A pass on a plane of n pixels.
+pub fn pass_numbers(random: &mut Random, n: usize) -> PassNumbers {
+    let (a, b) = interval(random);
+    PassNumbers { a, b, area: area(random, n), rule: lent_rule(random) }
+}
+
+/// A pass list for a plane of n pixels, often with something wrong in it. Of codes and segments a record has the low
+/// byte.
 pub fn list_bytes(random: &mut Random, greatest: usize, n: usize) -> Vec<u8> {
     let count = random.between(0, greatest);
     let mut bytes = b"MLP\x01\x00".to_vec();
     bytes.extend((count as u16).to_le_bytes());
     for _ in 0..count {
-        let pass = pass_numbers(random, n);
-        bytes.extend([pass.a, pass.b, pass.rule.rule, 0]);
-        bytes.extend(pass.area.to_le_bytes());
-        bytes.extend(pass.rule.first.to_le_bytes());
-        bytes.extend(pass.rule.second.to_le_bytes());
+        let (a, b) = interval(random);
+        let area = area(random, n);
+        let [code, first, second, segments] = rule_numbers(random);
+        bytes.extend([a, b, code as u8, segments as u8]);
+        bytes.extend(area.to_le_bytes());
+        bytes.extend(first.to_le_bytes());
+        bytes.extend(second.to_le_bytes());
     }
     if one_in(random, 3) {
         damage(random, &mut bytes);
@@ -285,7 +318,7 @@ pub fn p6_bytes(random: &mut Random) -> Vec<u8> {
 #[cfg(test)]
 mod tests {
     use super::*;
-    use mlhe_reference::{read, GREATEST_PIXELS};
+    use mlhe_reference::{list_passes, read, run_passes, Rule, GREATEST_PIXELS};
 
     /// Many files have comments that are skipped, and many are malformed with number signs in them.
     #[test]
@@ -301,5 +334,28 @@ mod tests {
             }
         }
         assert!(read_over > 200 && malformed > 100, "{read_over} and {malformed} of 2,000");
+    }
+
+    /// Many lists have an affine pass that retones and many one that keeps back; many are refused for its numbers.
+    #[test]
+    fn affine_passes_are_common() {
+        let mut random = Random::new(2);
+        let (mut retoned, mut kept, mut refused) = (0, 0, 0);
+        for _ in 0..2_000 {
+            let plane = values(&mut random, 9, 72);
+            match list_passes(&list_bytes(&mut random, 3, 72)) {
+                Ok(passes) => {
+                    let affine = passes.iter().filter(|pass| matches!(pass.rule, Rule::Affine { .. }));
+                    for &pass in affine {
+                        let counts = run_passes(&[pass], &mut plane.clone(), 72, 72, 9, 8).expect("accepted");
+                        retoned += usize::from(counts.retoned > 0);
+                        kept += usize::from(counts.kept > 0);
+                    }
+                }
+                Err(18) => refused += 1,
+                Err(_) => {}
+            }
+        }
+        assert!(retoned > 100 && kept > 100 && refused > 20, "{retoned}, {kept} and {refused} of 2,000");
     }
 }

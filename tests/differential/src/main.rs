@@ -39,7 +39,7 @@ struct Tally {
     tried: [u64; KINDS.len()],
     accepted: [u64; KINDS.len()],
     counts: [Counts; KINDS.len()],
-    refused: [u64; 18],
+    refused: [u64; 19],
 }
 
 impl Tally {
@@ -63,7 +63,7 @@ impl Tally {
                 if COUNTING.contains(name) { format!("; {retoned} retoned, {kept} kept") } else { String::new() };
             println!("{name:10} {tried:8} cases, {accepted:8} of them with no refusal{counted}");
         }
-        let refused: Vec<String> = (1..=17).map(|number| format!("{number}: {}", self.refused[number])).collect();
+        let refused: Vec<String> = (1..=18).map(|number| format!("{number}: {}", self.refused[number])).collect();
         println!("refusals   {}", refused.join(", "));
     }
 

@@ -1,5 +1,13 @@
 -- `capi::mlhe_enhance` meets its contract: refused with nothing changed, or as the call. Assumes nothing.
-use mathlib.Core.Path.{sym, _∙_}
+use Prim.Native.Nat.{ℕ}
+use mathlib.Core.Path.{_≡_, sym, ap, _∙_}
+use lib.ListN.{length}
+use Rattle.planes.specs.Refusals.{_▷_}
+use Rattle.planes.specs.Shapes.{shapeOf}
+use Rattle.tones.specs.declared.RuleNumbers.{RuleNumbers}
+use Rattle.tones.specs.Numbers.{ruleOf, formRefusal}
+use Rattle.enhance.specs.Calls.{memoryRefusal}
+use Rattle.cnumbers.specs.Numbers.{numbersFor}
 use Rattle.cnumbers.proofs.Numbers.{returned}
 use Rattle.capi.proofs.Calls.{enhance-refused, enhance-short, enhance-made}
 use borrow.Author.Needs.{needs}
@@ -8,7 +16,28 @@ use Rattle.capi.proofs.mlhe_enhance.Tie as tie
 
 -- the entry, from where the form is tested
 abbrev start : tie.After-enhance-form-refusal → tie.Start
-start c = c .before .before .before .before .before .before .before
+start c = c .before .before .before .before .before .before .before .before .before
+
+-- the refusals before the rule's numbers, and that these are those of the lent numbers
+abbrev lent : tie.After-enhance-form-refusal → ℕ
+lent c =
+    let a = start c .args in
+    memoryRefusal (shapeOf (a .w) (a .h)) (length (a .frame .now)) (length (a .plane .now)) (length (a .marks .now))
+    (length (a .queue .now)) (length (a .output .now))
+
+formed : (c : tie.After-enhance-form-refusal) →
+    c .enhance-form-refusal .result ≡ lent c ▷ formRefusal (numbersFor (start c .args .rule .now))
+formed c =
+    c .enhance-form-refusal .ensures
+    ∙ ap (λ (n : RuleNumbers). lent c ▷ formRefusal n) (c .before .rule-numbers .ensures)
+
+-- the rule is that of the lent numbers
+rule-is : (c : tie.After-rule-of) →
+    c .rule-of .result ≡ ruleOf (numbersFor (start (c .before .before) .args .rule .now))
+rule-is c = c .rule-of .ensures ∙ ap ruleOf (c .before .before .before .rule-numbers .ensures)
+
+rule-numbers-requires : tie.Need-rule-numbers-requires
+rule-numbers-requires c κs = search needs
 
 enhance-form-refusal-requires : tie.Need-enhance-form-refusal-requires
 enhance-form-refusal-requires c κs = search needs
@@ -20,9 +49,9 @@ returns : tie.Need-returns
 returns c =
     let tested = c .before .before in
     let args = start tested .args in
-    enhance-refused (args .w) (args .h) (args .last) (args .area) (args .rule) (args .first) (args .second)
+    enhance-refused (args .w) (args .h) (args .last) (args .area) (args .rule .now)
     (args .frame .now) (args .plane .now) (args .marks .now) (args .queue .now) (args .output .now) (args .counts .now)
-    (tested .enhance-form-refusal .ensures) (c .before .if1 .taken)
+    (formed tested) (c .before .if1 .taken)
     (returned (c .refused .ok) (c .refused .ensures))
 
 rule-of-requires : tie.Need-rule-of-requires
@@ -40,9 +69,9 @@ returns-2 c =
     let ruled = few .before in
     let tested = ruled .before .before in
     let args = start tested .args in
-    enhance-short (args .w) (args .h) (args .last) (args .area) (args .rule) (args .first) (args .second)
+    enhance-short (args .w) (args .h) (args .last) (args .area) (args .rule .now)
     (args .frame .now) (args .plane .now) (args .marks .now) (args .queue .now) (args .output .now) (args .counts .now)
-    (sym (tested .enhance-form-refusal .ensures) ∙ ruled .before .if1 .left) (ruled .rule-of .ensures)
+    (sym (formed tested) ∙ ruled .before .if1 .left) (rule-is ruled)
     (few .if2 .taken) (c .before .settings-refusal .ensures)
     (returned (c .short-counts .ok) (c .short-counts .ensures))
 
@@ -75,16 +104,17 @@ returns-3 c =
     let ruled = enough .before in
     let tested = ruled .before .before in
     let args = start tested .args in
-    enhance-made (args .w) (args .h) (args .last) (args .area) (args .rule) (args .first) (args .second)
+    enhance-made (args .w) (args .h) (args .last) (args .area) (args .rule .now)
     (args .frame .now) (args .plane .now) (args .marks .now) (args .queue .now) (args .output .now) (args .counts .now)
-    (called .enhance .result) (sym (tested .enhance-form-refusal .ensures) ∙ ruled .before .if1 .left)
-    (enough .if2 .left) (ruled .rule-of .ensures) (called .enhance .ensures)
+    (called .enhance .result) (sym (formed tested) ∙ ruled .before .if1 .left)
+    (enough .if2 .left) (rule-is ruled) (called .enhance .ensures)
     (returned (put .put-counts .ok) (put .put-counts .ensures .0)) (put .put-counts .ensures .1)
 
 pub mlhe-enhance-spec : {M : Type 1} → statement M
 mlhe-enhance-spec =
     tie.close
     (tie.spec
+    rule-numbers-requires
     enhance-form-refusal-requires
     refused-requires
     returns

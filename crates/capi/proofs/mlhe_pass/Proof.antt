@@ -1,5 +1,12 @@
 -- `capi::mlhe_pass` meets its contract: refused with nothing changed, or as the call. Assumes nothing.
-use mathlib.Core.Path.{sym, _∙_}
+use Prim.Native.Nat.{ℕ}
+use mathlib.Core.Path.{_≡_, sym, ap, _∙_}
+use lib.ListN.{length}
+use Rattle.planes.specs.Refusals.{_▷_}
+use Rattle.planes.specs.Shapes.{shapeOf, lentRefusal}
+use Rattle.tones.specs.declared.RuleNumbers.{RuleNumbers}
+use Rattle.tones.specs.Numbers.{ruleOf, formRefusal}
+use Rattle.cnumbers.specs.Numbers.{numbersFor}
 use Rattle.cnumbers.proofs.Numbers.{returned}
 use Rattle.capi.proofs.Calls.{pass-refused, pass-short, pass-made}
 use borrow.Author.Needs.{needs}
@@ -8,7 +15,27 @@ use Rattle.capi.proofs.mlhe_pass.Tie as tie
 
 -- the entry, from where the form is tested
 abbrev start : tie.After-pass-form-refusal → tie.Start
-start c = c .before .before .before .before .before
+start c = c .before .before .before .before .before .before .before
+
+-- the refusals before the rule's numbers, and that these are those of the lent numbers
+abbrev lent : tie.After-pass-form-refusal → ℕ
+lent c =
+    let a = start c .args in
+    lentRefusal (shapeOf (a .w) (a .h)) (length (a .plane .now)) (length (a .marks .now)) (length (a .queue .now))
+
+formed : (c : tie.After-pass-form-refusal) →
+    c .pass-form-refusal .result ≡ lent c ▷ formRefusal (numbersFor (start c .args .rule .now))
+formed c =
+    c .pass-form-refusal .ensures
+    ∙ ap (λ (n : RuleNumbers). lent c ▷ formRefusal n) (c .before .rule-numbers .ensures)
+
+-- the rule is that of the lent numbers
+rule-is : (c : tie.After-rule-of) →
+    c .rule-of .result ≡ ruleOf (numbersFor (start (c .before .before) .args .rule .now))
+rule-is c = c .rule-of .ensures ∙ ap ruleOf (c .before .before .before .rule-numbers .ensures)
+
+rule-numbers-requires : tie.Need-rule-numbers-requires
+rule-numbers-requires c κs = search needs
 
 pass-form-refusal-requires : tie.Need-pass-form-refusal-requires
 pass-form-refusal-requires c κs = search needs
@@ -20,9 +47,9 @@ returns : tie.Need-returns
 returns c =
     let tested = c .before .before in
     let args = start tested .args in
-    pass-refused (args .w) (args .h) (args .a) (args .b) (args .area) (args .rule) (args .first) (args .second)
+    pass-refused (args .w) (args .h) (args .a) (args .b) (args .area) (args .rule .now)
     (args .plane .now) (args .marks .now) (args .queue .now) (args .counts .now)
-    (tested .pass-form-refusal .ensures) (c .before .if1 .taken) (returned (c .refused .ok) (c .refused .ensures))
+    (formed tested) (c .before .if1 .taken) (returned (c .refused .ok) (c .refused .ensures))
 
 rule-of-requires : tie.Need-rule-of-requires
 rule-of-requires c κs = search needs
@@ -39,9 +66,9 @@ returns-2 c =
     let ruled = few .before in
     let tested = ruled .before .before in
     let args = start tested .args in
-    pass-short (args .w) (args .h) (args .a) (args .b) (args .area) (args .rule) (args .first) (args .second)
+    pass-short (args .w) (args .h) (args .a) (args .b) (args .area) (args .rule .now)
     (args .plane .now) (args .marks .now) (args .queue .now) (args .counts .now)
-    (sym (tested .pass-form-refusal .ensures) ∙ ruled .before .if1 .left) (ruled .rule-of .ensures) (few .if2 .taken)
+    (sym (formed tested) ∙ ruled .before .if1 .left) (rule-is ruled) (few .if2 .taken)
     (c .before .pass-refusal .ensures) (returned (c .short-counts .ok) (c .short-counts .ensures))
 
 pass-requires : tie.Need-pass-requires
@@ -70,15 +97,16 @@ returns-3 c =
     let ruled = enough .before in
     let tested = ruled .before .before in
     let args = start tested .args in
-    pass-made (args .w) (args .h) (args .a) (args .b) (args .area) (args .rule) (args .first) (args .second)
+    pass-made (args .w) (args .h) (args .a) (args .b) (args .area) (args .rule .now)
     (args .plane .now) (args .marks .now) (args .queue .now) (args .counts .now) (called .pass .result)
-    (sym (tested .pass-form-refusal .ensures) ∙ ruled .before .if1 .left) (enough .if2 .left) (ruled .rule-of .ensures)
+    (sym (formed tested) ∙ ruled .before .if1 .left) (enough .if2 .left) (rule-is ruled)
     (called .pass .ensures) (returned (put .put-counts .ok) (put .put-counts .ensures .0)) (put .put-counts .ensures .1)
 
 pub mlhe-pass-spec : {M : Type 1} → statement M
 mlhe-pass-spec =
     tie.close
     (tie.spec
+    rule-numbers-requires
     pass-form-refusal-requires
     refused-requires
     returns

@@ -1,27 +1,30 @@
 //! Cases of chains of calls on one plane.
 
 use crate::chance::{random_plane, random_rule, random_section, random_sides};
-use crate::sound::sound;
+use crate::sound::{ruled, sound};
 use mlhe_reference::cases::{Case, Kind};
-use mlhe_reference::intensity;
 use mlhe_reference::random::Random;
+use mlhe_reference::{intensity, Rule};
 
-/// Chains: the first plane by intensity, passes on it with refused ones among them, and the colours of the last plane.
 pub fn cases() -> Vec<Case> {
-    let mut random = Random::new(30);
+    chains(&mut Random::new(30), 95, 15, random_rule)
+}
+
+/// So many chains on small planes, then so many on larger ones, with rules that are drawn so. Chains: the first plane
+/// by intensity, passes on it with refused ones among them, and the colours of the last plane.
+pub fn chains(random: &mut Random, small: usize, large: usize, draw: fn(&mut Random) -> Rule) -> Vec<Case> {
     let mut cases = Vec::new();
-    for chain in 0..110 {
-        let (w, h) = if chain < 95 { random_sides(&mut random, 5, 3) } else { random_sides(&mut random, 16, 16) };
+    for chain in 0..small + large {
+        let (w, h) = if chain < small { random_sides(random, 5, 3) } else { random_sides(random, 16, 16) };
         let n = w * h;
-        let frame = random_plane(&mut random, w, 3 * n);
+        let frame = random_plane(random, w, 3 * n);
         cases.push(sound(Kind::Intensity, w, h, frame.clone(), vec![0; n]));
         let mut first = vec![0; n];
         intensity(&frame, w, h, &mut first).expect("accepted");
         for _ in 0..random.between(0, 9) {
-            let (rule, numbers) = random_rule(&mut random);
-            let [a, b] = random_section(&mut random, &first);
-            let mut case = sound(Kind::Pass, w, h, Vec::new(), Vec::new());
-            (case.a, case.b, case.rule, case.numbers) = (a, b, rule, numbers);
+            let mut case = ruled(sound(Kind::Pass, w, h, Vec::new(), Vec::new()), draw(random));
+            let [a, b] = random_section(random, &first);
+            (case.a, case.b) = (a, b);
             case.area = random.one_of(&[1, 1, 1, 2, 3]);
             case.same_plane = true;
             match random.below(20) {

@@ -1,9 +1,9 @@
 //! Random calls, and parts of them.
 
-use crate::sound::{enhance_grey, pass_on};
+use crate::sound::{enhance_grey, pass_on, ruled, FREE};
 use mlhe_reference::cases::Case;
 use mlhe_reference::random::Random;
-use mlhe_reference::Components;
+use mlhe_reference::{Components, Rule};
 
 /// A random plane of w columns: noise, few values, narrow ranges, ramps or neighbouring pairs of values.
 pub fn random_plane(random: &mut Random, w: usize, n: usize) -> Vec<u8> {
@@ -20,19 +20,32 @@ pub fn random_plane(random: &mut Random, w: usize, n: usize) -> Vec<u8> {
     (0..n).map(pixel).collect()
 }
 
-/// A random rule and its numbers, which are sound.
-pub fn random_rule(random: &mut Random) -> (u8, [u16; 2]) {
+/// A random plain or limited rule, which is sound.
+pub fn random_rule(random: &mut Random) -> Rule {
     if random.below(5) < 3 {
-        (
-            0,
-            [
-                random.one_of(&[0, 0, 0, 50, 80, 100]),
-                random.one_of(&[100, 150, 300, 300, 1_000, 2_550, 25_500, 25_500]),
-            ],
-        )
+        let low = random.one_of(&[0, 0, 0, 50, 80, 100]);
+        Rule::Plain { low, high: random.one_of(&[100, 150, 300, 300, 1_000, 2_550, 25_500, 25_500]) }
     } else {
-        let random_clip = random.between(0, 1_000) as u16;
-        (1, [random.one_of(&[0, 1, 10, 30, 100, 300, 999, 1_000, random_clip]), 0])
+        let random_clip = random.between(0, 1_000) as u32;
+        Rule::Limited { k: random.one_of(&[0, 1, 10, 30, 100, 300, 999, 1_000, random_clip]) }
+    }
+}
+
+/// A random affine rule, which is sound.
+pub fn random_affine(random: &mut Random) -> Rule {
+    let random_segments = random.between(1, 16) as u32;
+    let segments = random.one_of(&[1, 2, 2, 3, 5, 10, 16, random_segments]);
+    let slopes = [[0, 10_000], [0, 1_000], [50, 300], [100, 100], [100, 10_000], [200, 400], [10_000, 10_000]];
+    let [smin, smax] = random.one_of(&slopes);
+    Rule::Affine { segments, smin, smax }
+}
+
+/// A random rule of all three, which is sound.
+pub fn random_any(random: &mut Random) -> Rule {
+    if random.below(5) < 2 {
+        random_affine(random)
+    } else {
+        random_rule(random)
     }
 }
 
@@ -58,13 +71,13 @@ pub fn random_sides(random: &mut Random, w: usize, h: usize) -> (usize, usize) {
 pub fn random_pass(random: &mut Random, w: usize, h: usize) -> Case {
     let (w, h) = random_sides(random, w, h);
     let plane = random_plane(random, w, w * h);
-    let (rule, numbers) = random_rule(random);
+    let rule = random_rule(random);
     let section = random_section(random, &plane);
     let components = Components::new(w, h).of_section(&plane, section[0], section[1]);
     let mut areas = vec![1, 1, 1];
     areas.extend(components.iter().map(|component| component.len() as u32));
     let area = random.one_of(&areas) + random.one_of(&[0, 0, 0, 1]);
-    let mut case = pass_on(&plane, w, section, area, rule, numbers);
+    let mut case = ruled(pass_on(&plane, w, section, area, 0, FREE), rule);
     case.marks += random.one_of(&[0, 0, 1, 9]);
     case.queue += random.one_of(&[0, 0, 1, 9]);
     case
@@ -74,11 +87,11 @@ pub fn random_pass(random: &mut Random, w: usize, h: usize) -> Case {
 pub fn random_enhance(random: &mut Random, w: usize, h: usize) -> Case {
     let (w, h) = random_sides(random, w, h);
     let n = w * h;
-    let (rule, numbers) = random_rule(random);
+    let rule = random_rule(random);
     let last_level = random.one_of(&[0, 1, 2, 3, 4, 5, 6, 7, 7, 7, 7]);
     let area = random.one_of(&[1, 1, 2, 3, 6, 20]);
     let greys = random_plane(random, w, n);
-    let mut case = enhance_grey(&greys, w, last_level, area, rule, numbers);
+    let mut case = ruled(enhance_grey(&greys, w, last_level, area, 0, FREE), rule);
     if random.below(2) == 0 {
         case.bytes = random_plane(random, w, 3 * n);
     }
@@ -88,13 +101,14 @@ pub fn random_enhance(random: &mut Random, w: usize, h: usize) -> Case {
     case
 }
 
-/// Enhancements and passes on planes of up to 20 by 14 pixels.
+/// Enhancements and passes by all three rules, on planes of up to 20 by 14 pixels.
 pub fn random_cases(number: usize, seed: u64) -> Vec<Case> {
     let mut random = Random::new(seed);
     let mut cases = Vec::new();
     for _ in 0..number {
-        cases.push(random_enhance(&mut random, 20, 14));
-        cases.push(random_pass(&mut random, 20, 14));
+        for case in [random_enhance(&mut random, 20, 14), random_pass(&mut random, 20, 14)] {
+            cases.push(if random.below(3) == 0 { ruled(case, random_affine(&mut random)) } else { case });
+        }
     }
     cases
 }

@@ -36,7 +36,7 @@ pub fn cases() -> Vec<Case> {
     tests.push((9, vec![|case| case.last_level = 8, |case| case.last_level = 255]));
     tests.push(area_test());
     tests.extend(rule_tests());
-    cases.extend(faulty(&enhance_grey(&[10, 20, 30, 40], 2, 7, 20, 0, FREE), &tests, [7, 8]));
+    cases.extend(faulty(&enhance_grey(&[10, 20, 30, 40], 2, 7, 20, 0, FREE), &tests, &[7, 8]));
     cases
 }
 

@@ -5,33 +5,42 @@ use mlhe_reference::cases::{answers, encode, Case};
 /// One test of a call: the number of its refusal and ways to fail it.
 pub type Test = (u8, Vec<fn(&mut Case)>);
 
+/// The sound call with these faults. The answer is checked: it is the refusal of this number.
+fn refused(sound: &Case, number: u8, faults: &[fn(&mut Case)]) -> Case {
+    let mut case = sound.clone();
+    faults.iter().for_each(|fault| fault(&mut case));
+    let line = answers(&encode(&case));
+    let answered = line.trim_end().split(' ').next().map(str::to_string);
+    assert_eq!(answered, Some(format!("-{number}")), "{case:?}");
+    case
+}
+
 /// The sound call with every fault alone, and for every two tests with a fault of each, so that the order of the
 /// tests shows. The tests come in their order. The answers are checked: the earlier test is the one that answers.
-/// `apart` has the tests that no call can fail together.
-pub fn faulty(sound: &Case, tests: &[Test], apart: [u8; 2]) -> Vec<Case> {
+/// `apart` has the tests of which no call can fail two.
+pub fn faulty(sound: &Case, tests: &[Test], apart: &[u8]) -> Vec<Case> {
     let mut made = vec![sound.clone()];
     assert!(!answers(&encode(sound)).starts_with('-'));
-    let mut make = |number: u8, faults: &[fn(&mut Case)]| {
-        let mut case = sound.clone();
-        faults.iter().for_each(|fault| fault(&mut case));
-        let line = answers(&encode(&case));
-        let answered = line.trim_end().split(' ').next().map(str::to_string);
-        assert_eq!(answered, Some(format!("-{number}")), "{case:?}");
-        made.push(case);
-    };
     for (place, (number, faults)) in tests.iter().enumerate() {
-        for &fault in faults {
-            make(*number, &[fault]);
-        }
+        made.extend(faults.iter().map(|&fault| refused(sound, *number, &[fault])));
         for (other, later) in &tests[place + 1..] {
-            if number != other && [*number, *other] != apart {
-                make(*number, &[later[0], faults[0]]);
+            if number != other && !(apart.contains(number) && apart.contains(other)) {
+                made.push(refused(sound, *number, &[later[0], faults[0]]));
                 if faults.len() > 1 || later.len() > 1 {
-                    make(*number, &[later[later.len() - 1], faults[faults.len() - 1]]);
+                    made.push(refused(sound, *number, &[later[later.len() - 1], faults[faults.len() - 1]]));
                 }
             }
         }
     }
+    made
+}
+
+/// The sound call with every fault of the last test alone, and with its first fault behind that of each earlier test.
+pub fn faulty_last(sound: &Case, earlier: &[Test], (last, faults): &Test) -> Vec<Case> {
+    let mut made = vec![sound.clone()];
+    assert!(!answers(&encode(sound)).starts_with('-'));
+    made.extend(faults.iter().map(|&fault| refused(sound, *last, &[fault])));
+    made.extend(earlier.iter().map(|(number, earlier)| refused(sound, *number, &[faults[0], earlier[0]])));
     made
 }
 

@@ -43,7 +43,7 @@ pub fn cases() -> Vec<Case> {
     }
     let mut tests = size_tests();
     tests.extend([lengths_test(), memory_test(), output_test()]);
-    cases.extend(faulty(&house_grey(&[10, 20, 30, 40], 2), &tests, [0, 0]));
+    cases.extend(faulty(&house_grey(&[10, 20, 30, 40], 2), &tests, &[]));
     cases
 }
 

@@ -26,6 +26,6 @@ pub fn cases() -> Vec<Case> {
     }
     let frame = (0..12).map(|i| 20 * i).collect();
     let tests: Vec<Test> = size_tests().into_iter().chain([lengths_test()]).collect();
-    cases.extend(faulty(&sound(Kind::Intensity, 2, 2, frame, vec![1, 2, 3, 4]), &tests, [0, 0]));
+    cases.extend(faulty(&sound(Kind::Intensity, 2, 2, frame, vec![1, 2, 3, 4]), &tests, &[]));
     cases
 }

@@ -31,36 +31,37 @@ pub fn counted() -> Vec<Pass> {
     ]
 }
 
-/// A random pass of a list that runs on this plane.
-fn random_record(random: &mut Random, plane: &[u8]) -> Pass {
-    let (rule, [first, second]) = random_rule(random);
+/// A random pass of a list that runs on this plane, with a rule that is drawn so.
+fn random_record(random: &mut Random, plane: &[u8], draw: fn(&mut Random) -> Rule) -> Pass {
+    let rule = draw(random);
     let [a, b] = random_section(random, plane);
-    let (first, second) = (u32::from(first), u32::from(second));
-    let rule = if rule == 0 { Rule::Plain { low: first, high: second } } else { Rule::Limited { k: first } };
     Pass { a, b, area: random.one_of(&[1, 1, 1, 2, 3]), rule }
 }
 
-/// Planes of at most 5 by 3 pixels, each with a short random list.
-pub fn random_lists(random: &mut Random, number: usize) -> Vec<(usize, usize, Vec<u8>, Vec<Pass>)> {
+/// The sides of a plane, the plane, and passes to run on it.
+type Run = (usize, usize, Vec<u8>, Vec<Pass>);
+
+/// Planes of at most 5 by 3 pixels, each with a short random list whose rules are drawn so.
+pub fn random_lists(random: &mut Random, number: usize, draw: fn(&mut Random) -> Rule) -> Vec<Run> {
     let mut lists = Vec::new();
     for _ in 0..number {
         let (w, h) = random_sides(random, 5, 3);
         let plane = random_plane(random, w, w * h);
-        let passes = (0..random.between(0, 6)).map(|_| random_record(random, &plane)).collect();
+        let passes = (0..random.between(0, 6)).map(|_| random_record(random, &plane, draw)).collect();
         lists.push((w, h, plane, passes));
     }
     lists
 }
 
 /// A sound call that runs these passes as a list.
-fn list(w: usize, h: usize, passes: &[Pass], plane: &[u8]) -> Case {
+pub fn list(w: usize, h: usize, passes: &[Pass], plane: &[u8]) -> Case {
     sound(Kind::List, w, h, list_bytes(passes), plane.to_vec())
 }
 
 pub fn cases() -> Vec<Case> {
     let mut random = Random::new(60);
     let mut cases = written();
-    for (w, h, plane, passes) in random_lists(&mut random, 80) {
+    for (w, h, plane, passes) in random_lists(&mut random, 80, random_rule) {
         cases.push(list(w, h, &passes, &plane));
     }
     cases.extend(damaged(&mut random));
@@ -97,7 +98,8 @@ fn written() -> Vec<Case> {
 fn damaged(random: &mut Random) -> Vec<Case> {
     let mut cases = Vec::new();
     for _ in 0..50 {
-        let passes = [EXAMPLE, random_record(random, &PARTS), random_record(random, &PARTS)];
+        let [second, third] = [(); 2].map(|()| random_record(random, &PARTS, random_rule));
+        let passes = [EXAMPLE, second, third];
         let mut case = list(5, 1, &passes, &PARTS);
         for _ in 0..random.between(1, 2) {
             let at = random.between(31, 42);
@@ -128,14 +130,14 @@ fn refused() -> Vec<Case> {
     tests.extend([plane_test(), memory_test()]);
     tests.extend(list_head_tests());
     tests.extend(first_record_tests());
-    let mut cases = faulty(&sound_list, &tests, [7, 8]);
+    let mut cases = faulty(&sound_list, &tests, &[7, 8]);
     let tests: Vec<Test> = list_head_tests().into_iter().chain(second_record_tests()).collect();
-    cases.extend(faulty(&sound_list, &tests, [7, 8]));
+    cases.extend(faulty(&sound_list, &tests, &[7, 8]));
     cases.extend(faulty_records(&sound_list, &first_record_tests(), &second_record_tests()));
     cases
 }
 
-fn list_head_tests() -> Vec<Test> {
+pub fn list_head_tests() -> Vec<Test> {
     vec![
         (16, vec![|case| case.bytes.truncate(6), |case| case.bytes.clear()]),
         (15, vec![|case| case.bytes[2] = b'Q', |case| case.bytes[0] = b'm', |case| case.bytes[1] = b'P']),
@@ -158,7 +160,7 @@ fn first_record_tests() -> Vec<Test> {
     vec![
         (
             17,
-            vec![|case| case.bytes[7 + 2] = 2, |case| case.bytes[7 + 3] = 1, |case| case.bytes[7 + 2] = 1, |case| {
+            vec![|case| case.bytes[7 + 2] = 3, |case| case.bytes[7 + 3] = 1, |case| case.bytes[7 + 2] = 1, |case| {
                 (case.bytes[7 + 2], case.bytes[7 + 10], case.bytes[7 + 11]) = (1, 0, 1)
             }],
         ),

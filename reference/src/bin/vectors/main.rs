@@ -13,6 +13,7 @@
 //! | `crates/vectors/stdin` | `crates/vectors/stdout` | the calls, in the order of `CALLS`; the program `vectors` runs them |
 //! | `tests/vectors/program.in` | `tests/vectors/program.out` | the program; `tests/hostile` runs them |
 
+mod affine;
 mod chain;
 mod chance;
 mod enhance;
@@ -25,6 +26,7 @@ mod passes;
 mod program;
 mod read;
 mod recolour;
+mod slopes;
 mod sound;
 mod write;
 
@@ -33,8 +35,8 @@ use std::io::{self, Read, Write};
 use std::path::Path;
 use std::{env, fs, process};
 
-/// What makes the cases of each call. A chain mixes calls.
-const CALLS: [fn() -> Vec<Case>; 10] = [
+/// What makes the cases of each call. A chain mixes calls, and so do the cases of the affine rule, which come last.
+const CALLS: [fn() -> Vec<Case>; 11] = [
     intensity::cases,
     pass::cases,
     chain::cases,
@@ -45,6 +47,7 @@ const CALLS: [fn() -> Vec<Case>; 10] = [
     passes::cases,
     read::cases,
     write::cases,
+    affine::cases,
 ];
 
 fn main() -> io::Result<()> {

@@ -7,7 +7,7 @@ use mlhe_reference::cases::Case;
 use mlhe_reference::random::Random;
 
 /// Example A's row.
-const ROW: [u8; 4] = [10, 10, 20, 30];
+pub const ROW: [u8; 4] = [10, 10, 20, 30];
 
 pub fn cases() -> Vec<Case> {
     let mut random = Random::new(20);
@@ -25,7 +25,7 @@ pub fn cases() -> Vec<Case> {
     let mut tests = size_tests();
     tests.extend([plane_test(), memory_test(), (5, vec![|case| (case.a, case.b) = (9, 8)]), area_test()]);
     tests.extend(rule_tests());
-    cases.extend(faulty(&pass_on(&ROW, 2, [0, 255], 1, 0, FREE), &tests, [7, 8]));
+    cases.extend(faulty(&pass_on(&ROW, 2, [0, 255], 1, 0, FREE), &tests, &[7, 8]));
     cases
 }
 

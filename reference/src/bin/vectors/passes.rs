@@ -1,5 +1,6 @@
 //! Cases of `run_passes`.
 
+use crate::chance::random_rule;
 use crate::faults::{faulty, faulty_records, memory_test, plane_test, size_tests, Test};
 use crate::list::{counted, random_lists, EXAMPLE, PARTS, STILL};
 use crate::sound::{sound, ISLANDS};
@@ -8,7 +9,7 @@ use mlhe_reference::random::Random;
 use mlhe_reference::{level_by_level, list_bytes, Pass, Settings};
 
 /// A sound call that runs these passes in memory.
-fn passes(w: usize, h: usize, passes: &[Pass], plane: &[u8]) -> Case {
+pub fn passes(w: usize, h: usize, passes: &[Pass], plane: &[u8]) -> Case {
     sound(Kind::Passes, w, h, list_bytes(passes).split_off(7), plane.to_vec())
 }
 
@@ -27,7 +28,7 @@ pub fn cases() -> Vec<Case> {
         passes(8, 8, &level_by_level(&Settings { area: 65, ..Settings::HOUSE }), &[100; 64]),
     ];
     let mut random = Random::new(70);
-    for (w, h, plane, list) in random_lists(&mut random, 60) {
+    for (w, h, plane, list) in random_lists(&mut random, 60, random_rule) {
         cases.push(passes(w, h, &list, &plane));
     }
     let sound_passes = passes(2, 2, &[EXAMPLE, EXAMPLE], &[10, 20, 200, 10]);
@@ -36,7 +37,7 @@ pub fn cases() -> Vec<Case> {
         let mut tests = size_tests();
         tests.extend([plane_test(), memory_test()]);
         tests.extend(record);
-        cases.extend(faulty(&sound_passes, &tests, [7, 8]));
+        cases.extend(faulty(&sound_passes, &tests, &[7, 8]));
     }
     cases
 }

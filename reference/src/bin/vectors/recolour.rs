@@ -26,6 +26,6 @@ pub fn cases() -> Vec<Case> {
     cases.extend((124..=131).map(|j| pixel([200, 100, 0], j)));
     let frame = (0..12).map(|i| 20 * i).collect();
     let tests: Vec<Test> = size_tests().into_iter().chain([lengths_test(), output_test()]).collect();
-    cases.extend(faulty(&sound(Kind::Recolour, 2, 2, frame, vec![200, 2, 90, 255]), &tests, [0, 0]));
+    cases.extend(faulty(&sound(Kind::Recolour, 2, 2, frame, vec![200, 2, 90, 255]), &tests, &[]));
     cases
 }

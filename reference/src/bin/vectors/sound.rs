@@ -1,7 +1,7 @@
 //! Sound calls, which a case changes where it wants to.
 
 use mlhe_reference::cases::{Case, Kind};
-use mlhe_reference::header;
+use mlhe_reference::{header, Rule};
 
 /// The plain rule that keeps back nothing but single values.
 pub const FREE: [u16; 2] = [0, 25_500];
@@ -27,6 +27,7 @@ pub fn sound(kind: Kind, w: usize, h: usize, bytes: Vec<u8>, plane: Vec<u8>) -> 
         a: 0,
         b: 255,
         rule: 0,
+        segments: 0,
         numbers: FREE,
         area: 1,
         last_level: 7,
@@ -40,6 +41,17 @@ pub fn sound(kind: Kind, w: usize, h: usize, bytes: Vec<u8>, plane: Vec<u8>) -> 
         bytes,
         plane,
     }
+}
+
+/// The call with this rule.
+pub fn ruled(case: Case, rule: Rule) -> Case {
+    let (rule, segments, numbers) = match rule {
+        Rule::Plain { low, high } => (0, 0, [low, high]),
+        Rule::Limited { k } => (1, 0, [k, 0]),
+        Rule::Affine { segments, smin, smax } => (2, segments, [smin, smax]),
+    };
+    let numbers = numbers.map(|number| u16::try_from(number).expect("a 16-bit number"));
+    Case { rule, segments: u8::try_from(segments).expect("an 8-bit number"), numbers, ..case }
 }
 
 /// A pass on a plane of w columns.

@@ -24,6 +24,6 @@ pub fn cases() -> Vec<Case> {
         .chain([(3, vec![(|case| case.bytes.push(7)) as fn(&mut Case), |case| case.bytes.truncate(11)]), output_test()])
         .collect();
     let frame = (0..12).map(|i| 20 * i).collect();
-    cases.extend(faulty(&sound(Kind::Write, 2, 2, frame, Vec::new()), &tests, [0, 0]));
+    cases.extend(faulty(&sound(Kind::Write, 2, 2, frame, Vec::new()), &tests, &[]));
     cases
 }
