@@ -13,12 +13,13 @@ use Rattle.histograms.specs.Values.{scaled, greatest}
 use Rattle.histograms.specs.Histograms.{Inside}
 use Rattle.histograms.proofs.Values.{in-inside, greatest-in, count-greatest}
 use Rattle.histograms.proofs.Scaled.{scaled-all}
-use Rattle.affine.specs.declared.Slopes.{Slopes}
-use Rattle.affine.specs.declared.Point.{Point}
-use Rattle.affine.specs.Affine.{nextPoint, start, pointsAfter, points, topOf, joined}
-use Rattle.affine.specs.Affine.{upTo, affineTop, affineTone, affineKept}
-use Rattle.affine.proofs.Search.{least-le, least-below}
-use Rattle.affine.proofs.Sound.{joined-next, placeOf}
+use Rattle.points.specs.declared.Slopes.{Slopes}
+use Rattle.points.specs.declared.Point.{Point}
+use Rattle.points.specs.Points.{nextPoint, start, pointsAfter, points, topOf, upTo}
+use Rattle.points.proofs.Rising.{placeOf}
+use Rattle.affine.specs.Affine.{joined, affineTop, affineTone, affineKept}
+use Rattle.points.proofs.Search.{least-le, least-below}
+use Rattle.affine.proofs.Sound.{joined-next}
 use Rattle.affine.proofs.Tables.{not-kept}
 
 -- where no point is after v, the height at v is the last

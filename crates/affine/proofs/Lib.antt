@@ -1,7 +1,4 @@
-pub mod Search
-pub mod Sizes
 pub mod Sound
-pub mod Points
-pub mod Ahead
+pub mod Lines
 pub mod Tables
 pub mod Ends

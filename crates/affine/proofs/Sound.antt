@@ -17,11 +17,11 @@ use Rattle.planes.specs.Rounding.{rounded}
 use Rattle.histograms.specs.Values.{scaled}
 use Rattle.histograms.specs.Sound.{Sound}
 use Rattle.histograms.proofs.Scaled.{scaled-mono, scaled-above, scaled-below}
-use Rattle.affine.specs.declared.Slopes.{Slopes}
-use Rattle.affine.specs.declared.Point.{Point}
-use Rattle.affine.specs.Affine.{leastFrom, nextPoint, start, pointsAfter, points, topOf, lineTone, joined}
-use Rattle.affine.specs.Affine.{upTo, affineTop, affineTone}
-use Rattle.affine.proofs.Search.{least-ge, least-mono}
+use Rattle.points.specs.declared.Slopes.{Slopes}
+use Rattle.points.specs.declared.Point.{Point}
+use Rattle.points.specs.Points.{topOf, upTo}
+use Rattle.points.proofs.Rising.{Rising, last, more, top-high, all-rise}
+use Rattle.affine.specs.Affine.{lineTone, joined, affineTop, affineTone}
 
 -- ## Parts of different wholes
 
@@ -56,18 +56,6 @@ scaled-down a b x (suc y) x' d pos h =
       rounded-cross ((b - a) * x') (suc y * d) ((b - a) * x) (suc y) (mul-pos (omega arith) pos)
           (omega arith) cross,
     )
-
--- ## Points that rise
-
--- neither places nor heights fall
-pub data Rising : Point → List Point → Type 0 where
-  last : {p : Point} → Rising p []
-  more : {p q : Point} {qs : List Point} → p .place ≤ q .place → p .height ≤ q .height → Rising q qs → Rising p (q ∷ qs)
-
--- no height is above the last
-pub top-high : {p : Point} {qs : List Point} → Rising p qs → p .height ≤ topOf p qs .height
-top-high last = le-refl _
-top-high (more places heights rest) = le-trans heights (top-high rest)
 
 -- ## Lines
 
@@ -147,27 +135,6 @@ module _ (a b y : ℕ) where
       (λ l. le-trans (le-of-eq (joined-next p q qs l))
       (le-trans (joined-mono rest l vu) (le-of-eq (sym (joined-next p q qs (le-trans l vu))))))
       (less-or-not v (q .place))
-
--- ## The points of a component rise
-
-module _ (s : Slopes) (a b : ℕ) (c : ℕ → ℕ) (m : ℕ) where
-  -- the place of point j
-  abbrev pub placeOf : ℕ → ℕ
-  placeOf j = leastFrom (λ v. leb (j * m) (s .segments * c v)) a (b - a)
-
-  pub place-rises : (j : ℕ) → placeOf j ≤ placeOf (j + 1)
-  place-rises j = least-mono (λ v. leb ((j + 1) * m) (s .segments * c v)) (λ v. leb (j * m) (s .segments * c v)) a (b - a)
-      (λ u e. le-leb (j * m) (s .segments * c u) (omega (arith, leb-true ((j + 1) * m) (s .segments * c u) e)))
-
-  pub points-rise : (n i : ℕ) (p : Point) → p .place ≤ placeOf (i + 1) → Rising p (pointsAfter s a b c m n i p)
-  unfolding pointsAfter nextPoint
-  points-rise zero i p from = last
-  points-rise (suc n) i p from =
-      let q = nextPoint s a b c m (i + 1) p in
-      more {p = p} {q = q} from (omega arith) (points-rise n (i + 1) q (place-rises (i + 1)))
-
-  pub all-rise : Rising (start a) (points s a b c m)
-  all-rise = points-rise (s .segments) 0 (start a) (least-ge _ a (b - a))
 
 -- ## The rule
 

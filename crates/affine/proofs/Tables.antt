@@ -19,10 +19,11 @@ use Rattle.histograms.specs.declared.Measures.{Measures}
 use Rattle.histograms.proofs.Values.{inside-all}
 use Rattle.histograms.proofs.Measured.{measured-inside}
 use Rattle.histograms.proofs.Histograms.{histogram-sum}
-use Rattle.affine.specs.declared.Slopes.{Slopes}
-use Rattle.affine.specs.declared.Point.{Point}
-use Rattle.affine.specs.Affine.{start, points, topOf, joined, keptAt, affineTop, affineTone, affineKept, Drawn}
-use Rattle.affine.proofs.Points.{points-same}
+use Rattle.points.specs.declared.Slopes.{Slopes}
+use Rattle.points.specs.declared.Point.{Point}
+use Rattle.points.specs.Points.{start, points, topOf}
+use Rattle.affine.specs.Affine.{joined, keptAt, affineTop, affineTone, affineKept, Drawn}
+use Rattle.points.proofs.Points.{points-same}
 
 -- the counts add up to the number of pixels
 pub drawn-whole : {counts : List ℕ} {c : Measures} {a b : ℕ} → Drawn counts c a b

@@ -11,7 +11,8 @@ use Rattle.planes.specs.Extrema.{flat, extreme, extremes}
 use Rattle.planes.proofs.Lists.{beyond-refl}
 use Rattle.plain.specs.Plain.{plainTone, plainKept}
 use Rattle.limited.specs.Limited.{clipped, limitedTone}
-use Rattle.affine.specs.Affine.{leastFrom, nextPoint, pointsAfter, joined, affineTop, affineTone, affineKept}
+use Rattle.points.specs.Points.{leastFrom, nextPoint, pointsAfter}
+use Rattle.affine.specs.Affine.{joined, affineTop, affineTone, affineKept}
 use Rattle.tones.specs.Tones.{tone, kept}
 use Rattle.channels.specs.Channels.{third, newChannel}
 use Rattle.colours.specs.Frames.{pixelIntensity, intensity, greatestChannel, recolour}

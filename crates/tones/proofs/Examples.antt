@@ -7,7 +7,8 @@ use native.Mathlib.Omega.{arith}
 use Rattle.histograms.specs.Values.{scaled}
 use Rattle.plain.specs.Plain.{plainTone, plainKept}
 use Rattle.limited.specs.Limited.{clipped, limitedTone}
-use Rattle.affine.specs.Affine.{leastFrom, nextPoint, pointsAfter, joined, affineTop, affineTone, affineKept}
+use Rattle.points.specs.Points.{leastFrom, nextPoint, pointsAfter}
+use Rattle.affine.specs.Affine.{joined, affineTop, affineTone, affineKept}
 use Rattle.tones.specs.Tones.{tone, kept}
 use Rattle.tones.specs.Examples.{ToneExamples}
 use Rattle.plain.proofs.Ends.{plain-greatest}

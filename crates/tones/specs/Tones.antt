@@ -10,7 +10,7 @@ use mathlib.Core.List.{List}
 use Rattle.plain.specs.Plain.{plainTone, plainKept}
 use Rattle.limited.specs.Limited.{limitedTone}
 use Rattle.affine.specs.Affine.{affineTone, affineKept}
-use Rattle.affine.specs.declared.Slopes.{Slopes}
+use Rattle.points.specs.declared.Slopes.{Slopes}
 use Rattle.tones.specs.declared.Rule.{Rule}
 use Rattle.tones.specs.declared.Rule.the-variants.{Plain, Limited, Affine}
 

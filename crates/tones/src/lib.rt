@@ -21,12 +21,12 @@ ghost use Rattle.tones.specs.Tables.{ToneTabled};
 ghost use Rattle.tones.specs.Lone.{lone};
 ghost use Rattle.tones.specs.Refusals.{ruleRefusal};
 ghost use Rattle.tones.specs.Numbers.{ruleOf, formRefusal};
-use affine::Slopes;
 use affine::affine_tones;
 use histograms::Measures;
 use limited::limited_tones;
 use plain::plain_tones;
 use planes::refused;
+use points::Slopes;
 
 // A tone rule: plain, which keeps the old values where the spread grows or shrinks too much, in hundredths; limited,
 // which clips the counts at k thousandths of the pixels; or affine, which joins points of the sums by straight lines,

@@ -7,8 +7,9 @@ use lib.ListN.{length}
 use Rattle.histograms.specs.Histograms.{Histogram}
 use Rattle.histograms.proofs.Stores.{refilled-outside}
 use Rattle.histograms.proofs.Tables.{ruled-kept, ruled-toned}
-use Rattle.affine.specs.Affine.{affineKept, Cumulative}
-use Rattle.affine.proofs.Points.{cumulative}
+use Rattle.points.specs.Points.{Cumulative}
+use Rattle.affine.specs.Affine.{affineKept}
+use Rattle.points.proofs.Points.{cumulative}
 use Rattle.affine.proofs.Tables.{drawn-whole, not-kept, kept-same, affine-tabled}
 use borrow.Author.Needs.{needs}
 use native.Mathlib.Omega.{arith}

@@ -2,7 +2,7 @@
 -- nothing.
 use Prim.Native.Nat.{ℕ, _+_, _-_, _*_, _^_, _≤_, _<_}
 use native.Mathlib.Nat.{le-trans, mul-le-mul, mul-le-mul-right, mul-pos}
-use Rattle.affine.specs.declared.Point.{Point}
+use Rattle.points.specs.declared.Point.{Point}
 use Rattle.affine.proofs.Sound.{part-le}
 use borrow.Author.Needs.{needs}
 use native.Mathlib.Omega.{arith}

@@ -28,12 +28,12 @@ use Rattle.histograms.proofs.Sums.{sum-none, sumTo-mono, sumTo-next}
 use Rattle.histograms.proofs.Values.{inside-sum, greatest-in, count-greatest}
 use Rattle.histograms.proofs.Measured.{measured-inside}
 use Rattle.histograms.proofs.Histograms.{summed-counts}
-use Rattle.affine.specs.declared.Slopes.{Slopes}
-use Rattle.affine.specs.declared.Point.{Point}
-use Rattle.affine.specs.Affine.{leastFrom, growth, nextPoint, start, pointsAfter, points, topOf, upTo}
-use Rattle.affine.specs.Affine.{Cumulative, First, Reached}
-use Rattle.affine.proofs.Search.{least-ge, least-le, least-first, least-is, least-below, least-passes, least-same}
-use Rattle.affine.proofs.Sound.{placeOf}
+use Rattle.points.specs.declared.Slopes.{Slopes}
+use Rattle.points.specs.declared.Point.{Point}
+use Rattle.points.specs.Points.{leastFrom, growth, nextPoint, start, pointsAfter, points, topOf, upTo}
+use Rattle.points.specs.Points.{Cumulative, First, Reached}
+use Rattle.points.proofs.Search.{least-ge, least-le, least-first, least-is, least-below, least-passes, least-same}
+use Rattle.points.proofs.Rising.{placeOf}
 
 -- ## Reached points
 

@@ -1,10 +1,10 @@
--- `affine::grown` meets its contract: a slope of 16 bits, times segments of 8 bits, times a distance of 8 bits, fits.
+-- `points::grown` meets its contract: a slope of 16 bits, times segments of 8 bits, times a distance of 8 bits, fits.
 -- Assumes nothing.
-use Rattle.affine.proofs.Sizes.{two-few, three-few}
+use Rattle.points.proofs.Sizes.{two-few, three-few}
 use borrow.Author.Needs.{needs}
 use native.Mathlib.Omega.{arith}
-use Rattle.affine.proofs.grown.Statement.{statement}
-use Rattle.affine.proofs.grown.Tie as tie
+use Rattle.points.proofs.grown.Statement.{statement}
+use Rattle.points.proofs.grown.Tie as tie
 
 cast-n : tie.Need-cast-n
 cast-n c = search needs

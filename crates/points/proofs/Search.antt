@@ -15,7 +15,7 @@ use mathlib.Core.Bool.{Bool, true, false, cond, true≢false, false≢true}
 use native.Mathlib.Nat.{le-refl, le-antisymm, eq-or-lt-of-le}
 use native.Mathlib.Omega.{arith}
 use Rattle.planes.proofs.Tests.{less-or-not}
-use Rattle.affine.specs.Affine.{leastFrom}
+use Rattle.points.specs.Points.{leastFrom}
 
 pub least-ge : (f : ℕ → Bool) (v n : ℕ) → v ≤ leastFrom f v n
 unfolding leastFrom

@@ -1,4 +1,4 @@
--- `affine::find` meets its contract. The invariant: the sums of the values from x to below v are too small. The measure
+-- `points::find` meets its contract. The invariant: the sums of the values from x to below v are too small. The measure
 -- is what is left up to y. Assumes nothing.
 use Prim.Native.Nat.{ℕ, _-_, _*_, _≤_, _<_}
 use mathlib.Core.Path.{_≡_, sym, subst}
@@ -7,8 +7,8 @@ use native.Mathlib.Nat.{mul-le-mul}
 use Rattle.planes.specs.Lists.{at}
 use Rattle.planes.proofs.Tests.{eq-or-not}
 use native.Mathlib.Omega.{arith}
-use Rattle.affine.proofs.find.Statement.{statement}
-use Rattle.affine.proofs.find.Tie as tie
+use Rattle.points.proofs.find.Statement.{statement}
+use Rattle.points.proofs.find.Tie as tie
 
 abbrev Inv-loop : tie.InvT-loop
 Inv-loop sums n need x y v₀ v =

@@ -1,15 +1,15 @@
--- `affine::next_point` meets its contract: the search finds the next point's place, and its height fits. Assumes nothing.
+-- `points::next_point` meets its contract: the search finds the next point's place, and its height fits. Assumes nothing.
 use Prim.Native.Nat.{ℕ, _+_, _-_, _*_, _≤_, _<_, max}
 use mathlib.Core.Path.{_≡_, sym, ap, subst, _∙_}
 use native.Mathlib.Nat.{min-le-left, mul-le-mul}
-use Rattle.affine.specs.declared.Point.{Point}
-use Rattle.affine.specs.Affine.{growth, First}
-use Rattle.affine.proofs.Sizes.{three-few}
-use Rattle.affine.proofs.Points.{sums-few, next-is}
+use Rattle.points.specs.declared.Point.{Point}
+use Rattle.points.specs.Points.{growth, First}
+use Rattle.points.proofs.Sizes.{three-few}
+use Rattle.points.proofs.Points.{sums-few, next-is}
 use borrow.Author.Needs.{needs}
 use native.Mathlib.Omega.{arith}
-use Rattle.affine.proofs.next_point.Statement.{statement}
-use Rattle.affine.proofs.next_point.Tie as tie
+use Rattle.points.proofs.next_point.Statement.{statement}
+use Rattle.points.proofs.next_point.Tie as tie
 
 add-j : tie.Need-add-j
 add-j c = search needs

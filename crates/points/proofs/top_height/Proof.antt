@@ -1,16 +1,16 @@
--- `affine::top_height` meets its contract. The invariant: place and height are those of point i, and what is left of the
+-- `points::top_height` meets its contract. The invariant: place and height are those of point i, and what is left of the
 -- points leads to the last. The measure is what is left of the segments. Assumes nothing.
 use Prim.Native.Nat.{ℕ, _-_, _≤_}
 use mathlib.Core.Path.{_≡_, refl, ap, subst}
 use Rattle.planes.specs.Lists.{at}
-use Rattle.affine.specs.declared.Point.{Point}
-use Rattle.affine.specs.Affine.{Reached}
-use Rattle.affine.proofs.Sizes.{three-few}
-use Rattle.affine.proofs.Points.{reached-first}
-use Rattle.affine.proofs.Ahead.{Ahead, ahead-first, end-top, next-of}
+use Rattle.points.specs.declared.Point.{Point}
+use Rattle.points.specs.Points.{Reached}
+use Rattle.points.proofs.Sizes.{three-few}
+use Rattle.points.proofs.Points.{reached-first}
+use Rattle.points.proofs.Ahead.{Ahead, ahead-first, end-top, next-of}
 use native.Mathlib.Omega.{arith}
-use Rattle.affine.proofs.top_height.Statement.{statement}
-use Rattle.affine.proofs.top_height.Tie as tie
+use Rattle.points.proofs.top_height.Statement.{statement}
+use Rattle.points.proofs.top_height.Tie as tie
 
 abbrev Inv-loop : tie.InvT-loop
 Inv-loop sums c s a b n place₀ height₀ i₀ place height i =
@@ -42,7 +42,7 @@ loop-less c = omega arith
 loop-again : tie.Need-loop-again Inv-loop μ-loop
 loop-again c =
     let inv = c .before .before .loop .inv in
-    let next = next-of (c .before .before .before .before .pre .1) (omega arith) (inv .1 .0) (inv .1 .1) refl
+    let next = next-of (c .before .before .before .before .pre .1) (omega arith) (inv .1 .0) (inv .1 .1)
     (c .next-point .ensures) in
     (omega arith, (next .reached, next .ahead))
 

@@ -1,0 +1,44 @@
+-- The places and the heights of the points never fall. Assumes nothing.
+use Prim.Native.Nat.{ℕ, zero, suc, _+_, _-_, _*_, _≤_}
+use mathlib.Core.List.{List, [], _∷_}
+use native.Mathlib.Nat.{le-refl, le-trans}
+use native.Mathlib.Omega.{arith}
+use lib.Dec.{leb}
+use borrow.Author.Tests.{leb-true, le-leb}
+use Rattle.points.specs.declared.Slopes.{Slopes}
+use Rattle.points.specs.declared.Point.{Point}
+use Rattle.points.specs.Points.{leastFrom, nextPoint, start, pointsAfter, points, topOf}
+use Rattle.points.proofs.Search.{least-ge, least-mono}
+
+-- ## Points that rise
+
+-- neither places nor heights fall
+pub data Rising : Point → List Point → Type 0 where
+  last : {p : Point} → Rising p []
+  more : {p q : Point} {qs : List Point} → p .place ≤ q .place → p .height ≤ q .height → Rising q qs → Rising p (q ∷ qs)
+
+-- no height is above the last
+pub top-high : {p : Point} {qs : List Point} → Rising p qs → p .height ≤ topOf p qs .height
+top-high last = le-refl _
+top-high (more places heights rest) = le-trans heights (top-high rest)
+
+-- ## The points of a component rise
+
+module _ (s : Slopes) (a b : ℕ) (c : ℕ → ℕ) (m : ℕ) where
+  -- the place of point j
+  abbrev pub placeOf : ℕ → ℕ
+  placeOf j = leastFrom (λ v. leb (j * m) (s .segments * c v)) a (b - a)
+
+  pub place-rises : (j : ℕ) → placeOf j ≤ placeOf (j + 1)
+  place-rises j = least-mono (λ v. leb ((j + 1) * m) (s .segments * c v)) (λ v. leb (j * m) (s .segments * c v)) a (b - a)
+      (λ u e. le-leb (j * m) (s .segments * c u) (omega (arith, leb-true ((j + 1) * m) (s .segments * c u) e)))
+
+  pub points-rise : (n i : ℕ) (p : Point) → p .place ≤ placeOf (i + 1) → Rising p (pointsAfter s a b c m n i p)
+  unfolding pointsAfter nextPoint
+  points-rise zero i p from = last
+  points-rise (suc n) i p from =
+      let q = nextPoint s a b c m (i + 1) p in
+      more {p = p} {q = q} from (omega arith) (points-rise n (i + 1) q (place-rises (i + 1)))
+
+  pub all-rise : Rising (start a) (points s a b c m)
+  all-rise = points-rise (s .segments) 0 (start a) (least-ge _ a (b - a))
