@@ -34,6 +34,7 @@ use Rattle.netpbm.specs.Reading.{readReply}
 use Rattle.netpbm.specs.Writing.{encoding, writeRefusal}
 use Rattle.netpbm.proofs.Replies.{malformed-reply, headed-reply, framed-reply}
 use Rattle.netpbm.proofs.Uncommented.{reads-as-before, comments-got-10}
+use Rattle.tones.proofs.Before.{form-before, rule-before, two-refused}
 use Rattle.listformat.specs.Format.{passesOf}
 use Rattle.passlists.proofs.Chains.{list-taken, list-chain, passes-taken, passes-chain}
 use Rattle.frames.specs.Program.{programOutput}
@@ -272,4 +273,7 @@ pub as-before : AsBefore
 as-before = record {
   of-read = reads-as-before;
   commented = λ bytes limit w h maxval raster p e. comments-got-10 limit p e;
+  of-form = form-before;
+  of-rule = rule-before;
+  affine = two-refused;
 }

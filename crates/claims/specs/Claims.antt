@@ -34,6 +34,9 @@
 --   signless           no number sign stands in the header before a raster (headers/specs/Uncommented)
 --   Uncommented        no number sign stands in a header that begins the bytes (headers/specs/Uncommented)
 --   uncommentedReply   what reading replied before comments were read (netpbm/specs/Uncommented)
+--   RuleNumbers        the numbers that stand for a tone rule, in a record of a pass list and from C (tones/src)
+--   ruleOf, malformed  their rule, and that they stand for none (tones/specs/Numbers)
+--   ruleBefore, malformedBefore   the same before the affine rule was there (tones/specs/Before)
 --   Bytes              every member is a byte (listformat/specs/Format)
 --   Emitted            what the program's function ensures: some bytes at the beginning of the output (printing)
 use Prim.Native.Nat.{ℕ, suc, _+_, _-_, _*_, _/_, _≤_, _<_}
@@ -64,6 +67,9 @@ use Rattle.enhance.specs.Calls.{chainOf, sufficientOf, enhanceCallRefusal, Enha
 use Rattle.enhance.specs.Published.{publishedOf}
 use Rattle.headers.specs.Headers.{IsHeader}
 use Rattle.headers.specs.Uncommented.{signless, Uncommented}
+use Rattle.tones.specs.declared.RuleNumbers.{RuleNumbers}
+use Rattle.tones.specs.Numbers.{ruleOf, malformed}
+use Rattle.tones.specs.Before.{ruleBefore, malformedBefore}
 use Rattle.netpbm.specs.Reading.{frameRefusal, readReply}
 use Rattle.netpbm.specs.Uncommented.{uncommentedReply}
 use Rattle.netpbm.specs.Frames.{IsFrame}
@@ -261,9 +267,14 @@ pub record ListsAreChains : Type 0 where
 
 -- ## What is as it was before
 
--- frames without comments are read as before comments were read; a header with a number sign was refused with 10
+-- frames without comments are read as before comments were read; a header with a number sign was refused with 10. The
+-- numbers of a rule, in lists and from C, are read as before the affine rule was there, unless their code is 2; these got
+-- 17
 pub record AsBefore : Type 0 where
   pub of-read : (bytes : List ℕ) (limit : ℕ) → Uncommented bytes
       → readReply bytes limit ≡ uncommentedReply bytes limit
   pub commented : (bytes : List ℕ) (limit w h maxval : ℕ) (raster : List ℕ) → IsHeader bytes w h maxval raster
       → signless bytes raster ≡ false → uncommentedReply bytes limit ≡ refuses 10
+  pub of-form : (n : RuleNumbers) → (n .code ≡ 2 → ⊥) → malformed n ≡ malformedBefore n
+  pub of-rule : (n : RuleNumbers) → (n .code ≡ 2 → ⊥) → malformed n ≡ false → ruleOf n ≡ ruleBefore n
+  pub affine : (n : RuleNumbers) → n .code ≡ 2 → malformedBefore n ≡ true

@@ -3,4 +3,5 @@ pub mod Tables
 pub mod Lone
 pub mod Refusals
 pub mod Numbers
+pub mod Before
 pub mod Examples
