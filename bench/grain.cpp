@@ -24,8 +24,10 @@ using published::Counts;
 constexpr int side = 512;
 constexpr std::uint32_t greatest_area = 1048576;
 
-// The plain rule whatever the ratio, and the limited rule with half of the pixels as its clip.
+// The plain rule whatever the ratio; the limited rule with half of the pixels as its clip; the affine rule with ten
+// segments of the greatest slope, by which few components are kept back.
 constexpr library::Rule any_ratio = library::plain(0, 25500), half = library::limited(500);
+constexpr library::Rule steep = library::affine(10, 10000, 10000);
 
 // Fewer pixels than this do not tell what treating a component takes, fewer components not what of it is its own.
 constexpr std::size_t few_pixels = 5000, few_components = 1000;
@@ -51,8 +53,7 @@ Counts by_checker(planes::Plane &plane, const Level &level) {
     for (int a = 0; a < 256; a += level.width) {
         const int b = a + level.width - 1;
         counts = counts + checker_pass(plane.values.data(), plane.w, plane.h, static_cast<std::uint8_t>(a),
-                                       static_cast<std::uint8_t>(b), level.area, level.rule.code, level.rule.first,
-                                       level.rule.second);
+                                       static_cast<std::uint8_t>(b), level.area, level.rule);
     }
     return counts;
 }
@@ -167,7 +168,7 @@ void print_levels(const std::string &kind, std::uint32_t area, const library::Ru
                   const std::vector<double> &pixel_times, int rounds) {
     const planes::Plane plane = planes::make(kind, side, side);
     std::printf("\nSmall components, in ns for each: %s, least area %u, %s, all sections of a width, %d x %d\n",
-                kind.c_str(), area, rule.code == 0 ? "plain" : "limited", side, side);
+                kind.c_str(), area, library::name_of(rule), side, side);
     std::printf("%6s %11s %10s %10s %10s %10s %10s\n", "width", "components", "pixels", "to find", "to treat",
                 "by pixels", "besides");
     int width = 256;
@@ -184,12 +185,14 @@ void print_grain(int rounds) {
         std::printf("\nThe library is not linked: what small components cost is not measured.\n");
         return;
     }
-    const std::vector<double> plain = pixel_times(any_ratio, rounds), limited = pixel_times(half, rounds);
+    const std::vector<double> plain = pixel_times(any_ratio, rounds);
     for (const std::uint32_t area : {1, 2, 20}) {
         print_levels("noise", area, any_ratio, plain, rounds);
     }
     for (const std::uint32_t area : {1, 20}) {
         print_levels("grain", area, any_ratio, plain, rounds);
     }
-    print_levels("noise", 1, half, limited, rounds);
+    for (const library::Rule &rule : {half, steep}) {
+        print_levels("noise", 1, rule, pixel_times(rule, rounds), rounds);
+    }
 }

@@ -1,5 +1,6 @@
 #include "library.hpp"
 
+#include <array>
 #include <cstdlib>
 
 #ifdef WITH_MLHE
@@ -18,27 +19,33 @@ published::Counts counted(std::int64_t answer, const std::size_t *counts) {
     return {counts[MLHE_RETONED], counts[MLHE_KEPT]};
 }
 
+// A rule as a call is lent it.
+std::array<std::uint16_t, MLHE_RULE_NUMBERS> numbers_of(const Rule &rule) {
+    return {rule.code, rule.first, rule.second, rule.segments};
+}
+
 } // namespace
 
-published::Counts enhance(const std::uint8_t *frame, int w, int h, const published::Parameters &parameters,
-                          std::uint8_t *plane, Memory &memory, std::uint8_t *output) {
+published::Counts enhance(const std::uint8_t *frame, int w, int h, const Settings &settings, std::uint8_t *plane,
+                          Memory &memory, std::uint8_t *output) {
     const std::size_t n = static_cast<std::size_t>(w) * static_cast<std::size_t>(h);
+    const auto rule = numbers_of(settings.rule);
     std::size_t counts[MLHE_COUNTS];
     const std::int64_t answer = mlhe_enhance(
-        frame, 3 * n, w, h, static_cast<std::uint8_t>(parameters.last_level),
-        static_cast<std::uint32_t>(parameters.area), MLHE_PLAIN, static_cast<std::uint16_t>(parameters.low),
-        static_cast<std::uint16_t>(parameters.high), plane, n, memory.marks.data(), n, memory.queue.data(), n, output,
-        3 * n, counts, MLHE_COUNTS);
+        frame, 3 * n, w, h, static_cast<std::uint8_t>(settings.last_level), static_cast<std::uint32_t>(settings.area),
+        rule.data(), rule.size(), plane, n, memory.marks.data(), n, memory.queue.data(), n, output, 3 * n, counts,
+        MLHE_COUNTS);
     return counted(answer, counts);
 }
 
 published::Counts pass(std::uint8_t *plane, int w, int h, int min, int max, std::size_t area, const Rule &rule,
                        Memory &memory) {
     const std::size_t n = static_cast<std::size_t>(w) * static_cast<std::size_t>(h);
+    const auto numbers = numbers_of(rule);
     std::size_t counts[MLHE_COUNTS];
     const std::int64_t answer =
         mlhe_pass(plane, n, memory.marks.data(), n, memory.queue.data(), n, w, h, static_cast<std::uint8_t>(min),
-                  static_cast<std::uint8_t>(max), static_cast<std::uint32_t>(area), rule.code, rule.first, rule.second,
+                  static_cast<std::uint8_t>(max), static_cast<std::uint32_t>(area), numbers.data(), numbers.size(),
                   counts, MLHE_COUNTS);
     return counted(answer, counts);
 }
@@ -49,8 +56,7 @@ published::Counts pass(std::uint8_t *plane, int w, int h, int min, int max, std:
 
 namespace library {
 
-published::Counts enhance(const std::uint8_t *, int, int, const published::Parameters &, std::uint8_t *, Memory &,
-                          std::uint8_t *) {
+published::Counts enhance(const std::uint8_t *, int, int, const Settings &, std::uint8_t *, Memory &, std::uint8_t *) {
     std::abort();
 }
 

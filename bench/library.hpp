@@ -23,24 +23,46 @@ struct Memory {
     explicit Memory(std::size_t n) : marks(n), queue(n) {}
 };
 
-// As published::enhance.
-published::Counts enhance(const std::uint8_t *frame, int w, int h, const published::Parameters &parameters,
-                          std::uint8_t *plane, Memory &memory, std::uint8_t *output);
-
-// A tone rule by its numbers: 0, low and high for the plain rule; 1, the clip k and 0 for the limited rule.
+// A tone rule by its numbers: 0, low, high and 0 for the plain rule; 1, the clip k, 0 and 0 for the limited rule; 2,
+// smin, smax and the segments for the affine rule.
 struct Rule {
     std::uint8_t code;
     std::uint16_t first;
     std::uint16_t second;
+    std::uint8_t segments;
 };
 
 constexpr Rule plain(int low, int high) {
-    return {0, static_cast<std::uint16_t>(low), static_cast<std::uint16_t>(high)};
+    return {0, static_cast<std::uint16_t>(low), static_cast<std::uint16_t>(high), 0};
 }
 
-constexpr Rule limited(int k) { return {1, static_cast<std::uint16_t>(k), 0}; }
+constexpr Rule limited(int k) { return {1, static_cast<std::uint16_t>(k), 0, 0}; }
 
-// As published::pass, with either rule.
+constexpr Rule affine(int segments, int smin, int smax) {
+    return {2, static_cast<std::uint16_t>(smin), static_cast<std::uint16_t>(smax), static_cast<std::uint8_t>(segments)};
+}
+
+inline const char *name_of(const Rule &rule) {
+    const char *const names[] = {"plain", "limited", "affine"};
+    return names[rule.code];
+}
+
+// The settings of an enhancement.
+struct Settings {
+    int last_level;
+    std::size_t area;
+    Rule rule;
+};
+
+constexpr Settings settings_of(const published::Parameters &parameters) {
+    return {parameters.last_level, parameters.area, plain(parameters.low, parameters.high)};
+}
+
+// As published::enhance, with any rule.
+published::Counts enhance(const std::uint8_t *frame, int w, int h, const Settings &settings, std::uint8_t *plane,
+                          Memory &memory, std::uint8_t *output);
+
+// As published::pass, with any rule.
 published::Counts pass(std::uint8_t *plane, int w, int h, int min, int max, std::size_t area, const Rule &rule,
                        Memory &memory);
 

@@ -15,6 +15,7 @@
 #include <cstdio>
 #include <functional>
 #include <string>
+#include <utility>
 #include <vector>
 
 namespace {
@@ -66,21 +67,28 @@ Times compare(const std::string &name, const Result &expected, const std::functi
     return {published_watch.time(), library::linked ? library_watch.time() : 0};
 }
 
+// What the second implementation makes of a frame with the plane's sides.
+Result expected_of(const planes::Plane &plane, const std::vector<std::uint8_t> &frame,
+                   const library::Settings &settings) {
+    Result expected(plane.values.size());
+    expected.counts = checker_enhance(frame.data(), plane.w, plane.h, settings.last_level,
+                                      static_cast<std::uint32_t>(settings.area), settings.rule, expected.plane.data(),
+                                      expected.output.data());
+    return expected;
+}
+
 Times time_enhance(const planes::Plane &plane, const Parameters &parameters) {
-    const std::size_t n = plane.values.size();
     const std::vector<std::uint8_t> frame = planes::coloured(plane);
-    library::Memory memory(n);
-    Result expected(n);
-    expected.counts = checker_enhance(frame.data(), plane.w, plane.h, parameters.last_level,
-                                      static_cast<std::uint32_t>(parameters.area), parameters.low, parameters.high,
-                                      expected.plane.data(), expected.output.data());
+    const library::Settings settings = library::settings_of(parameters);
+    library::Memory memory(plane.values.size());
+    const Result expected = expected_of(plane, frame, settings);
     return compare(
         plane.name, expected,
         [&](Result &r) {
             r.counts = published::enhance(frame.data(), plane.w, plane.h, parameters, r.plane.data(), r.output.data());
         },
         [&](Result &r) {
-            r.counts = library::enhance(frame.data(), plane.w, plane.h, parameters, r.plane.data(), memory,
+            r.counts = library::enhance(frame.data(), plane.w, plane.h, settings, r.plane.data(), memory,
                                         r.output.data());
         });
 }
@@ -93,8 +101,7 @@ Times time_pass(const planes::Plane &plane, int min, int max, const Parameters &
     Result expected(n);
     expected.plane = plane.values;
     expected.counts = checker_pass(expected.plane.data(), plane.w, plane.h, static_cast<std::uint8_t>(min),
-                                   static_cast<std::uint8_t>(max), static_cast<std::uint32_t>(parameters.area),
-                                   rule.code, rule.first, rule.second);
+                                   static_cast<std::uint8_t>(max), static_cast<std::uint32_t>(parameters.area), rule);
     return compare(
         plane.name, expected,
         [&](Result &r) {
@@ -203,6 +210,66 @@ void single_passes_by_shape() {
     }
 }
 
+// The house setting's rule; the limited rule with a fiftieth of the pixels as its clip; the affine rule with the
+// numbers of its published tests, and with the greatest ones, by which few components are kept back.
+constexpr std::pair<const char *, library::Rule> rules[] = {
+    {"plain, 80 to 300", library::plain(published::house.low, published::house.high)},
+    {"limited, 20", library::limited(20)},
+    {"affine, 10, 50 to 300", library::affine(10, 50, 300)},
+    {"affine, 16, 10,000", library::affine(16, 10000, 10000)},
+};
+
+// A rule on one frame: what the second implementation answers, and the library's time.
+struct RuleRun {
+    const char *name;
+    library::Settings settings;
+    Result expected;
+    Stopwatch watch;
+};
+
+// The library's enhancement of one plane with each rule in turn.
+std::vector<RuleRun> runs_on(const planes::Plane &plane) {
+    const std::vector<std::uint8_t> frame = planes::coloured(plane);
+    library::Memory memory(plane.values.size());
+    Result result(plane.values.size());
+    std::vector<RuleRun> runs;
+    for (const auto &[name, rule] : rules) {
+        const library::Settings settings{published::house.last_level, published::house.area, rule};
+        runs.push_back({name, settings, expected_of(plane, frame, settings), Stopwatch()});
+    }
+    for (int round = 0; round < rounds; round++) {
+        for (RuleRun &run : runs) {
+            result.blank();
+            run.watch.measure([&] {
+                result.counts = library::enhance(frame.data(), plane.w, plane.h, run.settings, result.plane.data(),
+                                                 memory, result.output.data());
+            });
+            require(result == run.expected, "library, " + plane.name + ", " + run.name);
+        }
+    }
+    return runs;
+}
+
+// The ratios are of the times with each rule and with the first.
+void enhancement_by_rule() {
+    if (!library::linked) {
+        return;
+    }
+    std::printf("\nEnhancement by the library with each rule, last level 7, least area 20, %s\n",
+                sides(1024, 1024).c_str());
+    std::printf("%-34s %9s %9s %12s %10s %8s\n", "", "retoned", "kept", "library ms", "ns/pixel", "to plain");
+    for (const std::string kind : {"natural", "clean", "noise", "tiles"}) {
+        const std::vector<RuleRun> runs = runs_on(planes::make(kind, 1024, 1024));
+        for (const RuleRun &run : runs) {
+            const double time = run.watch.time(), n = static_cast<double>(run.expected.plane.size());
+            std::printf("%-34s %9zu %9zu %12.2f %10.1f %8.2f\n", (kind + ", " + run.name).c_str(),
+                        std::size_t{run.expected.counts.retoned}, std::size_t{run.expected.counts.kept}, 1e3 * time,
+                        1e9 * time / n, time / runs[0].watch.time());
+        }
+        std::fflush(stdout);
+    }
+}
+
 void summary() {
     if (!library::linked) {
         std::printf("\nThe library is not linked; the published structure's bytes and counts are right.\n");
@@ -238,6 +305,7 @@ int main(int argc, char **argv) {
     growth_with_pixels();
     growth_with_levels_and_single_passes();
     single_passes_by_shape();
+    enhancement_by_rule();
     print_grain(rounds);
     summary();
     return 0;

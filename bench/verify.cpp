@@ -15,6 +15,9 @@ namespace {
 
 using Bytes = std::vector<std::uint8_t>;
 
+// The length of a case's head.
+constexpr std::size_t head = 37;
+
 Bytes contents(const char *name) {
     std::ifstream file(name, std::ios::binary);
     return Bytes(std::istreambuf_iterator<char>(file), std::istreambuf_iterator<char>());
@@ -56,7 +59,8 @@ std::string answer(const Bytes &file, std::size_t at, std::size_t bytes_end, std
         return begun(counts) + " " + hex(plane) + " 0";
     }
     Bytes output(number(file, at + 18, 2), 170);
-    const published::Counts counts = published::enhance(&file[at + 36], w, h, parameters, plane.data(), output.data());
+    const published::Counts counts =
+        published::enhance(&file[at + head], w, h, parameters, plane.data(), output.data());
     return begun(counts) + " " + hex(plane) + " " + hex(output) + " 0";
 }
 
@@ -73,7 +77,7 @@ int main(int argc, char **argv) {
     std::size_t at = 0;
     int compared = 0;
     while (at < file.size() && std::getline(lines, line)) {
-        const std::size_t bytes_end = at + 36 + number(file, at + 32, 2);
+        const std::size_t bytes_end = at + head + number(file, at + 32, 2);
         const std::size_t plane_end = bytes_end + number(file, at + 34, 2);
         const bool ours = file[at] == 1 || file[at] == 3;
         const bool plain = file[at + 3] == 0, whole_plane_given = file[at + 13] == 0;

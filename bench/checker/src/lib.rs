@@ -1,6 +1,6 @@
 //! The second implementation behind two C functions, with which the benchmark checks what it measures.
 
-use mlhe_reference::{enhance, pass, Counts, Pass, Rule, Settings};
+use mlhe_reference::{cases, enhance, pass, Counts, Pass, Rule, Settings};
 use std::slice;
 
 /// Both counts, as `published::Counts` has them.
@@ -16,7 +16,22 @@ impl From<Counts> for CheckerCounts {
     }
 }
 
-/// Enhances a frame with the plain rule. Answers both counts; anything refused ends the benchmark.
+/// A tone rule by its numbers, as `library::Rule` has them.
+#[repr(C)]
+pub struct CheckerRule {
+    code: u8,
+    first: u16,
+    second: u16,
+    segments: u8,
+}
+
+impl From<CheckerRule> for Rule {
+    fn from(rule: CheckerRule) -> Self {
+        cases::rule_of(rule.code, rule.segments, [rule.first, rule.second])
+    }
+}
+
+/// Enhances a frame. Answers both counts; anything refused ends the benchmark.
 ///
 /// # Safety
 ///
@@ -28,8 +43,7 @@ pub unsafe extern "C" fn checker_enhance(
     h: usize,
     last_level: u32,
     area: u32,
-    low: u32,
-    high: u32,
+    rule: CheckerRule,
     plane: *mut u8,
     output: *mut u8,
 ) -> CheckerCounts {
@@ -39,12 +53,11 @@ pub unsafe extern "C" fn checker_enhance(
         let (plane, output) = (slice::from_raw_parts_mut(plane, n), slice::from_raw_parts_mut(output, 3 * n));
         (slice::from_raw_parts(frame, 3 * n), plane, output)
     };
-    let settings = Settings { last_level, area, rule: Rule::Plain { low, high } };
+    let settings = Settings { last_level, area, rule: rule.into() };
     enhance(frame, w, h, &settings, plane, n, n, output).expect("the benchmark's calls are sound").into()
 }
 
-/// Runs one pass. The rule is 0 with low and high, or 1 with the clip and 0. Answers both counts; anything refused ends
-/// the benchmark.
+/// Runs one pass. Answers both counts; anything refused ends the benchmark.
 ///
 /// # Safety
 ///
@@ -57,16 +70,10 @@ pub unsafe extern "C" fn checker_pass(
     a: u8,
     b: u8,
     area: u32,
-    rule: u8,
-    first: u16,
-    second: u16,
+    rule: CheckerRule,
 ) -> CheckerCounts {
     let n = w * h;
     // SAFETY: the caller lends so many bytes.
     let plane = unsafe { slice::from_raw_parts_mut(plane, n) };
-    let rule = match rule {
-        0 => Rule::Plain { low: first.into(), high: second.into() },
-        _ => Rule::Limited { k: first.into() },
-    };
-    pass(plane, n, n, w, h, &Pass { a, b, area, rule }).expect("the benchmark's calls are sound").into()
+    pass(plane, n, n, w, h, &Pass { a, b, area, rule: rule.into() }).expect("the benchmark's calls are sound").into()
 }

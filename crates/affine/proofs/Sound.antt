@@ -1,17 +1,16 @@
 -- The piecewise affine rule is sound: on [a, b] it never falls, and it stays in [a, b]. The places and the heights of
 -- the points never fall; a line's tones lie between those of its ends. Assumes nothing.
-use Prim.Native.Nat.{ℕ, zero, suc, _+_, _-_, _*_, _/_, _≤_, _<_}
-use mathlib.Core.Path.{_≡_, refl, sym, ap, _∙_}
+use Prim.Native.Nat.{ℕ, zero, suc, _+_, _-_, _*_, _≤_, _<_}
+use mathlib.Core.Path.{_≡_, sym, ap, _∙_}
 use mathlib.Core.Logic.{⊎-elim}
-use mathlib.Core.Bool.{Bool, true, false, cond}
-use mathlib.Core.List.{List, [], _∷_}
-use native.Mathlib.Nat.{le-refl, le-trans, le-of-eq, div-zero, zero-mul, mul-le-mul-left, mul-le-mul-right, mul-pos}
+use mathlib.Core.Bool.{Bool, cond}
+use mathlib.Core.List.{List, _∷_}
+use native.Mathlib.Nat.{le-refl, le-trans, le-of-eq, div-zero, zero-mul, mul-le-mul-left, mul-pos}
 use native.Mathlib.Nat.{add-mul, add-sub-of-le}
 use native.Mathlib.Omega.{arith}
 use lib.Ieee.Nearest.{div-mono}
 use lib.ListN.{length}
-use lib.Dec.{leb}
-use borrow.Author.Tests.{leb-true, le-leb, lt-leb}
+use borrow.Author.Tests.{le-leb, lt-leb}
 use Rattle.planes.proofs.Tests.{less-or-not}
 use Rattle.planes.specs.Rounding.{rounded}
 use Rattle.histograms.specs.Values.{scaled}

@@ -2,14 +2,13 @@
 -- whether it keeps the values back, and its tones. Assumes nothing.
 use Prim.Native.Nat.{ℕ, _+_, _-_, _*_, _≤_, _<_}
 use mathlib.Core.Path.{_≡_, sym, ap, ap₂, _∙_}
-use mathlib.Core.Bool.{Bool, false, _||_}
+use mathlib.Core.Bool.{false, _||_}
 use mathlib.Core.List.{List}
 use native.Mathlib.Nat.{mul-pos}
 use native.Mathlib.Omega.{arith}
-use lib.ListN.{length}
 use lib.Dec.{eqb, ltb}
 use borrow.Author.Tests.{eqb-false, ltb-false}
-use Rattle.planes.specs.Lists.{count, at}
+use Rattle.planes.specs.Lists.{at}
 use Rattle.planes.proofs.Tests.{or-none}
 use Rattle.histograms.specs.Values.{sumTo}
 use Rattle.histograms.specs.Histograms.{Histogram, Ranged, Refilled}

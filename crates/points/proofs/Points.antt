@@ -8,11 +8,11 @@
 --   reached-end    the last point is at the greatest value
 --   cumulative     sums of counts, by what they are of every list of values that has the counts
 --   points-same    sums and values have the same points
-use Prim.Native.Nat.{ℕ, zero, suc, _+_, _-_, _*_, _≤_, _<_, min, max}
+use Prim.Native.Nat.{ℕ, zero, suc, _+_, _-_, _*_, _≤_, _<_, max}
 use mathlib.Core.Path.{_≡_, refl, sym, ap, ap₂, subst, _∙_}
 use mathlib.Core.Logic.{⊎-elim}
-use mathlib.Core.Bool.{Bool, true, false}
-use mathlib.Core.List.{List, [], _∷_}
+use mathlib.Core.Bool.{Bool, true}
+use mathlib.Core.List.{List, _∷_}
 use native.Mathlib.Nat.{le-refl, le-antisymm, min-le-left, mul-le-mul-left, mul-le-mul-right, mul-add}
 use native.Mathlib.Omega.{arith}
 use lib.ListN.{length}
@@ -30,9 +30,9 @@ use Rattle.histograms.proofs.Measured.{measured-inside}
 use Rattle.histograms.proofs.Histograms.{summed-counts}
 use Rattle.points.specs.declared.Slopes.{Slopes}
 use Rattle.points.specs.declared.Point.{Point}
-use Rattle.points.specs.Points.{leastFrom, growth, nextPoint, start, pointsAfter, points, topOf, upTo}
+use Rattle.points.specs.Points.{growth, nextPoint, start, pointsAfter, points, upTo}
 use Rattle.points.specs.Points.{Cumulative, First, Reached}
-use Rattle.points.proofs.Search.{least-ge, least-le, least-first, least-is, least-below, least-passes, least-same}
+use Rattle.points.proofs.Search.{least-ge, least-first, least-is, least-below, least-passes, least-same}
 use Rattle.points.proofs.Rising.{placeOf}
 
 -- ## Reached points

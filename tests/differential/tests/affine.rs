@@ -1,16 +1,13 @@
 //! The Rust crate's affine rule is the library's: the stored passes and enhancements with it have the same answers when
 //! they are run with `Rule::Affine`, refusals too.
 
-use mlhe::{lent, Counts, Pass, PassList, Refusal, Rule, Settings, GREATEST_SEGMENTS, GREATEST_SLOPE};
-use mlhe_reference::cases::{cases, Case, Kind, OUTPUT_FILL};
-use std::fs;
-use std::path::Path;
+mod stored;
 
-fn hex(bytes: &[u8]) -> String {
-    bytes.iter().map(|byte| format!("{byte:02x}")).collect()
-}
+use mlhe::{lent, Pass, PassList, Refusal, Rule, Settings, GREATEST_SEGMENTS, GREATEST_SLOPE};
+use mlhe_reference::cases::{Case, Kind, OUTPUT_FILL};
+use stored::{agree, hex, numbers};
 
-/// The line that answers a case, as the head of reference/src/cases.rs describes it.
+/// The line that answers a case.
 fn line(case: &Case) -> String {
     let (mut marks, mut queue) = (vec![0; case.marks.into()], vec![0; case.queue.into()]);
     let (mut plane, mut output) = (case.plane.clone(), vec![OUTPUT_FILL; case.output.into()]);
@@ -23,26 +20,14 @@ fn line(case: &Case) -> String {
         let settings = Settings::new(case.last_level, case.area, rule);
         lent::enhance(&case.bytes, w, h, &settings, &mut plane, &mut marks, &mut queue, &mut output)
     };
-    let numbers = match answer {
-        Ok(Counts { retoned, kept }) => format!("+{retoned} {kept}"),
-        Err(refusal) => format!("-{}", refusal.number()),
-    };
     let output = if case.kind == Kind::Pass { String::new() } else { format!(" {}", hex(&output)) };
-    format!("{numbers} {}{output} 0", hex(&plane))
+    format!("{} {}{output} 0", numbers(answer), hex(&plane))
 }
 
 #[test]
 fn the_stored_cases_with_the_affine_rule() {
-    let vectors = Path::new(env!("CARGO_MANIFEST_DIR")).join("../../crates/vectors");
-    let cases = cases(&fs::read(vectors.join("stdin")).expect("the cases are there"));
-    let lines = fs::read_to_string(vectors.join("stdout")).expect("the answers are there");
     for kind in [Kind::Pass, Kind::Enhance] {
-        let is_affine = |case: &Case| case.kind == kind && case.rule == 2 && !case.same_plane;
-        let affine: Vec<(&Case, &str)> = cases.iter().zip(lines.lines()).filter(|(case, _)| is_affine(case)).collect();
-        assert!(affine.len() > 50);
-        for (case, stored) in affine {
-            assert_eq!(line(case), stored, "{case:?}");
-        }
+        agree(|case| case.kind == kind && case.rule == 2 && !case.same_plane, line);
     }
 }
 

@@ -4,6 +4,7 @@
 //!     cargo run --release -- --check  ends with status 1 unless they are as this would write them
 
 mod methods;
+mod noise;
 mod pictures;
 mod png;
 
@@ -15,7 +16,7 @@ use std::path::Path;
 use std::process::ExitCode;
 use std::{env, fs};
 
-/// The document, with a place for the table.
+/// The document, with a place for each table.
 const DOCUMENT: &str = include_str!("document.md");
 
 /// What is counted of a plane, against the intensity of the picture.
@@ -69,6 +70,11 @@ fn difference(plane: &Plane) -> usize {
     (100 * sum + pairs / 2) / pairs
 }
 
+/// A number of hundredths, in ones.
+fn hundredths(number: usize) -> String {
+    format!("{}.{:02}", number / 100, number % 100)
+}
+
 fn frame_of(picture: Picture) -> Frame {
     Frame::new(picture.w, picture.h, picture.bytes).expect("the picture is small")
 }
@@ -81,8 +87,7 @@ fn row(name: &str, method: &str, frame: &Frame, last: &Plane) -> String {
         let Counts { spots, invented, reversed, parted } = counts(&first, last);
         format!("{spots} | {invented} | {reversed} | {parted}")
     };
-    let difference = difference(last);
-    let difference = format!("{}.{:02}", difference / 100, difference % 100);
+    let difference = hundredths(difference(last));
     format!("| {name} | {method} | {} | {} | {difference} |\n", cells(last), cells(&written))
 }
 
@@ -115,8 +120,9 @@ fn files() -> Vec<(&'static str, Vec<u8>)> {
     let picture = png::encoded(&before);
     let enhanced = frame_of(before).enhanced(&Settings::HOUSE, &mut Memory::new()).expect("the setting is sound");
     let after = Picture { w, h, bytes: enhanced.frame.into_bytes() };
+    let page = DOCUMENT.replace("TABLE OF SPOTS\n", &table()).replace("TABLE OF NOISE\n", &noise::table());
     vec![
-        ("docs/EVIDENCE.md", DOCUMENT.replace("TABLE\n", &table()).into_bytes()),
+        ("docs/EVIDENCE.md", page.into_bytes()),
         ("docs/evidence/before.png", picture),
         ("docs/evidence/after.png", png::encoded(&after)),
     ]

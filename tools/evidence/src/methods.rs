@@ -7,15 +7,24 @@ pub struct Method {
     pub run: fn(&Frame) -> Plane,
 }
 
-pub const METHODS: [Method; 5] = [
+pub const METHODS: [Method; 6] = [
     Method { name: "global equalisation", run: |frame| on_intensity(frame, equalised) },
     Method { name: "CLAHE, 8 × 8 tiles, clip 3", run: |frame| on_intensity(frame, tiled) },
     Method { name: "unsharp masking, 100 %", run: |frame| on_intensity(frame, unsharp) },
     Method { name: "this library, house setting", run: |frame| ours(frame, Settings::HOUSE) },
-    Method { name: "this library, limited, k 20", run: |frame| ours(frame, LIMITED) },
+    Method { name: "this library, limited, k 20", run: |frame| ours(frame, with(LIMITED)) },
+    Method { name: "this library, affine, 50 to 300", run: |frame| ours(frame, with(AFFINE)) },
 ];
 
-const LIMITED: Settings = Settings::house().with_rule(Rule::Limited { k: 20 });
+pub const LIMITED: Rule = Rule::Limited { k: 20 };
+
+/// The affine rule as its authors tested it.
+pub const AFFINE: Rule = Rule::Affine { segments: 10, smin: 50, smax: 300 };
+
+/// The house setting with another rule.
+pub fn with(rule: Rule) -> Settings {
+    Settings::house().with_rule(rule)
+}
 
 fn ours(frame: &Frame, settings: Settings) -> Plane {
     frame.enhanced(&settings, &mut Memory::new()).expect("the settings are sound").plane

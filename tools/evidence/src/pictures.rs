@@ -101,6 +101,17 @@ pub fn night() -> Picture {
     landscape(256, 192, true, 1)
 }
 
+/// A sky down to the horizon's row, in 40 grey levels from above downward, over land from 20 to about 20 + light. Before
+/// the grain, which is of up to three grey levels, each row of the sky has one value.
+pub fn sky(horizon: usize, light: i64) -> Picture {
+    let horizon = horizon as i64;
+    drawn(256, 192, |x, y| {
+        let grain: i64 = (41..44).map(|seed| scattered(seed, x, y) * 3 / 256 - 1).sum();
+        let clean = if y < horizon { 170 + 40 * y / horizon } else { 20 + light * (fractal(44, x, y) - 40) / 160 };
+        [clean + grain; 3]
+    })
+}
+
 /// A meadow with flowers at dusk, in strong colours.
 pub fn meadow() -> Picture {
     drawn(256, 192, |x, y| {

@@ -1,6 +1,6 @@
 -- `affine::fill_lines` meets its contract. The invariant: place and height are those of point i, and the entries from
 -- the least value to below the place are tones. The measure is what is left of the segments. Assumes nothing.
-use Prim.Native.Nat.{ℕ, _+_, _-_, _≤_, _<_, max}
+use Prim.Native.Nat.{ℕ, _-_, _≤_, max}
 use mathlib.Core.Path.{_≡_, sym, ap, subst, _∙_}
 use lib.ListN.{length-set}
 use Rattle.planes.specs.Lists.{at}
