@@ -1,5 +1,5 @@
--- Where the piecewise affine rule ends: unless the component is kept back, its greatest value becomes b, and so does the
--- value b. Assumes nothing.
+-- Where the piecewise affine rule ends: unless the component is kept back, its greatest value becomes b, and so does
+-- the value b. Assumes nothing.
 use Prim.Native.Nat.{ℕ, zero, suc, _+_, _-_, _*_, _≤_}
 use mathlib.Core.Path.{_≡_, refl, ap, _∙_}
 use mathlib.Core.Bool.{false}

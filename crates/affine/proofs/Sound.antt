@@ -107,7 +107,8 @@ module _ (a b y : ℕ) where
   joined-lower last from = le-refl _
   joined-lower {p} (more {q = q} {qs = qs} places heights rest) {v} from = ⊎-elim
       (λ (l : v < q .place). le-trans (line-lower a b y heights from l) (le-of-eq (sym (joined-line p q qs l))))
-      (λ l. le-trans (le-trans (scaled-mono a b y heights) (joined-lower rest l)) (le-of-eq (sym (joined-next p q qs l))))
+      (λ l. le-trans (scaled-mono a b y heights)
+      (le-trans (joined-lower rest l) (le-of-eq (sym (joined-next p q qs l)))))
       (less-or-not v (q .place))
 
   -- no higher than the last

@@ -1,6 +1,6 @@
 -- The piecewise affine rule (Algorithm 8): what the value v of a component in the section [a, b] becomes, and when it
--- keeps the old values back. The points of the component's sums are joined by straight lines. It sees only the list vs of
--- the component's values. Definitions only.
+-- keeps the old values back. The points of the component's sums are joined by straight lines. It sees only the list vs
+-- of the component's values. Definitions only.
 --
 -- For callers:
 --   affineTop      the last point's height

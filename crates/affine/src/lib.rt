@@ -7,9 +7,9 @@
 //
 // Counts and table are lent, with any content in the table, and only their entries of [least, greatest], from the
 // component's least value to its greatest, are read or written. The points are gone over twice, once for the last
-// height and once for the tones: a component costs time in the spread of its values and in its segments. What is divided
-// is a height, below 2^32, times two numbers of 8 bits. What fills takes a slice, for an array that is lent as a slice is
-// known to have all its entries.
+// height and once for the tones: a component costs time in the spread of its values and in its segments. What is
+// divided is a height, below 2^32, times two numbers of 8 bits. What fills takes a slice, for an array that is lent as
+// a slice is known to have all its entries.
 ghost use mathlib.Core.Path.{_≡_};
 ghost use Prim.Native.Nat.{_+_, _^_, _≤_, _<_, max};
 ghost use lib.ListN.{length};

@@ -268,8 +268,8 @@ pub record ListsAreChains : Type 0 where
 -- ## What is as it was before
 
 -- frames without comments are read as before comments were read; a header with a number sign was refused with 10. The
--- numbers of a rule, in lists and from C, are read as before the affine rule was there, unless their code is 2; these got
--- 17
+-- numbers of a rule, in lists and from C, are read as before the affine rule was there, unless their code is 2; these
+-- got 17
 pub record AsBefore : Type 0 where
   pub of-read : (bytes : List ℕ) (limit : ℕ) → Uncommented bytes
       → readReply bytes limit ≡ uncommentedReply bytes limit

@@ -84,8 +84,8 @@ writtenNumber (Written.Length size) = encoded 0 size
 pub record Short (r : Written) : Type 0 where
   pub short : (size : ℕ) → r ≡ Written.Length size → size < 9223372036854775808
 
--- a rule by four numbers: its code, first and second number, and segments. Code and segments are bytes of a record: what
--- is above 255 stands for 255, which is no code and too many segments. Fewer or more numbers stand for no rule.
+-- a rule by four numbers: its code, first and second number, and segments. Code and segments are bytes of a record:
+-- what is above 255 stands for 255, which is no code and too many segments. Fewer or more numbers stand for no rule.
 abbrev pub numbersFor : List ℕ → RuleNumbers
 numbersFor rule =
     cond (eqb (length rule) 4)

@@ -1,6 +1,7 @@
 // Passes in an array: lists in memory for callers that have the passes by value, and lend no slice of them.
 //
-// run_array   the first passes of an array, or the refusal that they meet with: 1 to 4, 16, then for each pass 5 to 8, 18
+// run_array   the first passes of an array, or the refusal that they meet with: 1 to 4, 16, then for each pass 5 to 8,
+//             18
 //
 // A function that lends a slice of structs is proved by hand; whoever calls this one is not.
 ghost use mathlib.Core.Path.{_≡_};

@@ -62,7 +62,9 @@ module _ (s : Slopes) {sums : List ℕ} {c : Measures} {a b : ℕ} (k : Cumulati
   module _ (i : ℕ) (more : i < n) where
     -- all pixels up to the greatest value are enough
     whole : enough (i + 1) (c .greatest) ≡ true
-    whole = le-leb ((i + 1) * m) (n * at sums (c .greatest)) (omega (arith, ap (n *_) (k .whole), mul-le-mul-right {m = i + 1} {n = n} m (omega arith)))
+    whole =
+        let less = mul-le-mul-right {m = i + 1} {n = n} m (omega arith) in
+        le-leb ((i + 1) * m) (n * at sums (c .greatest)) (omega (arith, ap (n *_) (k .whole), less))
 
     abbrev place : ℕ
     place = placeOf s a b (at sums) m (i + 1)

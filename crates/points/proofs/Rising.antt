@@ -1,5 +1,6 @@
 -- The places and the heights of the points never fall. Assumes nothing.
 use Prim.Native.Nat.{ℕ, zero, suc, _+_, _-_, _*_, _≤_}
+use mathlib.Core.Bool.{Bool}
 use mathlib.Core.List.{List, [], _∷_}
 use native.Mathlib.Nat.{le-refl, le-trans}
 use native.Mathlib.Omega.{arith}
@@ -30,7 +31,9 @@ module _ (s : Slopes) (a b : ℕ) (c : ℕ → ℕ) (m : ℕ) where
   placeOf j = leastFrom (λ v. leb (j * m) (s .segments * c v)) a (b - a)
 
   pub place-rises : (j : ℕ) → placeOf j ≤ placeOf (j + 1)
-  place-rises j = least-mono (λ v. leb ((j + 1) * m) (s .segments * c v)) (λ v. leb (j * m) (s .segments * c v)) a (b - a)
+  place-rises j =
+      let enough : ℕ → ℕ → Bool = λ i v. leb (i * m) (s .segments * c v) in
+      least-mono (enough (j + 1)) (enough j) a (b - a)
       (λ u e. le-leb (j * m) (s .segments * c u) (omega (arith, leb-true ((j + 1) * m) (s .segments * c u) e)))
 
   pub points-rise : (n i : ℕ) (p : Point) → p .place ≤ placeOf (i + 1) → Rising p (pointsAfter s a b c m n i p)

@@ -86,8 +86,8 @@ pub record First (sums : List ℕ) (n need x y r : ℕ) : Type 0 where
   pub less : (v : ℕ) → x ≤ v → v < r → n * at sums v < need
   pub enough : r < y → need ≤ n * at sums r
 
--- p may be point i: its place is in [a, greatest], has enough pixels up to it, and no place before it has enough for the
--- next point; its height is no more than by the greatest slope from a on
+-- p may be point i: its place is in [a, greatest], has enough pixels up to it, and no place before it has enough for
+-- the next point; its height is no more than by the greatest slope from a on
 pub record Reached (s : Slopes) (sums : List ℕ) (c : Measures) (a i : ℕ) (p : Point) : Type 0 where
   pub from : a ≤ p .place
   pub to : p .place ≤ c .greatest

@@ -7,8 +7,8 @@
 // later                           the greater of two places
 // find, held, wanted, grown       within: a point's place and height
 //
-// The points are gone over without being stored. Heights are below 2^32 for any numbers of the rule, since slopes have 16
-// bits, segments 8 and distances 8; so all products fit 64 bits.
+// The points are gone over without being stored. Heights are below 2^32 for any numbers of the rule, since slopes have
+// 16 bits, segments 8 and distances 8; so all products fit 64 bits.
 ghost use mathlib.Core.Path.{_≡_};
 ghost use Prim.Native.Nat.{ℕ, _+_, _-_, _*_, _^_, _≤_, _<_, min, max};
 ghost use lib.ListN.{length};

@@ -1,5 +1,5 @@
--- Numbers with a code other than 2 are read as before the affine rule was there; those with the code 2 stood for no rule.
--- Assumes nothing.
+-- Numbers with a code other than 2 are read as before the affine rule was there; those with the code 2 stood for no
+-- rule. Assumes nothing.
 use Prim.Native.Nat.{_<_}
 use mathlib.Core.Path.{_≡_}
 use mathlib.Core.Logic.{⊎-elim}

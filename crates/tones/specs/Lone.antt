@@ -14,8 +14,8 @@ use Rattle.tones.specs.declared.Rule.the-variants.{Plain, Limited, Affin
 unfoldable pub oneValue : List ℕ → Bool
 oneValue vs = every (eqb (at vs 0)) vs
 
--- the plain rule keeps a component of one value back; the limited rule keeps none; the affine rule may retone one of one
--- value
+-- the plain rule keeps a component of one value back; the limited rule keeps none; the affine rule may retone one of
+-- one value
 abbrev pub lone : Rule → List ℕ → Bool
 lone (Plain low high) vs = oneValue vs
 lone (Limited k) vs = false

@@ -14,8 +14,8 @@ use Rattle.tones.specs.declared.Rule.{Rule}
 use Rattle.tones.specs.declared.Rule.the-variants.{Plain, Limited, Affine}
 use Rattle.tones.specs.declared.RuleNumbers.{RuleNumbers}
 
--- the code 0 is plain, with low and high; 1 is limited, with k; any other is affine, with the segments in the extra byte,
--- smin and smax
+-- the code 0 is plain, with low and high; 1 is limited, with k; any other is affine, with the segments in the extra
+-- byte, smin and smax
 abbrev pub ruleOf : RuleNumbers → Rule
 ruleOf n =
     cond (eqb (n .code) 0) (Plain (n .first) (n .second))

@@ -1,5 +1,5 @@
--- `affine::fill_line` meets its contract. The invariant: the entries from x to below v are tones. The measure is what is
--- left up to q. Assumes nothing.
+-- `affine::fill_line` meets its contract. The invariant: the entries from x to below v are tones. The measure is what
+-- is left up to q. Assumes nothing.
 use Prim.Native.Nat.{_-_, _≤_, max}
 use mathlib.Core.Path.{_≡_}
 use Rattle.histograms.specs.Histograms.{Refilled}

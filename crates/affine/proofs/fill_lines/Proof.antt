@@ -24,7 +24,8 @@ Inv-loop sums table₀ c s a b y n least place₀ height₀ i₀ table place hei
     let p : Point = record { place = place; height = height } in
     ((i ≤ n)
     × (Reached s sums c a i p × (Ahead s a b (at sums) (c .size) i p × Onward s a b y (at sums) (c .size) i p)))
-    × Refilled (joined a b y (start a) (points s a b (at sums) (c .size))) (c .least) (max (c .least) place) table₀ table
+    × Refilled (joined a b y (start a) (points s a b (at sums) (c .size))) (c .least) (max (c .least) place)
+    table₀ table
 
 abbrev μ-loop : tie.MeasureT-loop
 μ-loop sums table₀ c s a b y n least place₀ height₀ i₀ table place height i = n - i
@@ -40,8 +41,10 @@ loop-holds c =
     let s = c .before .before .before in
     let a = s .args in
     let range = s .pre .0 .0 .1 .range in
+    let ahead = ahead-first (a .s) (a .a) (a .b) (at (a .sums .now)) (a .c .size) in
+    let onward = onward-first (a .s) (a .a) (a .b) (a .y) (at (a .sums .now)) (a .c .size) in
     let none : max (a .c .least) (a .a) ≡ a .c .least = omega (arith, range .from) in (
-      (omega arith, (reached-first (a .s) (s .pre .0 .0 .1), (ahead-first (a .s) (a .a) (a .b) _ _, onward-first (a .s) (a .a) (a .b) (a .y) _ _))),
+      (omega arith, (reached-first (a .s) (s .pre .0 .0 .1), (ahead, onward))),
       rw none (refilled-none _),
     )
 
@@ -123,8 +126,9 @@ returns c =
     let p : Point = record { place = c .before .before .loop .place; height = c .before .before .loop .height } in
     let all : c .before .before .loop .i ≡ a .s .segments = omega arith in
     let reached = subst (λ (i : ℕ). Reached (a .s) (a .sums .now) (a .c) (a .a) i p) all (inv .0 .1 .0) in
-    let ahead = subst (λ (i : ℕ). Ahead (a .s) (a .a) (a .b) (at (a .sums .now)) (a .c .size) i p) all (inv .0 .1 .1 .0) in
-    let onward = subst (λ (i : ℕ). Onward (a .s) (a .a) (a .b) (a .y) (at (a .sums .now)) (a .c .size) i p) all (inv .0 .1 .1 .1) in
+    let sums : ℕ → ℕ = at (a .sums .now) in
+    let ahead = subst (λ (i : ℕ). Ahead (a .s) (a .a) (a .b) sums (a .c .size) i p) all (inv .0 .1 .1 .0) in
+    let onward = subst (λ (i : ℕ). Onward (a .s) (a .a) (a .b) (a .y) sums (a .c .size) i p) all (inv .0 .1 .1 .1) in
     let end = reached-end (a .s) (pre .0 .0 .1) (pre .1 .0 .0) reached in
     let range = pre .0 .0 .1 .range in
     let up-to : max (a .c .least) (p .place) ≡ a .c .greatest = omega (arith, end, range .order) in

@@ -1,5 +1,5 @@
--- `histograms::fill_same` meets its contract. The invariant: the entries from first to below v are the values themselves.
--- The measure is what is left up to last. Assumes nothing.
+-- `histograms::fill_same` meets its contract. The invariant: the entries from first to below v are the values
+-- themselves. The measure is what is left up to last. Assumes nothing.
 use Prim.Native.Nat.{_+_, _-_, _≤_}
 use mathlib.Core.Path.{_≡_, refl}
 use Rattle.histograms.specs.Histograms.{Refilled}

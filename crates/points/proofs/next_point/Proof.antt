@@ -1,4 +1,5 @@
--- `points::next_point` meets its contract: the search finds the next point's place, and its height fits. Assumes nothing.
+-- `points::next_point` meets its contract: the search finds the next point's place, and its height fits. Assumes
+-- nothing.
 use Prim.Native.Nat.{ℕ, _+_, _-_, _*_, _≤_, max}
 use mathlib.Core.Path.{_≡_, sym, ap, subst, _∙_}
 use native.Mathlib.Nat.{min-le-left, mul-le-mul}

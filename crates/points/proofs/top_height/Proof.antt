@@ -1,5 +1,5 @@
--- `points::top_height` meets its contract. The invariant: place and height are those of point i, and what is left of the
--- points leads to the last. The measure is what is left of the segments. Assumes nothing.
+-- `points::top_height` meets its contract. The invariant: place and height are those of point i, and what is left of
+-- the points leads to the last. The measure is what is left of the segments. Assumes nothing.
 use Prim.Native.Nat.{ℕ, _-_, _≤_}
 use mathlib.Core.Path.{_≡_, ap, subst}
 use Rattle.planes.specs.Lists.{at}

@@ -37,7 +37,8 @@ unfolding malformed
 returns-5 c =
     let i = c .before .before .before .before .before .before .before .before in
     let code = i .before .before .args .numbers .code in
-    let low = lt-ltb code 2 (omega (arith, i .if1 .left, c .before .before .before .before .before .before .if2 .left)) in
+    let other = c .before .before .before .before .before .before .if2 .left in
+    let low = lt-ltb code 2 (omega (arith, i .if1 .left, other)) in
     let clear = eq-eqb _ _ (c .before .before .before .before .if3 .left) in
     let limited = eq-eqb _ _ (c .before .before .if4 .left) in
     simp (le-ltb 2 code (i .if1 .left), low, clear, limited, ne-eqb _ _ (c .if5 .taken))
@@ -47,7 +48,8 @@ unfolding malformed
 returns-6 c =
     let i = c .before .before .before .before .before .before .before .before in
     let code = i .before .before .args .numbers .code in
-    let low = lt-ltb code 2 (omega (arith, i .if1 .left, c .before .before .before .before .before .before .if2 .left)) in
+    let other = c .before .before .before .before .before .before .if2 .left in
+    let low = lt-ltb code 2 (omega (arith, i .if1 .left, other)) in
     let clear = eq-eqb _ _ (c .before .before .before .before .if3 .left) in
     let limited = eq-eqb _ _ (c .before .before .if4 .left) in
     simp (le-ltb 2 code (i .if1 .left), low, clear, limited, eq-eqb _ _ (c .if5 .left))
