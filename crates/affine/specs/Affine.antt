@@ -6,6 +6,7 @@
 --   affineTop      the last point's height
 --   affineTone     the height at v, scaled; the only rounding
 --   affineKept     the rule keeps the old values back
+--   keptAt         the same, by the number of segments, b - a and the last height
 -- The lines:
 --   lineTone       the tone of a value on the line between two points
 --   joined         the tone of a value on the lines that join some points
