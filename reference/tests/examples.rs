@@ -1,4 +1,4 @@
-//! The examples of the requirements (docs/REQUIREMENTS.md): A to Q, and A by the affine rule.
+//! The examples of the requirements (docs/REQUIREMENTS.md), but for S and T, which stand in counts.rs.
 
 use mlhe_reference::{enhance, intensity, level_by_level, pass, program, recolour, run_list, run_passes};
 use mlhe_reference::{list_bytes, list_passes, Counts, Pass, Rule, Settings};
@@ -70,11 +70,13 @@ fn a_limited_component_is_never_kept() {
 }
 
 #[test]
-fn a_affine() {
+fn u_affine() {
     let a = [10, 10, 20, 30];
-    let affine = |smin, smax| Rule::Affine { segments: 2, smin, smax };
-    assert_eq!(run(&a, 4, 0, 255, 1, affine(100, 10_000)), (vec![128, 128, 191, 255], both(1, 0)));
-    assert_eq!(run(&a, 4, 0, 255, 1, affine(100, 300)), (a.to_vec(), both(0, 1)));
+    let affine = |segments, smin, smax| Rule::Affine { segments, smin, smax };
+    assert_eq!(run(&a, 4, 0, 255, 1, affine(2, 100, 10_000)), (vec![128, 128, 191, 255], both(1, 0)));
+    assert_eq!(run(&a, 4, 0, 255, 1, affine(2, 100, 300)), (a.to_vec(), both(0, 1)));
+    assert_eq!(run(&[7, 7], 2, 0, 255, 1, affine(1, 0, 10_000)), (vec![255, 255], both(1, 0)));
+    assert_eq!(run(&[8, 10], 2, 0, 10, 1, affine(2, 200, 10_000)), (vec![8, 10], both(1, 0)));
 }
 
 /// Each component by itself, and only those of the least area: 10 and 20 become 64 and 127; 10 10 is kept back.
@@ -193,6 +195,20 @@ fn a_list_with_the_affine_rule() {
     let mut plane = [10, 10, 20, 30];
     assert_eq!(run_passes(&passes, &mut plane, 4, 4, 4, 1), Ok(both(1, 0)));
     assert_eq!(plane, [128, 128, 191, 255]);
+}
+
+#[test]
+fn w_list_of_all_rules() {
+    let affine = Rule::Affine { segments: 2, smin: 100, smax: 10_000 };
+    let passes = [(0, 127, FREE), (128, 255, Rule::Limited { k: 10 }), (0, 255, affine)].map(|(a, b, rule)| Pass {
+        a,
+        b,
+        area: 1,
+        rule,
+    });
+    let mut plane = [10, 20, 200, 10, 10];
+    assert_eq!(run_list(&list_bytes(&passes), &mut plane, 5, 5, 5, 1), Ok(both(3, 1)));
+    assert_eq!(plane, [123, 184, 255, 19, 19]);
 }
 
 /// Lists of all three rules read back as they were written.

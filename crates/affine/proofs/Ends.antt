@@ -15,8 +15,7 @@ use Rattle.histograms.proofs.Values.{in-inside, greatest-in, count-greatest}
 use Rattle.histograms.proofs.Scaled.{scaled-all}
 use Rattle.points.specs.declared.Slopes.{Slopes}
 use Rattle.points.specs.declared.Point.{Point}
-use Rattle.points.specs.Points.{nextPoint, start, pointsAfter, topOf, upTo}
-use Rattle.points.proofs.Rising.{placeOf}
+use Rattle.points.specs.Points.{placeOf, nextPoint, start, pointsAfter, topOf, upTo}
 use Rattle.affine.specs.Affine.{joined, affineTop, affineTone, affineKept}
 use Rattle.points.proofs.Search.{least-le, least-below}
 use Rattle.affine.proofs.Sound.{joined-next}

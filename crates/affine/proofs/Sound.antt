@@ -33,7 +33,7 @@ rounded-cross x m y k hm hk h =
     div-mono (2 * x + m) (2 * m) (2 * y + k) (2 * k) (omega arith) (omega arith) (omega arith)
 
 -- x of y is no more than x' of y d, where x d is no more than x'; and the other way round
-pub scaled-up : (a b x y x' d : ℕ) → 0 < d → x * d ≤ x' → scaled a b x y ≤ scaled a b x' (y * d)
+scaled-up : (a b x y x' d : ℕ) → 0 < d → x * d ≤ x' → scaled a b x y ≤ scaled a b x' (y * d)
 scaled-up a b x zero x' d pos h = omega (arith, scaled-zero a b x)
 scaled-up a b x (suc y) x' d pos h =
     let cross : (b - a) * x * (suc y * d) ≤ (b - a) * x' * suc y
@@ -44,7 +44,7 @@ scaled-up a b x (suc y) x' d pos h =
           (mul-pos (omega arith) pos) cross,
     )
 
-pub scaled-down : (a b x y x' d : ℕ) → 0 < d → x' ≤ x * d → scaled a b x' (y * d) ≤ scaled a b x y
+scaled-down : (a b x y x' d : ℕ) → 0 < d → x' ≤ x * d → scaled a b x' (y * d) ≤ scaled a b x y
 scaled-down a b x zero x' d pos h =
     omega (arith, ap (scaled a b x') (zero-mul d) ∙ scaled-zero a b x', scaled-zero a b x)
 scaled-down a b x (suc y) x' d pos h =

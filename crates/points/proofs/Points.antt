@@ -30,10 +30,9 @@ use Rattle.histograms.proofs.Measured.{measured-inside}
 use Rattle.histograms.proofs.Histograms.{summed-counts}
 use Rattle.points.specs.declared.Slopes.{Slopes}
 use Rattle.points.specs.declared.Point.{Point}
-use Rattle.points.specs.Points.{growth, nextPoint, start, pointsAfter, points, upTo}
+use Rattle.points.specs.Points.{placeOf, pointAt, nextPoint, start, pointsAfter, points, upTo}
 use Rattle.points.specs.Points.{Cumulative, First, Reached}
 use Rattle.points.proofs.Search.{least-ge, least-first, least-is, least-below, least-passes, least-same}
-use Rattle.points.proofs.Rising.{placeOf}
 
 -- ## Reached points
 
@@ -44,7 +43,7 @@ module _ (s : Slopes) {sums : List ℕ} {c : Measures} {a b : ℕ} (k : Cumulati
   abbrev m : ℕ
   m = c .size
 
-  -- point i: the test of its place
+  -- the test of the place of point j
   abbrev enough : ℕ → ℕ → Bool
   enough j v = leb (j * m) (n * at sums v)
 
@@ -121,7 +120,7 @@ module _ (s : Slopes) {sums : List ℕ} {c : Measures} {a b : ℕ} (k : Cumulati
           }
 
       -- the search finds the next point's place
-      pub place-found : {x : ℕ} → First sums n ((i + 1) * m) (max (p .place) (c .least)) (c .greatest) x → place ≡ x
+      place-found : {x : ℕ} → First sums n ((i + 1) * m) (max (p .place) (c .least)) (c .greatest) x → place ≡ x
       place-found {x} found = least-is (enough (i + 1)) a (b - a) x
           (omega (arith, r .from, found .from))
           (omega (arith, to-b, found .to))
@@ -144,14 +143,9 @@ module _ (s : Slopes) {sums : List ℕ} {c : Measures} {a b : ℕ} (k : Cumulati
       -- the next point, by what the search finds
       pub next-is : {x : ℕ} → First sums n ((i + 1) * m) (max (p .place) (c .least)) (c .greatest) x
           → nextPoint s a b (at sums) m (i + 1) p
-          ≡ record { place = x; height = p .height + growth s (x - p .place) (100 * (b - a) * (i + 1) - p .height) }
+          ≡ pointAt s a b (i + 1) p x
       unfolding nextPoint
-      next-is {x} found =
-          let q : ℕ → Point = λ z. record {
-            place = z;
-            height = p .height + growth s (z - p .place) (100 * (b - a) * (i + 1) - p .height);
-          } in
-          ap q (place-found found)
+      next-is found = ap (pointAt s a b (i + 1) p) (place-found found)
 
   -- no sum is above the number of pixels, which is not too large
   pub sums-few : (v : ℕ) → v ≤ c .greatest → at sums v ≤ 1048576
@@ -253,12 +247,9 @@ module _ {vs counts sums : List ℕ} {c : Measures} {a b : ℕ} (h : Histogram v
     unfolding pointsAfter nextPoint
     after-same zero i p few = refl
     after-same (suc k) i p few =
-        let q : ℕ → Point = λ x. record {
-          place = x;
-          height = p .height + growth s (x - p .place) (100 * (b - a) * (i + 1) - p .height);
-        } in
-        let same = ap q (place-same i (omega arith)) in
-        ap₂ _∷_ same (after-same k (i + 1) (q (placeOf s a b (at sums) (c .size) (i + 1))) (omega arith)
+        let q = nextPoint s a b (at sums) (c .size) (i + 1) p in
+        let same = ap (pointAt s a b (i + 1) p) (place-same i (omega arith)) in
+        ap₂ _∷_ same (after-same k (i + 1) q (omega arith)
         ∙ ap (pointsAfter s a b (upTo vs) (length vs) k (i + 1)) same)
 
     pub points-same : points s a b (at sums) (c .size) ≡ points s a b (upTo vs) (length vs)

@@ -8,7 +8,7 @@ use lib.Dec.{leb}
 use borrow.Author.Tests.{leb-true, le-leb}
 use Rattle.points.specs.declared.Slopes.{Slopes}
 use Rattle.points.specs.declared.Point.{Point}
-use Rattle.points.specs.Points.{leastFrom, nextPoint, start, pointsAfter, points, topOf}
+use Rattle.points.specs.Points.{placeOf, nextPoint, start, pointsAfter, points, topOf}
 use Rattle.points.proofs.Search.{least-ge, least-mono}
 
 -- ## Points that rise
@@ -26,17 +26,14 @@ top-high (more places heights rest) = le-trans heights (top-high rest)
 -- ## The points of a component rise
 
 module _ (s : Slopes) (a b : ℕ) (c : ℕ → ℕ) (m : ℕ) where
-  -- the place of point j
-  abbrev pub placeOf : ℕ → ℕ
-  placeOf j = leastFrom (λ v. leb (j * m) (s .segments * c v)) a (b - a)
-
-  pub place-rises : (j : ℕ) → placeOf j ≤ placeOf (j + 1)
+  pub place-rises : (j : ℕ) → placeOf s a b c m j ≤ placeOf s a b c m (j + 1)
   place-rises j =
       let enough : ℕ → ℕ → Bool = λ i v. leb (i * m) (s .segments * c v) in
       least-mono (enough (j + 1)) (enough j) a (b - a)
       (λ u e. le-leb (j * m) (s .segments * c u) (omega (arith, leb-true ((j + 1) * m) (s .segments * c u) e)))
 
-  pub points-rise : (n i : ℕ) (p : Point) → p .place ≤ placeOf (i + 1) → Rising p (pointsAfter s a b c m n i p)
+  pub points-rise : (n i : ℕ) (p : Point) → p .place ≤ placeOf s a b c m (i + 1)
+      → Rising p (pointsAfter s a b c m n i p)
   unfolding pointsAfter nextPoint
   points-rise zero i p from = last
   points-rise (suc n) i p from =

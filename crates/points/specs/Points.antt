@@ -7,6 +7,8 @@
 -- By the number c v of values that are no greater than v, and the number m of all values:
 --   leastFrom      the least number from one on that passes a test
 --   growth         how much higher a point is than the one before
+--   placeOf        a point's place
+--   pointAt        a point at a place, by the one before
 --   nextPoint      a point, by the one before
 --   start          point 0
 --   pointsAfter    some points after one
@@ -39,12 +41,19 @@ leastFrom f v (suc n) = cond (f v) v (leastFrom f (suc v) n)
 abbrev pub growth : Slopes → ℕ → ℕ → ℕ
 growth s d wanted = min (s .smax * s .segments * d) (max (s .smin * s .segments * d) wanted)
 
--- point j, by the point p before it: it is at the least v of [a, b] with segments × c(v) ≥ j × m, and wanted is a
--- height of 100 × (b - a) × j; where the point before is higher already, no growth is wanted
-unfoldable pub nextPoint : Slopes → ℕ → ℕ → (ℕ → ℕ) → ℕ → ℕ → Point → Point
-nextPoint s a b c m j p =
-    let x = leastFrom (λ v. leb (j * m) (s .segments * c v)) a (b - a) in
+-- the place of point j: the least v of [a, b] with segments × c(v) ≥ j × m
+abbrev pub placeOf : Slopes → ℕ → ℕ → (ℕ → ℕ) → ℕ → ℕ → ℕ
+placeOf s a b c m j = leastFrom (λ v. leb (j * m) (s .segments * c v)) a (b - a)
+
+-- point j at the place x, by the point p before it: wanted is a height of 100 × (b - a) × j; where p is higher already,
+-- no growth is wanted
+abbrev pub pointAt : Slopes → ℕ → ℕ → ℕ → Point → ℕ → Point
+pointAt s a b j p x =
     record { place = x; height = p .height + growth s (x - p .place) (100 * (b - a) * j - p .height) }
+
+-- point j, by the point before it
+unfoldable pub nextPoint : Slopes → ℕ → ℕ → (ℕ → ℕ) → ℕ → ℕ → Point → Point
+nextPoint s a b c m j p = pointAt s a b j p (placeOf s a b c m j)
 
 -- point 0
 abbrev pub start : ℕ → Point

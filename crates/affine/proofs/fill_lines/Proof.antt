@@ -100,11 +100,11 @@ loop-again c =
     let inv = n .before .before .loop .inv in
     let is = n .next-point .ensures in
     let onward = inv .0 .1 .1 .1 in
-    let ahead = onward-next (a .s) (a .a) (a .b) (a .y) (at (a .sums .now)) (a .c .size) i _ _ is onward (q .after) in
+    let further = onward-next (a .s) (a .a) (a .b) (a .y) (at (a .sums .now)) (a .c .size) i _ _ is onward (q .after) in
     let line = onward-line (a .s) (a .a) (a .b) (a .y) (at (a .sums .now)) (a .c .size) i _ _ is onward (omega arith) in
     let from = c .before .before .before .later .ensures in
     let filled = rw from at (c .before .before .fill-line .ensures) in
-    ((omega arith, (q .reached, (q .ahead, ahead))), filled-next (inv .1) filled (q .after) line)
+    ((omega arith, (q .reached, (q .ahead, further))), filled-next (inv .1) filled (q .after) line)
 
 cast-table : tie.Need-cast-table Inv-loop μ-loop
 cast-table c = omega arith
