@@ -32,7 +32,7 @@ constexpr library::Rule steep = library::affine(10, 10000, 10000);
 // Fewer pixels than this do not tell what treating a component takes, fewer components not what of it is its own.
 constexpr std::size_t few_pixels = 5000, few_components = 1000;
 
-// Passes over all sections of one width.
+// Passes over all sections of one width, with four neighbours.
 struct Level {
     int width;
     std::uint32_t area;
@@ -43,7 +43,8 @@ Counts by_library(planes::Plane &plane, const Level &level, library::Memory &mem
     Counts counts{0, 0};
     for (int a = 0; a < 256; a += level.width) {
         const int b = a + level.width - 1;
-        counts = counts + library::pass(plane.values.data(), plane.w, plane.h, a, b, level.area, level.rule, memory);
+        const library::Pass pass{a, b, level.area, level.rule, 4};
+        counts = counts + library::pass(plane.values.data(), plane.w, plane.h, pass, memory);
     }
     return counts;
 }
@@ -53,7 +54,7 @@ Counts by_checker(planes::Plane &plane, const Level &level) {
     for (int a = 0; a < 256; a += level.width) {
         const int b = a + level.width - 1;
         counts = counts + checker_pass(plane.values.data(), plane.w, plane.h, static_cast<std::uint8_t>(a),
-                                       static_cast<std::uint8_t>(b), level.area, level.rule);
+                                       static_cast<std::uint8_t>(b), level.area, level.rule, 4);
     }
     return counts;
 }

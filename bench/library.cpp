@@ -19,9 +19,9 @@ published::Counts counted(std::int64_t answer, const std::size_t *counts) {
     return {counts[MLHE_RETONED], counts[MLHE_KEPT]};
 }
 
-// A rule as a call is lent it.
-std::array<std::uint16_t, MLHE_RULE_NUMBERS> numbers_of(const Rule &rule) {
-    return {rule.code, rule.first, rule.second, rule.segments};
+// A rule and the number of neighbours, as a call is lent them.
+std::array<std::uint16_t, MLHE_PASS_NUMBERS> numbers_of(const Rule &rule, int neighbours) {
+    return {rule.code, rule.first, rule.second, rule.segments, static_cast<std::uint16_t>(neighbours)};
 }
 
 } // namespace
@@ -29,24 +29,23 @@ std::array<std::uint16_t, MLHE_RULE_NUMBERS> numbers_of(const Rule &rule) {
 published::Counts enhance(const std::uint8_t *frame, int w, int h, const Settings &settings, std::uint8_t *plane,
                           Memory &memory, std::uint8_t *output) {
     const std::size_t n = static_cast<std::size_t>(w) * static_cast<std::size_t>(h);
-    const auto rule = numbers_of(settings.rule);
+    const auto numbers = numbers_of(settings.rule, settings.neighbours);
     std::size_t counts[MLHE_COUNTS];
-    const std::int64_t answer = mlhe_enhance(
-        frame, 3 * n, w, h, static_cast<std::uint8_t>(settings.last_level), static_cast<std::uint32_t>(settings.area),
-        rule.data(), rule.size(), plane, n, memory.marks.data(), n, memory.queue.data(), n, output, 3 * n, counts,
-        MLHE_COUNTS);
+    const std::int64_t answer =
+        mlhe_enhance(frame, 3 * n, w, h, static_cast<std::uint8_t>(settings.last_level),
+                     static_cast<std::uint32_t>(settings.area), numbers.data(), numbers.size(), plane, n,
+                     memory.marks.data(), n, memory.queue.data(), n, output, 3 * n, counts, MLHE_COUNTS);
     return counted(answer, counts);
 }
 
-published::Counts pass(std::uint8_t *plane, int w, int h, int min, int max, std::size_t area, const Rule &rule,
-                       Memory &memory) {
+published::Counts pass(std::uint8_t *plane, int w, int h, const Pass &pass, Memory &memory) {
     const std::size_t n = static_cast<std::size_t>(w) * static_cast<std::size_t>(h);
-    const auto numbers = numbers_of(rule);
+    const auto numbers = numbers_of(pass.rule, pass.neighbours);
     std::size_t counts[MLHE_COUNTS];
     const std::int64_t answer =
-        mlhe_pass(plane, n, memory.marks.data(), n, memory.queue.data(), n, w, h, static_cast<std::uint8_t>(min),
-                  static_cast<std::uint8_t>(max), static_cast<std::uint32_t>(area), numbers.data(), numbers.size(),
-                  counts, MLHE_COUNTS);
+        mlhe_pass(plane, n, memory.marks.data(), n, memory.queue.data(), n, w, h, static_cast<std::uint8_t>(pass.min),
+                  static_cast<std::uint8_t>(pass.max), static_cast<std::uint32_t>(pass.area), numbers.data(),
+                  numbers.size(), counts, MLHE_COUNTS);
     return counted(answer, counts);
 }
 
@@ -60,7 +59,7 @@ published::Counts enhance(const std::uint8_t *, int, int, const Settings &, std:
     std::abort();
 }
 
-published::Counts pass(std::uint8_t *, int, int, int, int, std::size_t, const Rule &, Memory &) { std::abort(); }
+published::Counts pass(std::uint8_t *, int, int, const Pass &, Memory &) { std::abort(); }
 
 } // namespace library
 

@@ -47,23 +47,32 @@ inline const char *name_of(const Rule &rule) {
     return names[rule.code];
 }
 
-// The settings of an enhancement.
+// The settings of an enhancement. The number of neighbours is 4 or 8.
 struct Settings {
     int last_level;
     std::size_t area;
     Rule rule;
+    int neighbours;
 };
 
 constexpr Settings settings_of(const published::Parameters &parameters) {
-    return {parameters.last_level, parameters.area, plain(parameters.low, parameters.high)};
+    return {parameters.last_level, parameters.area, plain(parameters.low, parameters.high), parameters.neighbours};
 }
+
+// A pass over [min, max]. The number of neighbours is 4 or 8.
+struct Pass {
+    int min;
+    int max;
+    std::size_t area;
+    Rule rule;
+    int neighbours;
+};
 
 // As published::enhance, with any rule.
 published::Counts enhance(const std::uint8_t *frame, int w, int h, const Settings &settings, std::uint8_t *plane,
                           Memory &memory, std::uint8_t *output);
 
 // As published::pass, with any rule.
-published::Counts pass(std::uint8_t *plane, int w, int h, int min, int max, std::size_t area, const Rule &rule,
-                       Memory &memory);
+published::Counts pass(std::uint8_t *plane, int w, int h, const Pass &pass, Memory &memory);
 
 } // namespace library

@@ -1,6 +1,6 @@
 // The benchmark: the published structure and the project's library in one run, call by call in turn, on planes made
-// here. It prints tables of times and ratios, and checks on every plane that bytes and counts agree with the second
-// implementation's. The library is there if WITH_MLHE is defined; see library.hpp.
+// here, with four and with eight neighbours. It prints tables of times and ratios, and checks on every plane that bytes
+// and counts agree with the second implementation's. The library is there if WITH_MLHE is defined; see library.hpp.
 // Every buffer is written once before it is measured.
 
 #include "checker.hpp"
@@ -24,7 +24,14 @@ using published::Counts;
 using published::Parameters;
 
 int rounds = 7;
-std::vector<double> ratios;
+
+// Ratios of times on all planes and shapes with the house setting: of the library to the published structure, with four
+// and with eight neighbours, and of the library with eight neighbours to itself with four.
+struct Ratios {
+    std::vector<double> four;
+    std::vector<double> eight;
+    std::vector<double> eight_to_four;
+} ratios;
 
 // What a call left behind. Before a call all of it is blank, so that nothing of the call before counts for it.
 struct Result {
@@ -71,9 +78,9 @@ Times compare(const std::string &name, const Result &expected, const std::functi
 Result expected_of(const planes::Plane &plane, const std::vector<std::uint8_t> &frame,
                    const library::Settings &settings) {
     Result expected(plane.values.size());
-    expected.counts = checker_enhance(frame.data(), plane.w, plane.h, settings.last_level,
-                                      static_cast<std::uint32_t>(settings.area), settings.rule, expected.plane.data(),
-                                      expected.output.data());
+    expected.counts = checker_enhance(
+        frame.data(), plane.w, plane.h, settings.last_level, static_cast<std::uint32_t>(settings.area), settings.rule,
+        static_cast<std::uint8_t>(settings.neighbours), expected.plane.data(), expected.output.data());
     return expected;
 }
 
@@ -96,12 +103,14 @@ Times time_enhance(const planes::Plane &plane, const Parameters &parameters) {
 // A pass on the plane itself. The copy that each call starts from is part of both times.
 Times time_pass(const planes::Plane &plane, int min, int max, const Parameters &parameters) {
     const std::size_t n = plane.values.size();
-    const library::Rule rule = library::plain(parameters.low, parameters.high);
+    const library::Settings settings = library::settings_of(parameters);
+    const library::Pass pass{min, max, settings.area, settings.rule, settings.neighbours};
     library::Memory memory(n);
     Result expected(n);
     expected.plane = plane.values;
     expected.counts = checker_pass(expected.plane.data(), plane.w, plane.h, static_cast<std::uint8_t>(min),
-                                   static_cast<std::uint8_t>(max), static_cast<std::uint32_t>(parameters.area), rule);
+                                   static_cast<std::uint8_t>(max), static_cast<std::uint32_t>(pass.area), pass.rule,
+                                   static_cast<std::uint8_t>(pass.neighbours));
     return compare(
         plane.name, expected,
         [&](Result &r) {
@@ -110,27 +119,50 @@ Times time_pass(const planes::Plane &plane, int min, int max, const Parameters &
         },
         [&](Result &r) {
             r.plane = plane.values;
-            r.counts = library::pass(r.plane.data(), plane.w, plane.h, min, max, parameters.area, rule, memory);
+            r.counts = library::pass(r.plane.data(), plane.w, plane.h, pass, memory);
         });
 }
 
-void head(const std::string &title) {
+// The head of a table, which has a last column for some rows where it is named.
+void head(const std::string &title, const char *last = "") {
     std::printf("\n%s\n%-28s %12s %10s", title.c_str(), "", "published ms", "ns/pixel");
     if (library::linked) {
-        std::printf(" %12s %10s %8s", "library ms", "ns/pixel", "ratio");
+        std::printf(" %12s %10s %8s%s", "library ms", "ns/pixel", "ratio", last);
     }
     std::printf("\n");
 }
 
-void row(const std::string &name, std::size_t n, const Times &times) {
+void cells(const std::string &name, std::size_t n, const Times &times) {
     const double pixel = 1e9 / static_cast<double>(n);
     std::printf("%-28s %12.2f %10.1f", name.c_str(), 1e3 * times.published, pixel * times.published);
     if (library::linked) {
         std::printf(" %12.2f %10.1f %8.2f", 1e3 * times.library, pixel * times.library,
                     times.library / times.published);
     }
+}
+
+void row(const std::string &name, std::size_t n, const Times &times) {
+    cells(name, n, times);
     std::printf("\n");
     std::fflush(stdout);
+}
+
+constexpr const char *to_four = "  to four";
+
+// Two rows, with four and with eight neighbours. The last column is of the library's times with eight and with four.
+void rows(const std::string &name, std::size_t n, const Times &four, const Times &eight) {
+    row(name, n, four);
+    cells("  with eight neighbours", n, eight);
+    if (library::linked) {
+        std::printf(" %8.2f", eight.library / four.library);
+    }
+    std::printf("\n");
+    std::fflush(stdout);
+}
+
+Parameters with_eight(Parameters parameters) {
+    parameters.neighbours = 8;
+    return parameters;
 }
 
 std::string sides(int w, int h) { return std::to_string(w) + " x " + std::to_string(h); }
@@ -138,25 +170,26 @@ std::string sides(int w, int h) { return std::to_string(w) + " x " + std::to_str
 void every_plane_and_shape() {
     const int shapes[3][2] = {{1024, 1024}, {4096, 256}, {256, 4096}};
     for (const auto &shape : shapes) {
-        head("Enhancement, house setting, " + sides(shape[0], shape[1]));
+        head("Enhancement, house setting, " + sides(shape[0], shape[1]), to_four);
         for (const std::string &kind : planes::kinds()) {
             const planes::Plane plane = planes::make(kind, shape[0], shape[1]);
-            const Times times = time_enhance(plane, published::house);
-            row(kind, plane.values.size(), times);
-            if (library::linked) {
-                ratios.push_back(times.library / times.published);
-            }
+            const Times four = time_enhance(plane, published::house);
+            const Times eight = time_enhance(plane, with_eight(published::house));
+            rows(kind, plane.values.size(), four, eight);
+            ratios.four.push_back(four.library / four.published);
+            ratios.eight.push_back(eight.library / eight.published);
+            ratios.eight_to_four.push_back(eight.library / four.library);
         }
     }
 }
 
 void least_area_1() {
-    head("Enhancement, house setting but least area 1, " + sides(1024, 1024));
-    for (const std::string kind : {"natural", "clean", "noise", "checkerboard", "tiles"}) {
+    head("Enhancement, house setting but least area 1, " + sides(1024, 1024), to_four);
+    Parameters parameters = published::house;
+    parameters.area = 1;
+    for (const std::string kind : {"natural", "clean", "noise", "checkerboard", "corners", "wires", "tiles"}) {
         const planes::Plane plane = planes::make(kind, 1024, 1024);
-        Parameters parameters = published::house;
-        parameters.area = 1;
-        row(kind, plane.values.size(), time_enhance(plane, parameters));
+        rows(kind, plane.values.size(), time_enhance(plane, parameters), time_enhance(plane, with_eight(parameters)));
     }
 }
 
@@ -192,9 +225,10 @@ void growth_with_levels_and_single_passes() {
     }
 }
 
-// A row of a pass on [0, greatest].
-void row(const std::string &name, const planes::Plane &plane, int greatest, const Parameters &parameters) {
-    row(name, plane.values.size(), time_pass(plane, 0, greatest, parameters));
+// The rows of a pass on [0, greatest].
+void rows(const planes::Plane &plane, int greatest, const Parameters &parameters) {
+    rows(plane.name + " [0, " + std::to_string(greatest) + "]", plane.values.size(),
+         time_pass(plane, 0, greatest, parameters), time_pass(plane, 0, greatest, with_eight(parameters)));
 }
 
 // A pass with least area 1 over the planes that are hardest on a search and a flood.
@@ -203,10 +237,11 @@ void single_passes_by_shape() {
     Parameters parameters = published::house;
     parameters.area = 1;
     for (const auto &shape : shapes) {
-        head("Single passes, least area 1, " + sides(shape[0], shape[1]));
-        row("flat [0, 255]", planes::make("flat", shape[0], shape[1]), 255, parameters);
-        row("noise [0, 127]", planes::make("noise", shape[0], shape[1]), 127, parameters);
-        row("comb [0, 127]", planes::make("comb", shape[0], shape[1]), 127, parameters);
+        head("Single passes, least area 1, " + sides(shape[0], shape[1]), to_four);
+        rows(planes::make("flat", shape[0], shape[1]), 255, parameters);
+        for (const char *kind : {"noise", "comb", "corners"}) {
+            rows(planes::make(kind, shape[0], shape[1]), 127, parameters);
+        }
     }
 }
 
@@ -234,7 +269,7 @@ std::vector<RuleRun> runs_on(const planes::Plane &plane) {
     Result result(plane.values.size());
     std::vector<RuleRun> runs;
     for (const auto &[name, rule] : rules) {
-        const library::Settings settings{published::house.last_level, published::house.area, rule};
+        const library::Settings settings{published::house.last_level, published::house.area, rule, 4};
         runs.push_back({name, settings, expected_of(plane, frame, settings), Stopwatch()});
     }
     for (int round = 0; round < rounds; round++) {
@@ -270,26 +305,59 @@ void enhancement_by_rule() {
     }
 }
 
+void summary(const char *name, const std::vector<double> &of) {
+    double logarithms = 0;
+    for (const double ratio : of) {
+        logarithms += std::log(ratio);
+    }
+    std::printf("%-40s geometric mean %.2f, greatest %.2f\n", name,
+                std::exp(logarithms / static_cast<double>(of.size())), *std::max_element(of.begin(), of.end()));
+}
+
 void summary() {
     if (!library::linked) {
         std::printf("\nThe library is not linked; the published structure's bytes and counts are right.\n");
         return;
     }
-    double logarithms = 0, greatest = 0;
-    for (const double ratio : ratios) {
-        logarithms += std::log(ratio);
-        greatest = std::max(greatest, ratio);
-    }
-    std::printf("\nAll bytes and counts agree. Ratio on all planes and shapes with the house setting: "
-                "geometric mean %.2f, greatest %.2f.\n",
-                std::exp(logarithms / static_cast<double>(ratios.size())), greatest);
+    std::printf("\nAll bytes and counts agree. Ratios on all planes and shapes with the house setting:\n");
+    summary("library to published, four neighbours", ratios.four);
+    summary("library to published, eight neighbours", ratios.eight);
+    summary("library, eight neighbours to four", ratios.eight_to_four);
     std::printf("Lent to the library beside plane and output: n bytes of marks and 4 n bytes of queue.\n");
+}
+
+// Holds the published structure, and the library where it is linked, against the second implementation, without
+// measuring: on small planes of every kind, also with sides of 1, with four and with eight neighbours.
+void small_planes() {
+    const int shapes[6][2] = {{60, 44}, {45, 61}, {97, 1}, {1, 97}, {2, 2}, {1, 1}};
+    shortest = 0;
+    rounds = 1;
+    int agreed = 0;
+    for (const auto &shape : shapes) {
+        for (const std::string &kind : planes::kinds()) {
+            const planes::Plane plane = planes::make(kind, shape[0], shape[1]);
+            for (const std::size_t area : {1, 2, 20}) {
+                Parameters parameters = published::house;
+                parameters.area = area;
+                for (const Parameters &each : {parameters, with_eight(parameters)}) {
+                    time_enhance(plane, each);
+                    time_pass(plane, 0, 127, each);
+                    agreed += 2;
+                }
+            }
+        }
+    }
+    std::printf("small planes: %d calls agree, half of them with eight neighbours\n", agreed);
 }
 
 } // namespace
 
 int main(int argc, char **argv) {
     const std::string option = argc == 2 ? argv[1] : "";
+    if (option == "--verify") {
+        small_planes();
+        return 0;
+    }
     if (option == "--grain") {
         print_grain(rounds);
         return 0;
@@ -297,7 +365,7 @@ int main(int argc, char **argv) {
     if (option == "--quick") {
         rounds = 1;
     } else if (argc != 1) {
-        std::fprintf(stderr, "%s [--quick | --grain]\n", argv[0]);
+        std::fprintf(stderr, "%s [--quick | --grain | --verify]\n", argv[0]);
         return 2;
     }
     every_plane_and_shape();

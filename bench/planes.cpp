@@ -80,6 +80,9 @@ int comb(int x, int y, int h) {
     return y == h - 1 || x % 2 == 1 ? bright : dark;
 }
 
+// Whether a diagonal line of either direction goes through the pixel.
+bool on_wire(int x, int y) { return (x + y) % 12 == 0 || (x - y) % 20 == 0; }
+
 // A path that goes round and inward, one pixel wide, with a gap of one pixel between two rounds.
 std::vector<std::uint8_t> spiral(int w, int h) {
     std::vector<std::uint8_t> values(static_cast<std::size_t>(w) * h, bright);
@@ -114,6 +117,8 @@ int value_of(const std::string &kind, int x, int y, int w, int h) {
     if (kind == "gradient") return 255 * (x + y) / std::max(1, w + h - 2);
     if (kind == "flat") return 128;
     if (kind == "checkerboard") return (x + y) % 2 == 0 ? dark : bright;
+    if (kind == "corners") return ((x + y) % 2 == 0 ? dark : bright) + hash(x, y, 6) % 8;
+    if (kind == "wires") return natural(x, y) / 2 + (on_wire(x, y) ? 128 : 0);
     if (kind == "comb") return comb(x, y, h);
     if (kind == "tiles") return hash(x / 5, y / 5, 4) & 255;
     if (kind == "grain") return clamp(clean(x, y) + 4 * grain(x, y));
@@ -123,8 +128,8 @@ int value_of(const std::string &kind, int x, int y, int w, int h) {
 } // namespace
 
 const std::vector<std::string> &kinds() {
-    static const std::vector<std::string> all{"natural",      "clean", "noise",  "gradient", "flat",
-                                              "checkerboard", "comb",  "spiral", "tiles"};
+    static const std::vector<std::string> all{"natural", "clean", "noise", "gradient", "flat", "checkerboard",
+                                              "corners", "wires", "comb",  "spiral",   "tiles"};
     return all;
 }
 

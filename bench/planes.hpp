@@ -21,6 +21,8 @@ struct Plane {
 //   gradient      a slope from corner to corner
 //   flat          one value
 //   checkerboard  pixels of two values in turn: components of one pixel
+//   corners       the same with eight random values in the place of each: they join at corners alone
+//   wires         diagonal lines of one pixel's width in bright tones, which cross, over a dark ground
 //   comb          lines of one pixel's width in two values, joined at opposite ends
 //   spiral        a line of one pixel's width, wound to the middle
 //   tiles         squares of 5 by 5 pixels, each of one random value: components just above the house's least area

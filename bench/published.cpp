@@ -1,6 +1,7 @@
 // Algorithms 1 to 6 of the published account, function by function and under its names: a component is a vector of
 // pixels, components are found with a first-in first-out queue, and the recursion goes by components. Only the
-// roundings are those of the requirements: to the nearest, halves upward, in exact whole numbers.
+// roundings are those of the requirements: to the nearest, halves upward, in exact whole numbers. With eight neighbours
+// the four at the corners are looked at after the other four, and nothing else differs.
 
 #include "published.hpp"
 
@@ -78,8 +79,12 @@ class Image {
         return A;
     }
 
-    // Algorithm 4.
     std::vector<Set> GetConnectedComponents(const Set &A) {
+        return parameters.neighbours == 8 ? GetConnectedComponentsBy<8>(A) : GetConnectedComponentsBy<4>(A);
+    }
+
+    // Algorithm 4, by so many neighbours.
+    template <int neighbours> std::vector<Set> GetConnectedComponentsBy(const Set &A) {
         std::vector<Set> components;
         for (const int p : A) {
             member[p] = 1;
@@ -106,6 +111,12 @@ class Image {
                 if (x + 1 < w) add(p + 1);
                 if (y > 0) add(p - w);
                 if (y + 1 < h) add(p + w);
+                if constexpr (neighbours == 8) {
+                    if (x > 0 && y > 0) add(p - w - 1);
+                    if (x + 1 < w && y > 0) add(p - w + 1);
+                    if (x > 0 && y + 1 < h) add(p + w - 1);
+                    if (x + 1 < w && y + 1 < h) add(p + w + 1);
+                }
             }
             components.push_back(std::move(component));
         }

@@ -8,17 +8,19 @@
 
 namespace published {
 
-// The parameters of the published method with the plain rule: the last level, the least area of a component, and the
-// least and greatest ratio of the ranges in hundredths.
+// The parameters of the published method with the plain rule: the last level, the least area of a component, the least
+// and greatest ratio of the ranges in hundredths, and the number of neighbours, 4 or 8. With 8, pixels that touch at a
+// corner belong together.
 struct Parameters {
     int last_level;
     std::size_t area;
     int low;
     int high;
+    int neighbours;
 };
 
 // The house setting.
-constexpr Parameters house{7, 20, 80, 300};
+constexpr Parameters house{7, 20, 80, 300, 4};
 
 // How many components with at least the least area were retoned, and how many were kept back.
 struct Counts {

@@ -15,6 +15,9 @@ inline double seconds() {
     return static_cast<double>(now.tv_sec) + 1e-9 * static_cast<double>(now.tv_nsec);
 }
 
+// A call is repeated until it has taken so many seconds in all. With 0 it is made once.
+inline double shortest = 0.01;
+
 // The time of a call. Short calls are repeated.
 inline double time_of(const std::function<void()> &call) {
     const double start = seconds();
@@ -22,7 +25,7 @@ inline double time_of(const std::function<void()> &call) {
     do {
         call();
         calls++;
-    } while (seconds() - start < 0.01);
+    } while (seconds() - start < shortest);
     return (seconds() - start) / calls;
 }
 

@@ -16,7 +16,7 @@ namespace {
 using Bytes = std::vector<std::uint8_t>;
 
 // The length of a case's head.
-constexpr std::size_t head = 37;
+constexpr std::size_t head = 38;
 
 Bytes contents(const char *name) {
     std::ifstream file(name, std::ios::binary);
@@ -52,7 +52,7 @@ std::string answer(const Bytes &file, std::size_t at, std::size_t bytes_end, std
     const int w = static_cast<int>(number(file, at + 20, 4)), h = static_cast<int>(number(file, at + 24, 4));
     const published::Parameters parameters{file[at + 12], number(file, at + 8, 4),
                                            static_cast<int>(number(file, at + 4, 2)),
-                                           static_cast<int>(number(file, at + 6, 2))};
+                                           static_cast<int>(number(file, at + 6, 2)), file[at + 37]};
     Bytes plane(file.begin() + bytes_end, file.begin() + plane_end);
     if (kind == 1) {
         const published::Counts counts = published::pass(plane.data(), w, h, file[at + 1], file[at + 2], parameters);
@@ -75,7 +75,7 @@ int main(int argc, char **argv) {
     std::ifstream lines(argv[2]);
     std::string line;
     std::size_t at = 0;
-    int compared = 0;
+    int compared = 0, with_eight = 0;
     while (at < file.size() && std::getline(lines, line)) {
         const std::size_t bytes_end = at + head + number(file, at + 32, 2);
         const std::size_t plane_end = bytes_end + number(file, at + 34, 2);
@@ -87,9 +87,10 @@ int main(int argc, char **argv) {
                 return 1;
             }
             compared++;
+            with_eight += file[at + 37] == 8;
         }
         at = plane_end;
     }
-    std::printf("%s: %d cases agree\n", argv[1], compared);
-    return at == file.size() && compared > 0 ? 0 : 1;
+    std::printf("%s: %d cases agree, %d of them with eight neighbours\n", argv[1], compared, with_eight);
+    return at == file.size() && compared > with_eight && with_eight > 0 ? 0 : 1;
 }

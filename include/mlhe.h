@@ -8,10 +8,12 @@
  *
  * What is guaranteed. Through any chain of passes on a plane that mlhe_intensity filled, and in the plane that
  * mlhe_enhance leaves, equal four-neighbours stay equal, unequal ones are never reversed, and each regional maximum or
- * minimum contains a whole one of the first plane. This is said of the plane, not of a recoloured frame: recolouring
- * holds a channel at 255 and rounds, so that the frame's own intensity is another plane, in which neighbours may be
- * reversed and spots be new. Match spots on the plane. Where all pixels of the frame are grey, the same holds of the
- * recoloured frame's own intensity too.
+ * minimum contains a whole one of the first plane, however passes with four and with eight neighbours are mixed. Where
+ * every accepted pass has eight neighbours, and in an enhancement with eight, the same holds by eight neighbours too.
+ * This is said of the plane, not of a recoloured frame: recolouring holds a channel at 255 and rounds, so that the
+ * frame's own intensity is another plane, in which neighbours may be reversed and spots be new. Match spots on the
+ * plane. Where all pixels of the frame are grey, the same holds by four neighbours of the recoloured frame's own
+ * intensity too.
  *
  * Planes and frames. A plane has w columns and h rows, each 1 to 4,096, and n = w * h pixels, at most 1,048,576: one
  * byte each, row by row, left to right. A frame has the bytes red, green, blue for each pixel: 3 * n bytes.
@@ -47,9 +49,9 @@
 
 /* The version of this header and of the library that it was made with. The library itself does not tell its version. */
 #define MLHE_VERSION_MAJOR 0
-#define MLHE_VERSION_MINOR 3
+#define MLHE_VERSION_MINOR 4
 #define MLHE_VERSION_PATCH 0
-#define MLHE_VERSION "0.3.0"
+#define MLHE_VERSION "0.4.0"
 
 #ifdef __cplusplus
 extern "C" {
@@ -73,8 +75,9 @@ enum mlhe_refusal {
     MLHE_REFUSED_OUTPUT = 14,       /* the output, the numbers of mlhe_read or the counts are shorter than needed */
     MLHE_REFUSED_LIST_MARK = 15,    /* a pass list's mark or version is wrong */
     MLHE_REFUSED_LIST_LENGTH = 16,  /* a pass list's count or length is wrong */
-    MLHE_REFUSED_RULE = 17,         /* no such rule, a set number that has to be 0, or not MLHE_RULE_NUMBERS numbers */
-    MLHE_REFUSED_SLOPES = 18        /* affine: 0 or more than 16 segments, smin above smax, or smax above 10,000 */
+    MLHE_REFUSED_RULE = 17,         /* no such rule, a set number that has to be 0, or neither 4 nor 5 lent numbers */
+    MLHE_REFUSED_SLOPES = 18,       /* affine: 0 or more than 16 segments, smin above smax, or smax above 10,000 */
+    MLHE_REFUSED_NEIGHBOURS = 19    /* the number of neighbours is neither 4 nor 8 */
 };
 
 /*
@@ -96,12 +99,23 @@ enum mlhe_rule {
     MLHE_AFFINE = 2
 };
 
-/* The places of a rule's numbers, as mlhe_pass and mlhe_enhance are lent them. */
+/*
+ * How many neighbours a pixel has, by which components are connected: the four that differ by one in one coordinate and
+ * agree in the other, or the eight that differ by at most one in each, so that pixels which touch at a corner belong
+ * together.
+ */
+enum mlhe_neighbours {
+    MLHE_FOUR_NEIGHBOURS = 4,
+    MLHE_EIGHT_NEIGHBOURS = 8
+};
+
+/* The places of the numbers that mlhe_pass and mlhe_enhance are lent: those of the rule, then the neighbours. */
 enum mlhe_rule_number {
     MLHE_RULE_CODE = 0, /* one of enum mlhe_rule */
     MLHE_RULE_FIRST = 1,
     MLHE_RULE_SECOND = 2,
-    MLHE_RULE_SEGMENTS = 3
+    MLHE_RULE_SEGMENTS = 3,
+    MLHE_RULE_NEIGHBOURS = 4 /* one of enum mlhe_neighbours; four where this number is not lent */
 };
 
 /* The places of the counts of mlhe_pass, mlhe_run_list and mlhe_enhance. */
@@ -115,8 +129,9 @@ enum {
     MLHE_GREATEST_PIXELS = 1048576,
     /* The elements of counts: one for each of enum mlhe_count. */
     MLHE_COUNTS = 2,
-    /* The elements of rule: one for each of enum mlhe_rule_number. */
+    /* The elements of rule: without the neighbours, which are then four; and with them. */
     MLHE_RULE_NUMBERS = 4,
+    MLHE_PASS_NUMBERS = 5,
     /* The most bytes that mlhe_write puts before the raster: P6, LF, width, space, height, LF, 255, LF. */
     MLHE_GREATEST_HEADER = 17,
     /* The most passes of a list, the greatest last level, the greatest numbers of the rules. */
@@ -133,10 +148,11 @@ enum {
     MLHE_HOUSE_AREA = 20,
     MLHE_HOUSE_RULE = MLHE_PLAIN,
     MLHE_HOUSE_LOW = 80,
-    MLHE_HOUSE_HIGH = 300
+    MLHE_HOUSE_HIGH = 300,
+    MLHE_HOUSE_NEIGHBOURS = 4
 };
 
-/* The rule of the house setting: const uint16_t rule[] = MLHE_HOUSE_NUMBERS; */
+/* The rule of the house setting, without its four neighbours: const uint16_t rule[] = MLHE_HOUSE_NUMBERS; */
 #define MLHE_HOUSE_NUMBERS {MLHE_HOUSE_RULE, MLHE_HOUSE_LOW, MLHE_HOUSE_HIGH, 0}
 
 /* The reason for a refusal in words, for people: of any answer, so that it can be put into a message as it is. */
@@ -144,7 +160,7 @@ static inline const char *mlhe_reason(int64_t answer) {
     if (answer >= 0) {
         return "it was not refused";
     }
-    switch (answer < -MLHE_REFUSED_SLOPES ? 0 : (int)-answer) {
+    switch (answer < -MLHE_REFUSED_NEIGHBOURS ? 0 : (int)-answer) {
     case MLHE_REFUSED_SIDES: return "a side is 0 or above 4,096";
     case MLHE_REFUSED_PIXELS: return "there are more than 1,048,576 pixels";
     case MLHE_REFUSED_LENGTHS: return "the plane or the frame does not have the length of its sides";
@@ -164,6 +180,7 @@ static inline const char *mlhe_reason(int64_t answer) {
     case MLHE_REFUSED_RULE: return "there is no such tone rule, or a number that has to be 0 is set";
     case MLHE_REFUSED_SLOPES:
         return "there are 0 segments or more than 16, smin is above smax, or smax is above 10,000";
+    case MLHE_REFUSED_NEIGHBOURS: return "the number of neighbours is neither 4 nor 8";
     default: return "there is no such refusal";
     }
 }
@@ -205,27 +222,30 @@ int64_t mlhe_intensity(const uint8_t *frame, size_t frame_length, size_t w, size
                        size_t plane_length);
 
 /*
- * One pass: every four-connected component of the pixels with a value from a to b that has at least `area` pixels gets
- * the rule on its own pixels; all other pixels stay.
+ * One pass: every component of the pixels with a value from a to b, connected by four or by eight neighbours, that has
+ * at least `area` pixels gets the rule on its own pixels; all other pixels stay.
  *
  * plane     n bytes, changed in place
  * marks     working memory, at least n elements
  * queue     working memory, at least n elements
- * rule      MLHE_RULE_NUMBERS elements: rule[MLHE_RULE_CODE] is one of enum mlhe_rule, and the others, at the places of
- *           enum mlhe_rule_number, are that rule's own numbers
+ * rule      MLHE_RULE_NUMBERS or MLHE_PASS_NUMBERS elements, at the places of enum mlhe_rule_number:
+ *           rule[MLHE_RULE_CODE] is one of enum mlhe_rule, and the next three are that rule's own numbers. With
+ *           MLHE_RULE_NUMBERS elements the pass has four neighbours; with MLHE_PASS_NUMBERS it has as many as
+ *           rule[MLHE_RULE_NEIGHBOURS] says, one of enum mlhe_neighbours
  * counts    at least MLHE_COUNTS elements: counts[MLHE_RETONED] becomes the number of components that were retoned and
  *           counts[MLHE_KEPT] the number of those that were kept back; elements beyond stay
  *
- * Answers 0. Refusals, in order: 1, 2, 3, 4, 17, 5, 6, 7, 8, 18, and 14 where counts has fewer than 2 elements. As in a
- * record of a pass list, 17 is tested before the other numbers: a code above 2, plain or limited with segments not 0,
- * limited with second not 0; and here any number of elements of rule but MLHE_RULE_NUMBERS.
+ * Answers 0. Refusals, in order: 1, 2, 3, 4, 17, 5, 6, 7, 8, 18, 19, and 14 where counts has fewer than 2 elements. As
+ * in a record of a pass list, 17 is tested before the other numbers: a code above 2, plain or limited with segments not
+ * 0, limited with second not 0; and here any number of elements of rule but MLHE_RULE_NUMBERS and MLHE_PASS_NUMBERS.
  */
 int64_t mlhe_pass(uint8_t *plane, size_t plane_length, uint8_t *marks, size_t marks_length, uint32_t *queue,
                   size_t queue_length, size_t w, size_t h, uint8_t a, uint8_t b, uint32_t area, const uint16_t *rule,
                   size_t rule_length, size_t *counts, size_t counts_length);
 
 /*
- * The passes of a list, one after the other. All records are checked before the first pass runs.
+ * The passes of a list, one after the other. All records are checked before the first pass runs. A list of version 1
+ * has no place for the neighbours: each of its passes has four. A chain with eight is run by mlhe_pass, pass by pass.
  *
  * list      the bytes MLP, version 1 and the count of passes (0 to 1,024), both 16-bit, then 12 bytes for each pass:
  *           a, b, the rule's code, segments (0 but for affine), area (32-bit), first and second (16-bit); of each
@@ -261,7 +281,7 @@ int64_t mlhe_recolour(const uint8_t *frame, size_t frame_length, size_t w, size_
  * frame     3 * n bytes
  * last      0 to 7
  * area      the least area of a component from level 1 on
- * rule      as for mlhe_pass
+ * rule      as for mlhe_pass; all levels have the same neighbours
  * plane     n bytes, which become the new intensity: the plane to match spots on
  * marks     working memory, at least n elements
  * queue     working memory, at least n elements
@@ -269,8 +289,8 @@ int64_t mlhe_recolour(const uint8_t *frame, size_t frame_length, size_t w, size_
  * counts    as for mlhe_pass: the sums of the counts of all passes, section by section on all levels. So, with plain, a
  *           component of one value is kept once at every level where its area is sufficient; level 0 has no least area
  *
- * Answers 0. Refusals, in order: 1, 2, 3, 4, 14, 17, 9, 6, 7, 8, 18, and 14 where counts has fewer than 2 elements. 17,
- * as for mlhe_pass, is tested before the other numbers of the setting.
+ * Answers 0. Refusals, in order: 1, 2, 3, 4, 14, 17, 9, 6, 7, 8, 18, 19, and 14 where counts has fewer than 2 elements.
+ * 17, as for mlhe_pass, is tested before the other numbers of the setting.
  */
 int64_t mlhe_enhance(const uint8_t *frame, size_t frame_length, size_t w, size_t h, uint8_t last, uint32_t area,
                      const uint16_t *rule, size_t rule_length, uint8_t *plane, size_t plane_length, uint8_t *marks,

@@ -1,7 +1,7 @@
 #!/usr/bin/env bash
 # The tool, `zopykue`: its layout and lints, its frames and planes against the second implementation, then a folder as
 # people leave it with the report that is stored in tests/tool, targets that are refused, a full disk, a kill in the
-# middle, an interrupt, a closed pipe and a terminal. Stops at the first error.
+# middle, an interrupt, a closed pipe, a terminal, lists and eight neighbours. Stops at the first error.
 #
 # The crates that the tool uses are Debian's packages. What is missing is installed, by root; anyone else is told what
 # to install. Nothing else is fetched. Proves and builds the library first, unless MLHE_LIBRARY=path/to/libcapi.a names
@@ -206,6 +206,10 @@ refused 'refused 18' "$zopykue" enhance --to new --affine 0 5 6 lists/g.ppm
 refused 'refused 18' "$zopykue" enhance --to new --affine 257 5 6 lists/g.ppm
 refused 'refused 18' "$zopykue" enhance --to new --affine 2 6 5 lists/g.ppm
 refused '2 were provided' "$zopykue" enhance --to new --affine 2 5 --jobs 1 lists/g.ppm
+refused 'refused 19: the number of neighbours is neither 4 nor 8' "$zopykue" enhance --to new --neighbours 6 lists/g.ppm
+refused 'refused 19' "$zopykue" enhance --to new --neighbours 260 lists/g.ppm
+refused 'refused 18' "$zopykue" enhance --to new --neighbours 6 --affine 0 5 6 lists/g.ppm
+refused 'cannot be used with' "$zopykue" enhance --to new --neighbours 8 --list empty.mlp lists/g.ppm
 refused 'cannot be used with' "$zopykue" enhance --to new --limited 4 --list empty.mlp lists/g.ppm
 refused 'cannot be used with' "$zopykue" enhance --to new --affine 2 5 6 --list empty.mlp lists/g.ppm
 refused 'cannot be used with' "$zopykue" enhance --to new --affine 2 5 6 --limited 4 lists/g.ppm
@@ -344,4 +348,44 @@ ends 1 'lines.txt, line 2: the rule is plain, limited or affine, not other' \
 ends 1 'lines.txt, line 1: refused 18' \
     bash -c "echo '0 9 1 affine 17 0 100' > lines.txt && exec '$zopykue' list --text lines.txt"
 ends 2 'it is there and no file' "$zopykue" list --to /dev/null
-echo "tool: pipes, terminals and lists are in order"
+
+# Eight neighbours: in lists as text, and in no file, whether one is there or not.
+printf '%s\n' '# 2 passes: first value, last value, least area, rule' '0 255 1 plain 80 300' \
+    '0 127 20 limited 40 neighbours 8' > wires.txt
+"$zopykue" list --text wires.txt | diff wires.txt - || fail "a list with eight neighbours as text"
+sed 's/300$/300 neighbours 4/' wires.txt | "$zopykue" list --text - | diff wires.txt - || fail "neighbours 4 in a line"
+"$zopykue" list --last 1 --neighbours 8 | diff - <(printf '%s\n' \
+    '# 3 passes: first value, last value, least area, rule' '0 255 1 plain 80 300 neighbours 8' \
+    '0 127 20 plain 80 300 neighbours 8' '128 255 20 plain 80 300 neighbours 8') ||
+    fail "the list of settings with eight neighbours"
+"$zopykue" list --neighbours 4 --to four.mlp
+cmp house.mlp four.mlp || fail "four neighbours are the house setting"
+no_place='four.mlp: it is not written, for a list file of version 1 has no place for eight neighbours'
+ends 1 "$no_place" "$zopykue" list --neighbours 8 --to four.mlp
+cmp house.mlp four.mlp || fail "a list that is not written replaces a file"
+rm four.mlp
+ends 1 "$no_place" "$zopykue" list --text wires.txt --to four.mlp
+[ ! -e four.mlp ] || fail "a list with eight neighbours is written"
+ends 1 'lines.txt, line 1: refused 19' \
+    bash -c "echo '0 9 1 limited 5 neighbours 5' > lines.txt && exec '$zopykue' list --text lines.txt"
+ends 2 'refused 19' "$zopykue" list --neighbours 5
+ends 2 'cannot be used with' "$zopykue" list --neighbours 8 house.mlp
+ends 2 'cannot be used with' "$zopykue" list --neighbours 8 --text wires.txt
+
+# A thin diagonal wire falls apart by four neighbours, and is retoned as one component by eight.
+dots() { # VALUES...
+    printf '%b' "$(printf '\\x%02x' "$@")"
+}
+mkdir wire
+for value in 10 200 200 200 20 200 200 200 30; do dots "$value" "$value" "$value"; done > raster
+{ printf 'P6 3 3 255\n' && cat raster; } > wire/w.ppm
+wire=("$zopykue" enhance --to wired --plane --report wire.tsv --plain 0 25500 --area 3 --last 1)
+"${wire[@]}" wire > /dev/null
+[ "$(tail -n 1 wire.tsv | cut -f 4,5 | xargs)" = '1 2' ] || fail "a wire by four neighbours: $(tail -n 1 wire.tsv)"
+{ printf 'P5\n3 3\n255\n' && dots 28 255 255 255 57 255 255 255 85; } | cmp - wired/wire/w.pgm ||
+    fail "a wire by four neighbours"
+"${wire[@]}" --neighbours 8 wire > /dev/null
+[ "$(tail -n 1 wire.tsv | cut -f 4,5 | xargs)" = '2 1' ] || fail "a wire by eight neighbours: $(tail -n 1 wire.tsv)"
+{ printf 'P5\n3 3\n255\n' && dots 42 255 255 255 85 255 255 255 127; } | cmp - wired/wire/w.pgm ||
+    fail "a wire by eight neighbours"
+echo "tool: pipes, terminals, lists and neighbours are in order"

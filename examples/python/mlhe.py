@@ -3,17 +3,21 @@
     intensity(frame)                     the plane of a frame's intensities
     recolour(frame, plane)               the frame, coloured anew from a plane of new intensities
     run_pass(plane, Pass(...))           the plane after a pass, and the numbers of retoned and kept components
+    run_passes(plane, [Pass(...), ...])  the same after passes, one after the other, all checked before the first runs
     run_list(plane, data)                the same after the passes of a list, in the bytes of a file
     pass_list([Pass(...), ...])          the bytes of a list
-    enhance(frame, last=, area=, rule=)  the recoloured frame, the plane and the numbers; the house setting by default
+    enhance(frame, last=, area=, rule=, neighbours=)
+                                         the recoloured frame, the plane and the numbers; the house setting by default
     read(data), write(frame)             a frame from the bytes of a P6 file, comments skipped, and back
 
 A frame is a numpy array (h, w, 3) of uint8, red, green and blue; a plane is one (h, w) of uint8. Sides are 1 to 4,096,
-and there are at most 1,048,576 pixels. A tone rule is Plain(low, high), Limited(k) or Affine(segments, smin, smax).
+and there are at most 1,048,576 pixels. A tone rule is Plain(low, high), Limited(k) or Affine(segments, smin, smax). A
+pass and an enhancement have four neighbours, or eight, with which pixels that touch at a corner belong together.
 
 The guarantee is of the planes that enhancements and chains of passes leave: equal four-neighbours stay equal, unequal
-ones are never reversed, and every regional maximum or minimum contains a whole one of the first plane. It is not of a
-recoloured frame, whose own intensity is another plane. Match spots on the plane.
+ones are never reversed, and every regional maximum or minimum contains a whole one of the first plane, however passes
+with four and with eight neighbours are mixed. Where all of them have eight, the same holds by eight neighbours too. It
+is not of a recoloured frame, whose own intensity is another plane. Match spots on the plane.
 
 What the library turns down raises Refused, with number and reason. What cannot be said to it at all raises TypeError
 (an array of another type, a number that is none) or ValueError (an array of another shape, a negative number, an
@@ -54,11 +58,12 @@ REASONS = {
     16: "the pass list's count or length is wrong",
     17: "there is no such tone rule, or a number that has to be 0 is set",
     18: "there are 0 segments or more than 16, smin is above smax, or smax is above 10,000",
+    19: "the number of neighbours is neither 4 nor 8",
 }
 
 
 class Refused(ValueError):
-    """A call was turned down: `number`, 1 to 18, and `reason`."""
+    """A call was turned down: `number`, 1 to 19, and `reason`."""
 
     def __init__(self, number):
         super().__init__(number)
@@ -98,23 +103,27 @@ Rule = Union[Plain, Limited, Affine]
 
 
 class Pass(NamedTuple):
-    """Every component of the pixels with values from a to b that has at least `area` pixels gets the rule."""
+    """Every component of the pixels with values from a to b that has at least `area` pixels gets the rule. Components
+    are connected by 4 or by 8 neighbours."""
 
     a: int
     b: int
     area: int
     rule: Rule
+    neighbours: int = 4
 
 
 class Settings(NamedTuple):
-    """Of an enhancement: the last level, 0 to 7, the least area of a component from level 1 on, and the rule."""
+    """Of an enhancement: the last level, 0 to 7, the least area of a component from level 1 on, the rule, and the
+    number of neighbours on all levels, 4 or 8."""
 
     last: int
     area: int
     rule: Rule
+    neighbours: int = 4
 
 
-HOUSE = Settings(last=7, area=20, rule=Plain(low=80, high=300))
+HOUSE = Settings(last=7, area=20, rule=Plain(low=80, high=300), neighbours=4)
 
 
 class Counts(NamedTuple):
@@ -166,6 +175,7 @@ _ARGUMENTS = {
                      _OUTPUT, _SIZE, *_COUNTS),
 }
 _GREATEST_HEADER = 17
+_GREATEST_PASSES = 1_024
 
 
 def _load():
@@ -277,16 +287,33 @@ def _rule(rule):
     raise TypeError(f"a rule is a Plain, a Limited or an Affine, not {type(rule).__name__}")
 
 
+def _rule_numbers(rule, neighbours):
+    """The numbers that a function is lent: those of a rule, and that of the neighbours."""
+    return *_rule(rule), _number("neighbours", neighbours, 16)
+
+
 def _lent_rule(numbers):
-    """The numbers of a rule, as a function is lent them."""
+    """These numbers, as a function is lent them."""
     return _lent(numpy.array(numbers, numpy.uint16))
 
 
 def _pass(one):
-    """The numbers of a pass: a, b, area, and those of its rule."""
+    """The numbers of a pass: a, b, area, and those of its rule and neighbours."""
     if not isinstance(one, Pass):
         raise TypeError(f"a pass is Pass(a, b, area, rule), not {type(one).__name__}")
-    return _byte("a", one.a), _byte("b", one.b), _number("area", one.area, 32), _rule(one.rule)
+    numbers = _byte("a", one.a), _byte("b", one.b), _number("area", one.area, 32)
+    return *numbers, _rule_numbers(one.rule, one.neighbours)
+
+
+def _passes(passes):
+    """A list of passes that the library accepts."""
+    passes = list(passes)
+    numbers = [_pass(one) for one in passes]
+    if len(passes) > _GREATEST_PASSES:
+        raise Refused(16)
+    for one in passes:
+        run_pass(numpy.zeros((1, 1), numpy.uint8), one)  # which checks its numbers before it runs
+    return passes, numbers
 
 
 def intensity(frame):
@@ -310,7 +337,7 @@ def recolour(frame, plane):
 
 
 def run_pass(plane, one):
-    """The plane after a pass, and its counts. Refusals, in order: 1, 2, 5, 6, 7, 8, 18."""
+    """The plane after a pass, and its counts. Refusals, in order: 1, 2, 5, 6, 7, 8, 18, 19."""
     h, w = _plane_sides(plane)
     new = _copy(plane)
     *numbers, rule = _pass(one)
@@ -318,9 +345,21 @@ def run_pass(plane, one):
     return Retoned(new, counts)
 
 
+def run_passes(plane, passes):
+    """The plane after these passes, one after the other, and the sums of their counts. All of them are checked before
+    the first runs. Refusals, in order: 1, 2, 16 for more than 1,024, then for each pass 5, 6, 7, 8, 18, 19."""
+    _plane_sides(plane)
+    passes, _ = _passes(passes)
+    plane, retoned, kept = _copy(plane), 0, 0
+    for one in passes:
+        plane, counts = run_pass(plane, one)
+        retoned, kept = retoned + counts.retoned, kept + counts.kept
+    return Retoned(plane, Counts(retoned, kept))
+
+
 def run_list(plane, data):
-    """The plane after the passes of a list, in the bytes of a file, and the sums of their counts. Refusals, in order:
-    1, 2, 16, 15, 16, then for each pass 17, 5, 6, 7, 8, 18."""
+    """The plane after the passes of a list, in the bytes of a file of version 1, which means four neighbours, and the
+    sums of their counts. Refusals, in order: 1, 2, 16, 15, 16, then for each pass 17, 5, 6, 7, 8, 18."""
     h, w = _plane_sides(plane)
     new = _copy(plane)
     counts = _counted(_library.mlhe_run_list, *_lent(_bytes(data), new), *_memory(w * h), w, h)
@@ -328,25 +367,24 @@ def run_list(plane, data):
 
 
 def pass_list(passes):
-    """The bytes of the list of these passes. Refusals, in order: 16 for more than 1,024, then for each pass 5, 6, 7,
-    8, 18."""
+    """The bytes of the list of these passes, in a file of version 1. Refusals, in order: 16 for more than 1,024, then
+    for each pass 5, 6, 7, 8, 18, 19. ValueError where one has eight neighbours, for which version 1 has no place:
+    run_passes runs such a list."""
     records = []
-    for one in passes:
-        a, b, area, (code, first, second, segments) = _pass(one)
+    for a, b, area, (code, first, second, segments, neighbours) in _passes(passes)[1]:
+        if neighbours != 4:
+            raise ValueError("a list of version 1 has no place for eight neighbours: run_passes runs these passes")
         records.append(struct.pack("<BBBBIHH", a, b, code, segments, area, first, second))
-    if len(records) >= 2**16:
-        raise Refused(16)
-    data = b"MLP" + struct.pack("<HH", 1, len(records)) + b"".join(records)
-    run_list(numpy.zeros((1, 1), numpy.uint8), data)  # which checks the whole list before anything else
-    return data
+    return b"MLP" + struct.pack("<HH", 1, len(records)) + b"".join(records)
 
 
-def enhance(frame, *, last=HOUSE.last, area=HOUSE.area, rule=HOUSE.rule):
+def enhance(frame, *, last=HOUSE.last, area=HOUSE.area, rule=HOUSE.rule, neighbours=HOUSE.neighbours):
     """Enhances a frame: intensity, the passes of the levels 0 to `last`, and recolouring. Answers the recoloured frame,
-    the plane and the sums of the passes' counts. Refusals, in order: 1, 2, 9, 6, 7, 8, 18."""
+    the plane and the sums of the passes' counts. Refusals, in order: 1, 2, 9, 6, 7, 8, 18, 19."""
     h, w = _frame_sides(frame)
     plane, output = _new(h, w), _new(h, w, 3)
-    settings = _number("last", last, 8), _number("area", area, 32), *_lent_rule(_rule(rule))
+    numbers = _rule_numbers(rule, neighbours)
+    settings = _number("last", last, 8), _number("area", area, 32), *_lent_rule(numbers)
     counts = _counted(_library.mlhe_enhance, *_lent(frame.tobytes()), w, h, *settings, *_lent(plane), *_memory(w * h),
                       *_lent(output))
     return Enhanced(output, plane, counts)

@@ -38,9 +38,9 @@ def colour(*channels):
 class Examples(unittest.TestCase):
     """The examples to hold it against, by their letters."""
 
-    def after_pass(self, plane, a, b, expected, retoned, kept, area=1, rule=ANY):
+    def after_pass(self, plane, a, b, expected, retoned, kept, area=1, rule=ANY, **names):
         before = plane.copy()
-        left = mlhe.run_pass(plane, Pass(a, b, area, rule))
+        left = mlhe.run_pass(plane, Pass(a, b, area, rule, **names))
         numpy.testing.assert_array_equal(left.plane, expected)
         self.assertEqual(left.counts, Counts(retoned, kept))
         numpy.testing.assert_array_equal(plane, before)
@@ -69,6 +69,43 @@ class Examples(unittest.TestCase):
     def test_j(self):
         plane = numpy.array([[10, 200], [200, 20]], numpy.uint8)
         self.after_pass(plane, 0, 127, plane, 0, 2)
+        self.after_pass(plane, 0, 127, plane, 0, 2, neighbours=4)
+        self.after_pass(plane, 0, 127, [[64, 200], [200, 127]], 1, 0, neighbours=8)
+
+    def test_edges_with_eight_neighbours(self):
+        """A row's end is no neighbour of the next row's beginning, and a row or a column has no corners."""
+        self.after_pass(numpy.array([[200, 200, 10], [20, 200, 200]], numpy.uint8), 0, 127,
+                        [[200, 200, 10], [20, 200, 200]], 0, 2, neighbours=8)
+        for plane, left in (row(10, 20, 200, 30), row(64, 127, 200, 30)), (row(10, 200, 20), row(10, 200, 20)):
+            retoned = int(plane[0, 1] == 20)
+            self.after_pass(plane, 0, 127, left, retoned, 2 - retoned, neighbours=8)
+            self.after_pass(plane.T, 0, 127, left.T, retoned, 2 - retoned, neighbours=8)
+
+    def test_eight_neighbours_on_all_levels(self):
+        """An enhancement with 8 is the list with 8, and the house setting is with 4."""
+        plane = numpy.where(numpy.eye(9, dtype=bool), numpy.arange(10, 100, 10), 180).astype(numpy.uint8)
+        frame = numpy.repeat(plane[:, :, None], 3, axis=2)
+        left = {}
+        for neighbours in 4, 8:
+            enhanced = mlhe.enhance(frame, area=5, neighbours=neighbours)
+            passes = [Pass(a, a + (256 >> level) - 1, 5 if level else 1, mlhe.HOUSE.rule, neighbours)
+                      for level in range(8) for a in range(0, 256, 256 >> level)]
+            chained = mlhe.run_passes(plane, passes)
+            numpy.testing.assert_array_equal(enhanced.plane, chained.plane)
+            self.assertEqual(enhanced.counts, chained.counts)
+            left[neighbours] = enhanced.plane
+        self.assertFalse(numpy.array_equal(left[4], left[8]))
+        numpy.testing.assert_array_equal(mlhe.enhance(frame, area=5).plane, left[4])
+
+    def test_passes_with_both(self):
+        plane = numpy.array([[10, 200], [200, 20]], numpy.uint8)
+        four = Pass(0, 127, 1, ANY)
+        left = mlhe.run_passes(plane, [four, four._replace(neighbours=8), four])
+        numpy.testing.assert_array_equal(left.plane, [[64, 200], [200, 127]])
+        self.assertEqual(left.counts, Counts(1, 4))
+        numpy.testing.assert_array_equal(plane, [[10, 200], [200, 20]])
+        self.assertEqual(mlhe.run_passes(plane, []).counts, Counts(0, 0))
+        self.assertEqual(mlhe.run_list(plane, mlhe.pass_list([four])).counts, Counts(0, 2))
 
     def test_k_to_m(self):
         for last, area, new, retoned in (0, 20, (128, 255), 1), (1, 1, (192, 255), 2), (7, 1, (255, 255), 8):
@@ -157,16 +194,20 @@ class Refusals(unittest.TestCase):
                  (6, Pass(0, 255, 0, Affine(0, 0, 0))), (18, Pass(0, 255, 1, Affine(0, 0, 0))),
                  (18, Pass(0, 255, 1, Affine(17, 0, 0))), (18, Pass(0, 255, 1, Affine(257, 0, 0))),
                  (18, Pass(0, 255, 1, Affine(1, 101, 100))), (18, Pass(0, 255, 1, Affine(1, 2**16, 10_000))),
-                 (18, Pass(0, 255, 1, Affine(1, 0, 10_001))), (18, Pass(0, 255, 1, Affine(1, 0, 2**16)))]
+                 (18, Pass(0, 255, 1, Affine(1, 0, 10_001))), (18, Pass(0, 255, 1, Affine(1, 0, 2**16))),
+                 (5, Pass(9, 8, 1, ANY, 9)), (18, Pass(0, 255, 1, Affine(0, 0, 0), 9))]
+        cases += [(19, Pass(0, 255, 1, ANY, neighbours)) for neighbours in (0, 3, 9, 255, 260, 264, 2**16 + 4)]
         for number, one in cases:
             self.refused(number, mlhe.run_pass, plane, one)
+            self.refused(number, mlhe.run_passes, plane, [Pass(0, 255, 1, ANY, 8), one, Pass(9, 8, 1, ANY)])
             self.refused(number, mlhe.pass_list, [Pass(0, 255, 1, ANY), one])
 
     def test_settings(self):
         for number, names in (9, {"last": 8}), (9, {"last": 256}), (6, {"area": 0}), (6, {"area": 2**32 + 1}), \
                 (7, {"rule": Plain(81, 80)}), (8, {"rule": Limited(1_001)}), (9, {"last": 8, "area": 0}), \
                 (18, {"rule": Affine(0, 0, 0)}), (18, {"rule": Affine(1, 0, 10_001)}), \
-                (9, {"last": 8, "rule": Affine(0, 0, 0)}), (6, {"area": 0, "rule": Affine(0, 0, 0)}):
+                (9, {"last": 8, "rule": Affine(0, 0, 0)}), (6, {"area": 0, "rule": Affine(0, 0, 0)}), \
+                (19, {"neighbours": 6}), (19, {"neighbours": 260}), (18, {"rule": Affine(0, 0, 0), "neighbours": 6}):
             self.refused(number, mlhe.enhance, grey(1, 2), **names)
 
     def test_lists(self):
@@ -178,6 +219,13 @@ class Refusals(unittest.TestCase):
         self.assertEqual(mlhe.run_list(plane, mlhe.pass_list([Pass(0, 127, 1, ANY)] * 1_024)).counts, Counts(1_024, 0))
         for count in 1_025, 2**16 - 1, 2**16:
             self.refused(16, mlhe.pass_list, [Pass(0, 127, 1, ANY)] * count)
+            self.refused(16, mlhe.run_passes, plane, [Pass(0, 127, 1, ANY, 9)] * count)
+
+    def test_a_list_has_no_place_for_eight_neighbours(self):
+        with self.assertRaisesRegex(ValueError, "no place for eight neighbours") as caught:
+            mlhe.pass_list([Pass(0, 127, 1, ANY), Pass(0, 127, 1, ANY, 8)])
+        self.assertNotIsInstance(caught.exception, Refused)
+        self.refused(5, mlhe.pass_list, [Pass(0, 127, 1, ANY, 8), Pass(9, 8, 1, ANY)])
 
     def test_files(self):
         for number, data in (10, b""), (10, b"P5 1 1 255"), (1, b"P6 0 1 255\n"), (2, b"P6 4096 257 255\n"), \
@@ -197,9 +245,10 @@ class Refusals(unittest.TestCase):
         self.assertRaises(ValueError, mlhe.run_pass, frame, one)
         self.assertRaises(ValueError, mlhe.recolour, frame, frame)
         for wrong in one._replace(a=256), one._replace(b=-1), one._replace(area=-1), one._replace(rule=Limited(-1)), \
-                one._replace(rule=Affine(-1, 0, 0)), one._replace(rule=Affine(1, 0, -1)):
+                one._replace(rule=Affine(-1, 0, 0)), one._replace(rule=Affine(1, 0, -1)), one._replace(neighbours=-4):
             self.assertRaises(ValueError, mlhe.run_pass, plane, wrong)
-        for wrong in one._replace(a=1.0), one._replace(rule=(0, 1)), (0, 255, 1, ANY), one._replace(area="1"):
+        for wrong in one._replace(a=1.0), one._replace(rule=(0, 1)), (0, 255, 1, ANY), one._replace(area="1"), \
+                one._replace(neighbours=None):
             self.assertRaises(TypeError, mlhe.run_pass, plane, wrong)
         self.assertRaises(TypeError, mlhe.run_list, plane, 7)
         self.assertRaises(TypeError, mlhe.read, "P6 1 1 255 123")
@@ -296,12 +345,12 @@ class Case:
     """A stored case, as the head of reference/src/cases.rs describes it."""
 
     KINDS = "intensity", "pass", "recolour", "enhance", "list", "passes", "read", "write", "program", "house"
-    HEAD = struct.Struct("<BBBBHHIBBHHHIIIHHB")
+    HEAD = struct.Struct("<BBBBHHIBBHHHIIIHHBB")
 
     def __init__(self, data, start):
         (kind, self.a, self.b, rule, first, second, self.area, self.last, self.same, self.marks, self.queue,
          self.output, self.w, self.h, self.limit, bytes_length, plane_length,
-         segments) = self.HEAD.unpack_from(data, start)
+         segments, self.neighbours) = self.HEAD.unpack_from(data, start)
         self.kind = self.KINDS[kind]
         self.rule = self.rule_of(rule, segments, first, second)
         start += self.HEAD.size
@@ -328,8 +377,8 @@ class Case:
         return self.kind in ("intensity", "recolour", "write") or min(self.marks, self.queue) >= n
 
     def passes(self):
-        for a, b, rule, segments, area, first, second in struct.iter_unpack("<BBBBIHH", self.bytes):
-            yield Pass(a, b, area, self.rule_of(rule, segments, first, second))
+        for a, b, rule, segments, area, first, second, neighbours in struct.iter_unpack("<BBBBIHHB", self.bytes):
+            yield Pass(a, b, area, self.rule_of(rule, segments, first, second), neighbours)
 
     def frame(self):
         return numpy.frombuffer(self.bytes, numpy.uint8).reshape(self.h, self.w, 3)
@@ -350,13 +399,15 @@ class Case:
             data = mlhe.write(self.frame())
             return f"+{len(data)}", self.filled(data)
         if self.kind in ("enhance", "house"):
-            names = {} if self.kind == "house" else {"last": self.last, "area": self.area, "rule": self.rule}
-            enhanced = mlhe.enhance(self.frame(), **names)
+            names = {"last": self.last, "area": self.area, "rule": self.rule, "neighbours": self.neighbours}
+            enhanced = mlhe.enhance(self.frame(), **({} if self.kind == "house" else names))
             return self.line(enhanced.counts), enhanced.plane.tobytes(), self.filled(enhanced.frame.tobytes())
         if self.kind == "pass":
-            retoned = mlhe.run_pass(self.values(), Pass(self.a, self.b, self.area, self.rule))
+            retoned = mlhe.run_pass(self.values(), Pass(self.a, self.b, self.area, self.rule, self.neighbours))
+        elif self.kind == "list":
+            retoned = mlhe.run_list(self.values(), self.bytes)
         else:
-            retoned = mlhe.run_list(self.values(), self.bytes if self.kind == "list" else mlhe.pass_list(self.passes()))
+            retoned = mlhe.run_passes(self.values(), self.passes())
         return self.line(retoned.counts), retoned.plane.tobytes()
 
     @staticmethod
@@ -445,8 +496,14 @@ class Header(unittest.TestCase):
         self.assertEqual(mlhe._rule(Affine(segments=9, smin=7, smax=8)), tuple(rule))
         self.assertEqual([mlhe._rule(rule)[0] for rule in (Plain(1, 2), Limited(3))],
                          [numbers["MLHE_PLAIN"], numbers["MLHE_LIMITED"]])
+        lent = [*rule, numbers["MLHE_EIGHT_NEIGHBOURS"]]
+        self.assertEqual((numbers["MLHE_RULE_NEIGHBOURS"], numbers["MLHE_PASS_NUMBERS"]), (len(rule), len(lent)))
+        self.assertEqual(mlhe._rule_numbers(Affine(segments=9, smin=7, smax=8), 8), tuple(lent))
+        self.assertEqual(Pass(0, 255, 1, ANY).neighbours, numbers["MLHE_FOUR_NEIGHBOURS"])
+        self.assertEqual(mlhe._GREATEST_PASSES, numbers["MLHE_GREATEST_PASSES"])
         house = mlhe.Settings(numbers["MLHE_HOUSE_LAST"], numbers["MLHE_HOUSE_AREA"],
-                              Plain(numbers["MLHE_HOUSE_LOW"], numbers["MLHE_HOUSE_HIGH"]))
+                              Plain(numbers["MLHE_HOUSE_LOW"], numbers["MLHE_HOUSE_HIGH"]),
+                              numbers["MLHE_HOUSE_NEIGHBOURS"])
         self.assertEqual(mlhe.HOUSE, house)
         self.assertRegex(self.header, "MLHE_HOUSE_RULE = MLHE_PLAIN")
 

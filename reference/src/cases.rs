@@ -2,8 +2,8 @@
 //!
 //! # A case
 //!
-//! A file is a sequence of cases with nothing before, between or after them. A case has a head of 37 bytes, then
-//! `bytes`, then `plane`; the next case starts at 37 + length of bytes + length of plane. Numbers are stored low byte
+//! A file is a sequence of cases with nothing before, between or after them. A case has a head of 38 bytes, then
+//! `bytes`, then `plane`; the next case starts at 38 + length of bytes + length of plane. Numbers are stored low byte
 //! first. A call uses the fields that it needs; the others are there and mean nothing.
 //!
 //! | At | Size | Field |
@@ -23,19 +23,21 @@
 //! | 20 | 4 | w |
 //! | 24 | 4 | h |
 //! | 28 | 4 | pixel limit of the reader |
-//! | 32 | 2 | length of bytes, at most 12,320 |
+//! | 32 | 2 | length of bytes, at most 13,344 |
 //! | 34 | 2 | length of plane, at most 288 |
 //! | 36 | 1 | N of the affine rule, else 0 |
-//! | 37 | | bytes: the frame (0, 2, 3, 9), the list (4), the passes (5), the input (6, 8) or the raster (7) |
+//! | 37 | 1 | number of neighbours |
+//! | 38 | | bytes: the frame (0, 2, 3, 9), the list (4), the passes (5), the input (6, 8) or the raster (7) |
 //! | | | plane: the plane's bytes before the call (0 to 5, 9) |
 //!
 //! An enhancement with the house setting (kind 9) has no settings in its head: it is made with those that the house
 //! setting's constructor gives, and its line ends with what the house setting's constants are. The head's own settings
 //! would be refused.
 //!
-//! Passes in memory (kind 5) are given by 12 bytes each: a, b, rule (0 to 2), N of the affine rule or 0, area (4
-//! bytes), then low and high, k and 0, or smin and smax (2 bytes each). The list in memory has as many passes as
-//! `bytes` has twelves, at most 1,025.
+//! Passes in memory (kind 5) are given by 13 bytes each: a, b, rule (0 to 2), N of the affine rule or 0, area (4
+//! bytes), then low and high, k and 0, or smin and smax (2 bytes each), and the number of neighbours (1 byte). The
+//! list in memory has as many passes as `bytes` has thirteens, at most 1,025. A list of bytes (kind 4) means four
+//! neighbours.
 //!
 //! # Running a case
 //!
@@ -55,22 +57,26 @@
 //! | 6 read | `+W H OFFSET` | `-N` |
 //! | 7 write | `+LENGTH OUTPUT` | `-N OUTPUT` |
 //! | 8 program | `OUTPUT` | `OUTPUT` |
-//! | 9 house | `+RETONED KEPT PLANE OUTPUT STRAYS L AREA LOW HIGH` | `-N PLANE OUTPUT STRAYS L AREA LOW HIGH` |
+//! | 9 house | `+RETONED KEPT PLANE OUTPUT STRAYS HOUSE` | `-N PLANE OUTPUT STRAYS HOUSE` |
 //!
 //! One space stands between the parts, also where a part is empty. Numbers are decimal. RETONED and KEPT are the two
 //! counts of the components of sufficient area: those retoned, and those kept back. PLANE and OUTPUT are all bytes of
 //! the lent plane and of the lent output after the call, as two lower-case hexadecimal digits each; the program's
 //! OUTPUT is what it would print, be it a frame or `refused N` and LF. STRAYS is the number of entries of marks and
-//! queue that had to stay and did not: after acceptance those from w × h on, after refusal all of them. It is 0.
+//! queue that had to stay and did not: after acceptance those from w × h on, after refusal all of them. It is 0. HOUSE
+//! is `L AREA LOW HIGH NEIGHBOURS`, the numbers of the house setting.
 
-use crate::{enhance, intensity, pass, program, read, recolour, run_list, run_passes, write};
-use crate::{Counts, Pass, Rule, Settings};
+use crate::{enhance, intensity, list_bytes, pass, program, read, recolour, run_list, run_passes, write};
+use crate::{Counts, Pass, Rule, Settings, FOUR};
 
 /// The length of a case's head.
-pub const HEAD: usize = 37;
+pub const HEAD: usize = 38;
+
+/// The length of a pass in memory.
+pub const PASS: usize = 13;
 
 /// The greatest lengths that a case may have.
-pub const GREATEST_BYTES: usize = 12_320;
+pub const GREATEST_BYTES: usize = 13_344;
 pub const GREATEST_PLANE: usize = 288;
 pub const GREATEST_MEMORY: usize = 320;
 pub const GREATEST_OUTPUT: usize = 3_200;
@@ -117,6 +123,7 @@ pub struct Case {
     pub rule: u8,
     pub segments: u8,
     pub numbers: [u16; 2],
+    pub neighbours: u8,
     pub area: u32,
     pub last_level: u8,
     pub same_plane: bool,
@@ -147,7 +154,7 @@ pub fn encode(case: &Case) -> Vec<u8> {
     stored.extend(case.limit.to_le_bytes());
     stored.extend(length(&case.bytes));
     stored.extend(length(&case.plane));
-    stored.push(case.segments);
+    stored.extend([case.segments, case.neighbours]);
     assert_eq!(stored.len(), HEAD);
     stored.extend(&case.bytes);
     stored.extend(&case.plane);
@@ -168,6 +175,7 @@ pub fn decode(file: &[u8]) -> (Case, &[u8]) {
         rule: file[3],
         segments: file[36],
         numbers: [short(4), short(6)],
+        neighbours: file[37],
         area: long(8),
         last_level: file[12],
         same_plane: file[13] == 1,
@@ -209,7 +217,7 @@ fn answer(case: &Case, plane: &mut Vec<u8>) -> String {
     let mut output = vec![OUTPUT_FILL; usize::from(case.output)];
     let (w, h) = (case.w as usize, case.h as usize);
     let (marks, queue) = (usize::from(case.marks), usize::from(case.queue));
-    let rule = rule_of(case.rule, case.segments, case.numbers);
+    let (rule, neighbours) = (rule_of(case.rule, case.segments, case.numbers), case.neighbours);
     // Here marks and queue are lengths alone, so no entry of them can have changed.
     let strays = 0;
     match case.kind {
@@ -218,7 +226,7 @@ fn answer(case: &Case, plane: &mut Vec<u8>) -> String {
             format!("{} {}", number(done), hex(plane))
         }
         Kind::Pass => {
-            let settings = Pass { a: case.a, b: case.b, area: case.area, rule };
+            let settings = Pass { a: case.a, b: case.b, area: case.area, rule, neighbours };
             let answer = pass(plane, marks, queue, w, h, &settings);
             format!("{} {} {strays}", counts(answer), hex(plane))
         }
@@ -227,7 +235,7 @@ fn answer(case: &Case, plane: &mut Vec<u8>) -> String {
             format!("{} {}", number(done), hex(&output))
         }
         Kind::Enhance => {
-            let settings = Settings { last_level: u32::from(case.last_level), area: case.area, rule };
+            let settings = Settings { last_level: u32::from(case.last_level), area: case.area, rule, neighbours };
             let answer = enhance(&case.bytes, w, h, &settings, plane, marks, queue, &mut output);
             format!("{} {} {} {strays}", counts(answer), hex(plane), hex(&output))
         }
@@ -236,8 +244,7 @@ fn answer(case: &Case, plane: &mut Vec<u8>) -> String {
             format!("{} {} {strays}", counts(answer), hex(plane))
         }
         Kind::Passes => {
-            let passes: Vec<Pass> = case.bytes.chunks(12).map(pass_of).collect();
-            let answer = run_passes(&passes, plane, marks, queue, w, h);
+            let answer = run_passes(&passes_of(&case.bytes), plane, marks, queue, w, h);
             format!("{} {} {strays}", counts(answer), hex(plane))
         }
         Kind::Read => match read(&case.bytes, case.limit as usize) {
@@ -267,17 +274,34 @@ pub fn rule_of(rule: u8, segments: u8, numbers: [u16; 2]) -> Rule {
     }
 }
 
-/// A pass of a list in memory, from its 12 bytes.
-fn pass_of(record: &[u8]) -> Pass {
-    let short = |at: usize| u16::from_le_bytes([record[at], record[at + 1]]);
+/// The passes of a list in memory, from their bytes.
+pub fn passes_of(bytes: &[u8]) -> Vec<Pass> {
+    bytes.chunks(PASS).map(pass_of).collect()
+}
+
+/// A pass of a list in memory, from its 13 bytes.
+fn pass_of(bytes: &[u8]) -> Pass {
+    let short = |at: usize| u16::from_le_bytes([bytes[at], bytes[at + 1]]);
     let area = u32::from(short(4)) + 65_536 * u32::from(short(6));
-    Pass { a: record[0], b: record[1], area, rule: rule_of(record[2], record[3], [short(8), short(10)]) }
+    let rule = rule_of(bytes[2], bytes[3], [short(8), short(10)]);
+    Pass { a: bytes[0], b: bytes[1], area, rule, neighbours: bytes[12] }
+}
+
+/// The bytes of the passes of a list in memory: of each the 12 bytes of a record, then the number of neighbours.
+pub fn passes_bytes(passes: &[Pass]) -> Vec<u8> {
+    let stored = |&pass: &Pass| {
+        let record = list_bytes(&[Pass { neighbours: FOUR, ..pass }]).split_off(7);
+        [record, vec![pass.neighbours]].concat()
+    };
+    passes.iter().flat_map(stored).collect()
 }
 
 /// The numbers of settings with the plain rule, which the house setting is.
 fn numbers(settings: &Settings) -> String {
     match settings.rule {
-        Rule::Plain { low, high } => format!("{} {} {low} {high}", settings.last_level, settings.area),
+        Rule::Plain { low, high } => {
+            format!("{} {} {low} {high} {}", settings.last_level, settings.area, settings.neighbours)
+        }
         _ => panic!("the house setting is plain"),
     }
 }

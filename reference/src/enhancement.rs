@@ -1,23 +1,26 @@
 //! Algorithms 2 and 3: the recursion over components, and the colours after it.
 
 use crate::colours::{intensity, recolour};
-use crate::components::Components;
+use crate::components::{Components, FOUR};
 use crate::counts::Counts;
 use crate::passes::{retone, Pass};
 use crate::refusals::{self, refuse_if, Refusal, GREATEST_PIXELS};
 use crate::tones::Rule;
 
-/// What an enhancement is told: the last level L, the least area and the tone rule of all its levels.
+/// What an enhancement is told: the last level L, and of all its levels the least area, the tone rule and the number of
+/// neighbours.
 #[derive(Clone, Copy, Debug, PartialEq, Eq)]
 pub struct Settings {
     pub last_level: u32,
     pub area: u32,
     pub rule: Rule,
+    pub neighbours: u8,
 }
 
 impl Settings {
     /// The house setting.
-    pub const HOUSE: Settings = Settings { last_level: 7, area: 20, rule: Rule::Plain { low: 80, high: 300 } };
+    pub const HOUSE: Settings =
+        Settings { last_level: 7, area: 20, rule: Rule::Plain { low: 80, high: 300 }, neighbours: FOUR };
 }
 
 /// Leaves the new intensities in the plane and the recoloured frame in the output. Answers how often a component was
@@ -40,9 +43,11 @@ pub fn enhance(
     refuse_if(settings.last_level > 7, 9)?;
     refusals::area(settings.area)?;
     refusals::rule(&settings.rule)?;
+    refusals::neighbours(settings.neighbours)?;
 
     intensity(frame, w, h, plane)?;
-    let mut recursion = Recursion { plane, settings, components: Components::new(w, h), counts: Counts::default() };
+    let components = Components::new(w, h, settings.neighbours);
+    let mut recursion = Recursion { plane, settings, components, counts: Counts::default() };
     let whole_plane: Vec<usize> = (0..n).collect();
     recursion.equalise(&whole_plane, 0, 255);
     let counts = recursion.counts;
@@ -85,15 +90,16 @@ impl Recursion<'_> {
     }
 }
 
-/// The list of passes that an enhancement equals: level by level, lower section first, level 0 with area 1. The
-/// enhancement above makes no use of it.
+/// The list of passes that an enhancement equals: level by level, lower section first, level 0 with area 1, all with
+/// its number of neighbours. The enhancement above makes no use of it.
 pub fn level_by_level(settings: &Settings) -> Vec<Pass> {
     let mut passes = Vec::new();
     for level in 0..=settings.last_level {
         let width = 256 >> level;
         for a in (0..256).step_by(width) {
             let area = if level == 0 { 1 } else { settings.area };
-            passes.push(Pass { a: a as u8, b: (a + width - 1) as u8, area, rule: settings.rule });
+            let (a, b) = (a as u8, (a + width - 1) as u8);
+            passes.push(Pass { a, b, area, rule: settings.rule, neighbours: settings.neighbours });
         }
     }
     passes

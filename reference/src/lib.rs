@@ -8,14 +8,16 @@
 //! | Call | Does | Refusals, in the order of the tests |
 //! |---|---|---|
 //! | [`intensity`] | fills a plane with the rounded mean of the channels | 1, 2, 3 |
-//! | [`pass`] | retones the components of one section | 1 to 8, 18 |
+//! | [`pass`] | retones the components of one section | 1 to 8, 18, 19 |
 //! | [`recolour`] | carries new intensities over to the channels | 1, 2, 3, 14 |
-//! | [`enhance`] | the eight-level recursion, then the colours | 1, 2, 3, 4, 14, 9, 6, 7, 8, 18 |
+//! | [`enhance`] | the eight-level recursion, then the colours | 1, 2, 3, 4, 14, 9, 6, 7, 8, 18, 19 |
 //! | [`run_list`] | runs the passes of a list of bytes | 1 to 4, 16 (under 7 bytes), 15, 16, records 17, 5 to 8, 18 |
-//! | [`run_passes`] | runs the passes of a list in memory | 1 to 4, 16, passes 5 to 8, 18 |
+//! | [`run_passes`] | runs the passes of a list in memory | 1 to 4, 16, passes 5 to 8, 18, 19 |
 //! | [`read`] | reads the header of a P6 frame, comments too, and measures the rest | 10, 1, 2, 11, 12, 13 |
 //! | [`write`] | writes a P6 frame | 1, 2, 3, 14 |
 //! | [`program`] | standard input to standard output | 13 (long input), then as above |
+//!
+//! A pass and an enhancement carry the number of neighbours, [`FOUR`] or [`EIGHT`]; lists of bytes mean four.
 //!
 //! A pass, a list and an enhancement answer [`Counts`]: the components of sufficient area that were retoned, and those
 //! that were kept back. [`sufficient`] counts both together, from the definition. A call that is turned down answers
@@ -38,7 +40,7 @@ mod sufficient;
 mod tones;
 
 pub use colours::{intensity, recolour};
-pub use components::Components;
+pub use components::{Components, EIGHT, FOUR};
 pub use counts::Counts;
 pub use enhancement::{enhance, level_by_level, Settings};
 pub use lists::{list_bytes, list_passes, run_list, run_passes, GREATEST_COUNT};

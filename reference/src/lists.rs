@@ -1,5 +1,6 @@
 //! Lists of passes, as bytes and in memory.
 
+use crate::components::FOUR;
 use crate::counts::Counts;
 use crate::passes::{lent_plane, run, sound, Pass};
 use crate::refusals::{refuse_if, Refusal};
@@ -28,8 +29,8 @@ pub fn run_list(
     Ok(run_all(&list_passes(bytes)?, plane, w, h))
 }
 
-/// The passes of a list in its file format, all of them sound. Refusals: 16 (under 7 bytes), 15, 16, then for each
-/// record 17, 5, 6, 7, 8, 18.
+/// The passes of a list in its file format, all of them sound and with four neighbours. Refusals: 16 (under 7 bytes),
+/// 15, 16, then for each record 17, 5, 6, 7, 8, 18.
 pub fn list_passes(bytes: &[u8]) -> Result<Vec<Pass>, Refusal> {
     refuse_if(bytes.len() < HEAD, 16)?;
     refuse_if(&bytes[..3] != b"MLP" || number16(bytes, 3) != 1, 15)?;
@@ -44,7 +45,7 @@ pub fn list_passes(bytes: &[u8]) -> Result<Vec<Pass>, Refusal> {
     Ok(passes)
 }
 
-/// Runs the passes of a list in memory, with the same outcome.
+/// Runs the passes of a list in memory, with the same outcome. Here a pass may have eight neighbours.
 pub fn run_passes(
     passes: &[Pass],
     plane: &mut [u8],
@@ -65,7 +66,8 @@ fn run_all(passes: &[Pass], plane: &mut [u8], w: usize, h: usize) -> Counts {
     passes.iter().map(|pass| run(plane, w, h, pass)).sum()
 }
 
-/// 17, and the pass that a record stands for. The byte after the rule is N of the affine rule, and 0 for the others.
+/// 17, and the pass that a record stands for; version 1 means four neighbours. The byte after the rule is N of the
+/// affine rule, and 0 for the others.
 fn record_pass(record: &[u8]) -> Result<Pass, Refusal> {
     let segments = u32::from(record[3]);
     let (first, second) = (number16(record, 8), number16(record, 10));
@@ -77,7 +79,7 @@ fn record_pass(record: &[u8]) -> Result<Pass, Refusal> {
     };
     refuse_if(!zeros, 17)?;
     let area = number16(record, 4) + 65_536 * number16(record, 6);
-    Ok(Pass { a: record[0], b: record[1], area, rule })
+    Ok(Pass { a: record[0], b: record[1], area, rule, neighbours: FOUR })
 }
 
 /// The 16-bit number at a place, low byte first.
@@ -85,8 +87,8 @@ fn number16(bytes: &[u8], at: usize) -> u32 {
     u32::from(bytes[at]) + 256 * u32::from(bytes[at + 1])
 }
 
-/// The file format of a list. The numbers of the rules must be below 65,536, N below 256, and there must be fewer than
-/// 65,536 passes; nothing else is tested.
+/// The file format of a list. It has no place for the number of neighbours, which must be 4. The numbers of the rules
+/// must be below 65,536, N below 256, and there must be fewer than 65,536 passes; nothing else is tested.
 pub fn list_bytes(passes: &[Pass]) -> Vec<u8> {
     fn short(number: usize) -> [u8; 2] {
         u16::try_from(number).expect("a 16-bit number").to_le_bytes()
@@ -95,6 +97,7 @@ pub fn list_bytes(passes: &[Pass]) -> Vec<u8> {
     bytes.extend(short(1));
     bytes.extend(short(passes.len()));
     for pass in passes {
+        assert_eq!(pass.neighbours, FOUR, "version 1 means four neighbours");
         let (rule, segments, first, second) = match pass.rule {
             Rule::Plain { low, high } => (0, 0, low, high),
             Rule::Limited { k } => (1, 0, k, 0),

@@ -5,13 +5,14 @@ use crate::counts::Counts;
 use crate::refusals::{self, refuse_if, Refusal, GREATEST_PIXELS};
 use crate::tones::{retoned, Rule};
 
-/// A pass: the section [a, b], the least area and the tone rule.
+/// A pass: the section [a, b], the least area, the tone rule and the number of neighbours, 4 or 8.
 #[derive(Clone, Copy, Debug, PartialEq, Eq)]
 pub struct Pass {
     pub a: u8,
     pub b: u8,
     pub area: u32,
     pub rule: Rule,
+    pub neighbours: u8,
 }
 
 /// Retones every component of [a, b] that has the least area and isn't kept back. Answers how many were retoned and how
@@ -36,16 +37,17 @@ pub(crate) fn lent_plane(plane: &[u8], marks_len: usize, queue_len: usize, w: us
     refusals::memory(marks_len, queue_len, n)
 }
 
-/// 5 to 8 and 18, in this order: the numbers of the pass.
+/// 5 to 8, 18 and 19, in this order: the numbers of the pass.
 pub(crate) fn sound(pass: &Pass) -> Result<(), Refusal> {
     refuse_if(pass.a > pass.b, 5)?;
     refusals::area(pass.area)?;
-    refusals::rule(&pass.rule)
+    refusals::rule(&pass.rule)?;
+    refusals::neighbours(pass.neighbours)
 }
 
 /// The pass itself. All components are found before the first one is retoned.
 pub(crate) fn run(plane: &mut [u8], w: usize, h: usize, pass: &Pass) -> Counts {
-    let components = Components::new(w, h).of_section(plane, pass.a, pass.b);
+    let components = Components::new(w, h, pass.neighbours).of_section(plane, pass.a, pass.b);
     let mut counts = Counts::default();
     for component in components {
         if component.len() >= pass.area as usize {

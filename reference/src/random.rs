@@ -40,6 +40,23 @@ impl Random {
         things[self.below(things.len())]
     }
 
+    /// The pixels of a wire one pixel thin in a plane of w by h pixels: each touches the one before at a corner. It
+    /// turns at the plane's edges, and seldom elsewhere. Where a side is 1, it is one pixel.
+    pub fn wire(&mut self, w: usize, h: usize) -> Vec<usize> {
+        let (mut x, mut y) = (self.below(w), self.below(h));
+        let mut wire = vec![y * w + x];
+        if w == 1 || h == 1 {
+            return wire;
+        }
+        let (mut right, mut down) = (self.below(2) == 0, self.below(2) == 0);
+        for _ in 0..self.between(1, w + h) {
+            (x, right) = stepped(x, w, right ^ (self.below(6) == 0));
+            (y, down) = stepped(y, h, down ^ (self.below(6) == 0));
+            wire.push(y * w + x);
+        }
+        wire
+    }
+
     /// A comment of a header without its end: a number sign and so many bytes of any kind, none of them LF or CR.
     pub fn open_comment(&mut self, length: usize) -> Vec<u8> {
         let mut comment = vec![b'#'];
@@ -55,5 +72,30 @@ impl Random {
         let mut comment = self.open_comment(length);
         comment.extend(self.one_of(&COMMENT_ENDS));
         comment
+    }
+}
+
+/// The next place on a side of at least 2, and whether it lies forward: it does if it should and there is one.
+fn stepped(at: usize, side: usize, forward: bool) -> (usize, bool) {
+    let forward = if forward { at + 1 < side } else { at == 0 };
+    (if forward { at + 1 } else { at - 1 }, forward)
+}
+
+#[cfg(test)]
+mod tests {
+    use super::*;
+
+    #[test]
+    fn wires_go_from_corner_to_corner() {
+        let mut random = Random::new(5);
+        for _ in 0..500 {
+            let (w, h) = (random.between(1, 7), random.between(1, 7));
+            let wire = random.wire(w, h);
+            assert!(wire.iter().all(|&p| p < w * h) && (wire.len() > 1) == (w > 1 && h > 1));
+            for pair in wire.windows(2) {
+                let apart = |p: usize, q: usize| ((p % w).abs_diff(q % w), (p / w).abs_diff(q / w));
+                assert_eq!(apart(pair[0], pair[1]), (1, 1));
+            }
+        }
     }
 }

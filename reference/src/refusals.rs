@@ -1,8 +1,9 @@
 //! The tests that several calls share, each answering the number of its refusal.
 
+use crate::components::{EIGHT, FOUR};
 use crate::Rule;
 
-/// The number of a refusal, 1 to 18.
+/// The number of a refusal, 1 to 19.
 pub type Refusal = u8;
 
 /// The greatest width and the greatest height.
@@ -61,4 +62,9 @@ pub(crate) fn rule(rule: &Rule) -> Result<(), Refusal> {
             refuse_if(!possible.contains(&segments) || smin > smax || smax > GREATEST_SLOPE, 18)
         }
     }
+}
+
+/// 19.
+pub(crate) fn neighbours(neighbours: u8) -> Result<(), Refusal> {
+    refuse_if(neighbours != FOUR && neighbours != EIGHT, 19)
 }

@@ -48,7 +48,7 @@ fn enhanced_by_passes(input: &[u8]) -> Vec<u8> {
     intensity(raster, w, h, &mut plane).expect("accepted");
     let first = plane.clone();
     run_passes(&level_by_level(&Settings::HOUSE), &mut plane, n, n, w, h).expect("accepted");
-    assert!(keeps_shapes(&first, &plane, w, h));
+    assert!(keeps_shapes(&first, &plane, w, h, 4));
     let mut colours = vec![0; 3 * n];
     recolour(raster, w, h, &plane, &mut colours).expect("accepted");
     assert_eq!(reversed_channels(raster, &colours), 0);

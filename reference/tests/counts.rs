@@ -34,7 +34,7 @@ fn of_enhancement(greys: &[u8], w: usize, settings: &Settings) -> (u64, u64) {
 
 #[test]
 fn a_component_of_one_value_among_others() {
-    let over = |a, b, area, rule| of_pass(&ISLANDS, 5, &Pass { a, b, area, rule });
+    let over = |a, b, area, rule| of_pass(&ISLANDS, 5, &Pass { a, b, area, rule, neighbours: 4 });
     assert_eq!([1, 2, 3, 4, 5].map(|area| over(0, 127, area, FREE)), [(1, 3), (1, 2), (1, 2), (1, 1), (0, 0)]);
     assert_eq!([1, 2, 3, 4, 5].map(|area| over(0, 127, area, HOUSE)), [(0, 4), (0, 3), (0, 3), (0, 2), (0, 0)]);
     assert_eq!(over(40, 60, 1, FREE), (0, 2));
@@ -48,7 +48,7 @@ fn a_component_of_one_value_among_others() {
 #[test]
 fn the_limited_rule_keeps_nothing() {
     for k in [0, 300, 1_000] {
-        let over = |area| of_pass(&ISLANDS, 5, &Pass { a: 0, b: 127, area, rule: Rule::Limited { k } });
+        let over = |area| of_pass(&ISLANDS, 5, &Pass { a: 0, b: 127, area, rule: Rule::Limited { k }, neighbours: 4 });
         assert_eq!([1, 2, 3, 4, 5].map(over), [(4, 0), (3, 0), (3, 0), (2, 0), (0, 0)]);
     }
 }
@@ -58,7 +58,7 @@ fn the_limited_rule_keeps_nothing() {
 #[test]
 fn the_affine_rule_keeps_what_does_not_reach_the_end() {
     let affine = |segments, smin, smax| Rule::Affine { segments, smin, smax };
-    let over = |a, b, area, rule| of_pass(&ISLANDS, 5, &Pass { a, b, area, rule });
+    let over = |a, b, area, rule| of_pass(&ISLANDS, 5, &Pass { a, b, area, rule, neighbours: 4 });
     let of_areas = |rule| [1, 2, 3, 4, 5].map(|area| over(0, 127, area, rule));
     assert_eq!(of_areas(affine(1, 0, 10_000)), [(4, 0), (3, 0), (3, 0), (2, 0), (0, 0)]);
     assert_eq!(of_areas(affine(2, 0, 10_000)), [(1, 3), (1, 2), (1, 2), (1, 1), (0, 0)]);
@@ -74,7 +74,7 @@ fn the_affine_rule_keeps_what_does_not_reach_the_end() {
 /// It had the rule, which has left every value as it was.
 #[test]
 fn what_comes_out_as_it_was_is_retoned() {
-    let one = Pass { a: 0, b: 1, area: 1, rule: HOUSE };
+    let one = Pass { a: 0, b: 1, area: 1, rule: HOUSE, neighbours: 4 };
     let mut plane = [0, 1, 1];
     assert_eq!(pass(&mut plane, 3, 3, 3, 1, &one), Ok(Counts { retoned: 1, kept: 0 }));
     assert_eq!(plane, [0, 1, 1]);
@@ -89,21 +89,24 @@ fn what_comes_out_as_it_was_is_retoned() {
 fn a_plane_of_one_value() {
     for value in [0, 7, 100, 127, 128, 255] {
         for (last_level, levels) in (0..=7).zip(1..) {
-            let of = |area, rule| of_enhancement(&[value; 64], 8, &Settings { last_level, area, rule });
+            let of = |area, rule| of_enhancement(&[value; 64], 8, &Settings { last_level, area, rule, neighbours: 4 });
             assert_eq!([1, 20, 64].map(|area| of(area, HOUSE)), [(0, levels); 3]);
             assert_eq!([65, 1_048_576].map(|area| of(area, HOUSE)), [(0, 1); 2]);
             assert_eq!([1, 20, 64].map(|area| of(area, Rule::Limited { k: 300 })), [(levels, 0); 3]);
             assert_eq!([65, 1_048_576].map(|area| of(area, Rule::Limited { k: 300 })), [(1, 0); 2]);
         }
     }
-    let of_two = |area| of_enhancement(&[7, 7], 2, &Settings { last_level: 1, area, rule: HOUSE });
+    let of_two = |area| of_enhancement(&[7, 7], 2, &Settings { last_level: 1, area, rule: HOUSE, neighbours: 4 });
     assert_eq!([2, 3].map(of_two), [(0, 2), (0, 1)]);
 }
 
 /// Kept back at level 0, and its dark part retoned at level 1; the bright pixel is kept back from level 1 on.
 #[test]
 fn levels_below_one_that_keeps_back() {
-    let of = |last_level, area| of_enhancement(&[40, 100, 255], 3, &Settings { last_level, area, rule: HOUSE });
+    let of = |last_level, area| {
+        let settings = Settings { last_level, area, rule: HOUSE, neighbours: 4 };
+        of_enhancement(&[40, 100, 255], 3, &settings)
+    };
     assert_eq!((of(0, 1), of(1, 1), of(1, 2)), ((0, 1), (1, 2), (1, 1)));
 }
 
@@ -111,16 +114,17 @@ fn levels_below_one_that_keeps_back() {
 #[test]
 fn a_list_sums_both_counts() {
     let plain = |low, high| Rule::Plain { low, high };
+    let over = |a, b, area, rule| Pass { a, b, area, rule, neighbours: 4 };
     let passes = [
-        Pass { a: 0, b: 127, area: 4, rule: plain(0, 100) },
-        Pass { a: 0, b: 127, area: 1, rule: plain(80, 25_500) },
-        Pass { a: 40, b: 60, area: 1, rule: FREE },
-        Pass { a: 7, b: 7, area: 1, rule: FREE },
-        Pass { a: 200, b: 200, area: 2, rule: HOUSE },
-        Pass { a: 200, b: 200, area: 2, rule: Rule::Limited { k: 500 } },
-        Pass { a: 0, b: 127, area: 3, rule: Rule::Limited { k: 1_000 } },
-        Pass { a: 0, b: 127, area: 1, rule: Rule::Affine { segments: 2, smin: 0, smax: 10_000 } },
-        Pass { a: 0, b: 254, area: 20, rule: Rule::Affine { segments: 1, smin: 50, smax: 300 } },
+        over(0, 127, 4, plain(0, 100)),
+        over(0, 127, 1, plain(80, 25_500)),
+        over(40, 60, 1, FREE),
+        over(7, 7, 1, FREE),
+        over(200, 200, 2, HOUSE),
+        over(200, 200, 2, Rule::Limited { k: 500 }),
+        over(0, 127, 3, Rule::Limited { k: 1_000 }),
+        over(0, 127, 1, Rule::Affine { segments: 2, smin: 0, smax: 10_000 }),
+        over(0, 254, 20, Rule::Affine { segments: 1, smin: 50, smax: 300 }),
     ];
     let mut plane = ISLANDS;
     let mut found = Vec::new();
@@ -140,7 +144,7 @@ fn a_list_sums_both_counts() {
 fn planes_with_many_components_of_one_value() {
     let mut random = Random::new(3);
     let (mut retoned, mut kept) = (0, 0);
-    for _ in 0..400 {
+    for _ in 0..600 {
         let (w, h, block) = (random.between(1, 16), random.between(1, 16), random.between(1, 5));
         let values: Vec<u8> = (0..random.between(1, 6)).map(|_| random.byte()).collect();
         let places: Vec<u8> = (0..256).map(|_| random.one_of(&values)).collect();
@@ -150,9 +154,10 @@ fn planes_with_many_components_of_one_value() {
         let narrow = Rule::Plain { low: 0, high: 100 };
         let rule = random.one_of(&[FREE, HOUSE, narrow, Rule::Limited { k: 100 }, affine]);
         let a = random.one_of(&values);
-        of_pass(&plane, w, &Pass { a, b: a.saturating_add(random.one_of(&[0, 1, 60])), area, rule });
+        let neighbours = random.one_of(&[4, 8]);
+        of_pass(&plane, w, &Pass { a, b: a.saturating_add(random.one_of(&[0, 1, 60])), area, rule, neighbours });
         for last_level in 0..=7 {
-            let counts = of_enhancement(&plane, w, &Settings { last_level, area, rule });
+            let counts = of_enhancement(&plane, w, &Settings { last_level, area, rule, neighbours });
             (retoned, kept) = (retoned + counts.0, kept + counts.1);
         }
     }

@@ -1,4 +1,5 @@
-//! The examples of the requirements (docs/REQUIREMENTS.md), but for S and T, which stand in counts.rs.
+//! The examples of the requirements (docs/REQUIREMENTS.md), but for S and T, which stand in counts.rs, and those with
+//! eight neighbours, which stand in neighbours.rs.
 
 use mlhe_reference::{enhance, intensity, level_by_level, pass, program, recolour, run_list, run_passes};
 use mlhe_reference::{list_bytes, list_passes, Counts, Pass, Rule, Settings};
@@ -14,7 +15,7 @@ fn both(retoned: u64, kept: u64) -> Counts {
 fn run(plane: &[u8], w: usize, a: u8, b: u8, area: u32, rule: Rule) -> (Vec<u8>, Counts) {
     let (n, h) = (plane.len(), plane.len() / w);
     let mut plane = plane.to_vec();
-    let counts = pass(&mut plane, n, n, w, h, &Pass { a, b, area, rule }).expect("accepted");
+    let counts = pass(&mut plane, n, n, w, h, &Pass { a, b, area, rule, neighbours: 4 }).expect("accepted");
     (plane, counts)
 }
 
@@ -23,7 +24,7 @@ fn enhanced(greys: &[u8], last_level: u32, area: u32, rule: Rule) -> (Vec<u8>, C
     let n = greys.len();
     let frame: Vec<u8> = greys.iter().flat_map(|&v| [v, v, v]).collect();
     let (mut plane, mut output) = (vec![0; n], vec![0; 3 * n]);
-    let settings = Settings { last_level, area, rule };
+    let settings = Settings { last_level, area, rule, neighbours: 4 };
     let counts = enhance(&frame, n, 1, &settings, &mut plane, n, n, &mut output).expect("accepted");
     (plane, counts, output)
 }
@@ -173,7 +174,7 @@ fn q_list() {
     assert_eq!(run_list(&list, &mut plane, 5, 5, 5, 1), Ok(both(1, 1)));
     assert_eq!(plane, [64, 127, 200, 10, 10]);
 
-    let passes = [Pass { a: 0, b: 127, area: 1, rule: FREE }];
+    let passes = [Pass { a: 0, b: 127, area: 1, rule: FREE, neighbours: 4 }];
     assert_eq!(list_bytes(&passes), list);
     let mut plane = [10, 20, 200, 10, 10];
     assert_eq!(run_passes(&passes, &mut plane, 5, 5, 5, 1), Ok(both(1, 1)));
@@ -189,7 +190,7 @@ fn a_list_with_the_affine_rule() {
     assert_eq!(plane, [128, 128, 191, 255]);
 
     let rule = Rule::Affine { segments: 2, smin: 100, smax: 10_000 };
-    let passes = [Pass { a: 0, b: 255, area: 1, rule }];
+    let passes = [Pass { a: 0, b: 255, area: 1, rule, neighbours: 4 }];
     assert_eq!(list_bytes(&passes), list);
     assert_eq!(list_passes(&list), Ok(passes.to_vec()));
     let mut plane = [10, 10, 20, 30];
@@ -200,12 +201,8 @@ fn a_list_with_the_affine_rule() {
 #[test]
 fn w_list_of_all_rules() {
     let affine = Rule::Affine { segments: 2, smin: 100, smax: 10_000 };
-    let passes = [(0, 127, FREE), (128, 255, Rule::Limited { k: 10 }), (0, 255, affine)].map(|(a, b, rule)| Pass {
-        a,
-        b,
-        area: 1,
-        rule,
-    });
+    let over = |(a, b, rule)| Pass { a, b, area: 1, rule, neighbours: 4 };
+    let passes = [(0, 127, FREE), (128, 255, Rule::Limited { k: 10 }), (0, 255, affine)].map(over);
     let mut plane = [10, 20, 200, 10, 10];
     assert_eq!(run_list(&list_bytes(&passes), &mut plane, 5, 5, 5, 1), Ok(both(3, 1)));
     assert_eq!(plane, [123, 184, 255, 19, 19]);
@@ -221,14 +218,14 @@ fn lists_read_back() {
         Rule::Affine { segments: 16, smin: 10_000, smax: 10_000 },
         FREE,
     ];
-    let passes: Vec<Pass> = rules.iter().map(|&rule| Pass { a: 1, b: 254, area: 1_048_576, rule }).collect();
-    assert_eq!(list_passes(&list_bytes(&passes)), Ok(passes));
+    let passes = rules.map(|rule| Pass { a: 1, b: 254, area: 1_048_576, rule, neighbours: 4 });
+    assert_eq!(list_passes(&list_bytes(&passes)), Ok(passes.to_vec()));
 }
 
 /// The whole recursion is a list of 255 passes that can be run.
 #[test]
 fn the_recursion_as_a_list() {
-    let passes = level_by_level(&Settings { last_level: 7, area: 1, rule: FREE });
+    let passes = level_by_level(&Settings { last_level: 7, area: 1, rule: FREE, neighbours: 4 });
     assert_eq!(passes.len(), 255);
     let mut plane = [10, 20];
     assert_eq!(run_list(&list_bytes(&passes), &mut plane, 2, 2, 2, 1), Ok(both(8, 0)));

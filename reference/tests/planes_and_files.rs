@@ -28,14 +28,14 @@ fn a_plane_keeps_what_the_recoloured_frame_does_not() {
 
     let (plane, output) = enhanced(&frame);
     assert_eq!(plane, [43, 128, 128, 170, 255, 255]);
-    assert!(keeps_shapes(&first, &plane, 6, 1));
+    assert!(keeps_shapes(&first, &plane, 6, 1, 4));
 
     assert_eq!(output, [0, 0, 0, 128, 128, 128, 128, 128, 128, 0, 0, 255, 255, 255, 255, 255, 255, 255]);
     let own = intensity_of(&output);
     assert_eq!(own, [0, 128, 128, 85, 255, 255]);
-    assert_eq!(reversed_neighbours(&first, &own, 6, 1), 1);
-    assert_eq!((regional_maxima(&first, 6, 1).len(), regional_maxima(&own, 6, 1).len()), (1, 2));
-    assert_eq!((regional_minima(&first, 6, 1).len(), regional_minima(&own, 6, 1).len()), (1, 2));
+    assert_eq!(reversed_neighbours(&first, &own, 6, 1, 4), 1);
+    assert_eq!([&first, &own].map(|plane| regional_maxima(plane, 6, 1, 4).len()), [1, 2]);
+    assert_eq!([&first, &own].map(|plane| regional_minima(plane, 6, 1, 4).len()), [1, 2]);
 }
 
 /// All grey rows of four pixels over some values: each channel is the plane's value, but black stays black.
@@ -52,7 +52,7 @@ fn of_a_grey_frame_the_file_keeps_it_too() {
         let own: Vec<u8> = greys.iter().zip(&plane).map(black_kept).collect();
         assert_eq!(output, own.iter().flat_map(|&v| [v; 3]).collect::<Vec<u8>>());
         assert_eq!(intensity_of(&output), own);
-        assert!(keeps_shapes(&greys, &own, 4, 1));
+        assert!(keeps_shapes(&greys, &own, 4, 1, 4));
     }
 }
 

@@ -32,7 +32,9 @@ fn compare(greys: &[u8], w: usize, settings: &Settings) {
     assert_eq!((&plane, counts), (&last, sums), "{greys:?}, {w} columns, {settings:?}");
     let all = sufficient_in_all(&passes, greys, w, h);
     assert_eq!(counts.together(), all, "{greys:?}, {w} columns, {settings:?}");
-    assert!(keeps_shapes(greys, &plane, w, h), "{greys:?}, {w} columns, {settings:?}");
+    assert!(keeps_shapes(greys, &plane, w, h, 4), "{greys:?}, {w} columns, {settings:?}");
+    let by_eight = settings.neighbours == 8;
+    assert!(!by_eight || keeps_shapes(greys, &plane, w, h, 8), "{greys:?}, {w} columns, {settings:?}");
 }
 
 /// Every plane of w by h pixels with these values.
@@ -45,13 +47,17 @@ fn every_plane(w: usize, h: usize, values: &[u8], mut tell: impl FnMut(&[u8])) {
     }
 }
 
-/// Every plane of this size with these values, every rule and every one of these levels and areas.
+/// Every plane of this size with these values, every rule and every one of these levels and areas. Both numbers of
+/// neighbours, where pixels can touch at a corner.
 fn exhaust(w: usize, h: usize, values: &[u8], levels: &[u32], areas: &[u32]) {
+    let numbers: &[u8] = if w > 1 && h > 1 { &[4, 8] } else { &[4] };
     every_plane(w, h, values, |plane| {
         for &last_level in levels {
             for &area in areas {
                 for rule in RULES {
-                    compare(plane, w, &Settings { last_level, area, rule });
+                    for &neighbours in numbers {
+                        compare(plane, w, &Settings { last_level, area, rule, neighbours });
+                    }
                 }
             }
         }
@@ -93,11 +99,18 @@ fn three_by_three_of_two_values() {
     exhaust(3, 3, &[40, 90], &[7], &[1, 3]);
 }
 
-/// A random plane with flat zones, steps and grain.
-fn random_plane(random: &mut Random, n: usize) -> Vec<u8> {
+/// A random plane of w columns with flat zones, steps, grain and thin wires.
+fn random_plane(random: &mut Random, w: usize, n: usize) -> Vec<u8> {
     let values: Vec<u8> = (0..random.between(1, 12)).map(|_| random.byte()).collect();
     let grain = random.one_of(&[1, 1, 3, 20]);
-    (0..n).map(|_| random.one_of(&values).saturating_add(random.below(grain) as u8)).collect()
+    let mut plane: Vec<u8> = (0..n).map(|_| random.one_of(&values).saturating_add(random.below(grain) as u8)).collect();
+    for _ in 0..random.below(3) {
+        let value = random.byte();
+        for p in random.wire(w, n / w) {
+            plane[p] = value.saturating_add(random.below(grain) as u8);
+        }
+    }
+    plane
 }
 
 fn random_rule(random: &mut Random) -> Rule {
@@ -119,42 +132,73 @@ fn larger_planes_at_random() {
     let mut random = Random::new(1);
     for _ in 0..600 {
         let (w, h) = (random.between(1, 24), random.between(1, 24));
-        let plane = random_plane(&mut random, w * h);
+        let plane = random_plane(&mut random, w, w * h);
         let settings = Settings {
             last_level: random.between(0, 7) as u32,
             area: random.one_of(&[1, 2, 3, 5, 20, 100]),
             rule: random_rule(&mut random),
+            neighbours: random.one_of(&[4, 8]),
         };
         compare(&plane, w, &settings);
     }
 }
 
-/// A chain from the intensities of a coloured frame, with refused calls among its calls.
+/// A call of a chain, with this number of neighbours or, seldom, with one that is refused.
+fn random_call(random: &mut Random, neighbours: u8) -> Pass {
+    let neighbours = if random.below(12) == 0 { random.one_of(&[0, 3, 5, 7, 9, 12, 255]) } else { neighbours };
+    let (a, b) = (random.byte(), random.byte());
+    Pass { a, b, area: random.between(0, 5) as u32, rule: random_rule(random), neighbours }
+}
+
+/// What a call of a chain is refused with.
+fn expected_refusal(call: &Pass) -> Option<u8> {
+    if call.a > call.b {
+        Some(5)
+    } else if call.area == 0 {
+        Some(6)
+    } else {
+        (!matches!(call.neighbours, 4 | 8)).then_some(19)
+    }
+}
+
+/// Chains from the intensities of frames, grey and coloured, with refused calls among their calls. A third of them
+/// mixes four neighbours and eight. All keep the shapes by four neighbours, and those whose accepted calls all have
+/// eight keep them by eight.
 #[test]
 fn chains_at_random() {
     let mut random = Random::new(2);
-    for _ in 0..600 {
+    let mut parted_by_eight = 0;
+    for _ in 0..900 {
         let (w, h) = (random.between(1, 12), random.between(1, 12));
         let n = w * h;
-        let frame = random_plane(&mut random, 3 * n);
+        let frame = match random.below(3) {
+            0 => random_plane(&mut random, w, 3 * n),
+            _ => random_plane(&mut random, w, n).iter().flat_map(|&v| [v; 3]).collect(),
+        };
         let mut plane = vec![0; n];
         intensity(&frame, w, h, &mut plane).expect("accepted");
         let first = plane.clone();
+        let numbers = random.one_of(&[&[4][..], &[8], &[4, 8]]);
+        let mut all_eight = true;
         for _ in 0..random.between(0, 8) {
-            let (a, b) = (random.byte(), random.byte());
-            let call = Pass { a, b, area: random.between(0, 5) as u32, rule: random_rule(&mut random) };
+            let number = random.one_of(numbers);
+            let call = random_call(&mut random, number);
             let before = plane.clone();
             let answer = pass(&mut plane, n, n + random.below(3), w, h, &call);
-            let expected = if a > b { Some(5) } else { (call.area == 0).then_some(6) };
-            assert_eq!(answer.err(), expected);
+            assert_eq!(answer.err(), expected_refusal(&call));
+            all_eight &= answer.is_err() || call.neighbours == 8;
             match answer {
                 Ok(counts) => assert_eq!(counts.together(), sufficient(&before, w, h, &call)),
                 Err(_) => assert_eq!(plane, before),
             }
         }
-        assert!(keeps_shapes(&first, &plane, w, h));
+        assert!(keeps_shapes(&first, &plane, w, h, 4));
+        let by_eight = keeps_shapes(&first, &plane, w, h, 8);
+        assert!(by_eight || !all_eight);
+        parted_by_eight += usize::from(!by_eight);
         let mut output = vec![0; 3 * n];
         recolour(&frame, w, h, &plane, &mut output).expect("accepted");
         assert_eq!(reversed_channels(&frame, &output), 0);
     }
+    assert!(parted_by_eight > 30, "{parted_by_eight}");
 }

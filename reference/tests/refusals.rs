@@ -6,7 +6,7 @@ use mlhe_reference::{enhance, intensity, list_bytes, pass, program, read, recolo
 use mlhe_reference::{Counts, Frame, Pass, Rule, Settings, GREATEST_PIXELS};
 
 const FREE: Rule = Rule::Plain { low: 0, high: 25_500 };
-const SOUND: Pass = Pass { a: 0, b: 255, area: 1, rule: FREE };
+const SOUND: Pass = Pass { a: 0, b: 255, area: 1, rule: FREE, neighbours: 4 };
 
 /// Numbers of the affine rule that are refused.
 const WRONG_SLOPES: [Rule; 7] = [
@@ -77,7 +77,7 @@ fn sound_call() -> Call {
         output: 12,
         list: list_bytes(&[SOUND, SOUND]),
         pass: SOUND,
-        settings: Settings { last_level: 7, area: 20, rule: FREE },
+        settings: Settings { last_level: 7, area: 20, rule: FREE, neighbours: 8 },
     }
 }
 
@@ -157,7 +157,7 @@ fn intensity_1_2_3() {
 }
 
 #[test]
-fn pass_1_to_8_and_18() {
+fn pass_1_to_8_18_19() {
     let faults: Vec<Fault<Call>> = vec![
         NO_WIDTH,
         NO_HEIGHT,
@@ -179,6 +179,9 @@ fn pass_1_to_8_and_18() {
         (18, |call| call.pass.rule = WRONG_SLOPES[0]),
         (18, |call| call.pass.rule = WRONG_SLOPES[3]),
         (18, |call| call.pass.rule = WRONG_SLOPES[5]),
+        (19, |call| call.pass.neighbours = 0),
+        (19, |call| call.pass.neighbours = 5),
+        (19, |call| call.pass.neighbours = 255),
     ];
     faults_answer_in_order(&sound_call(), &faults, &APART, run_pass);
 }
@@ -191,7 +194,7 @@ fn recolour_1_2_3_14() {
 }
 
 #[test]
-fn enhancement_1_2_3_4_14_9_6_7_8_18() {
+fn enhancement_1_2_3_4_14_9_6_7_8_18_19() {
     let faults: Vec<Fault<Call>> = vec![
         NO_WIDTH,
         NO_HEIGHT,
@@ -216,6 +219,9 @@ fn enhancement_1_2_3_4_14_9_6_7_8_18() {
         (18, |call| call.settings.rule = WRONG_SLOPES[1]),
         (18, |call| call.settings.rule = WRONG_SLOPES[4]),
         (18, |call| call.settings.rule = WRONG_SLOPES[6]),
+        (19, |call| call.settings.neighbours = 0),
+        (19, |call| call.settings.neighbours = 7),
+        (19, |call| call.settings.neighbours = 9),
     ];
     faults_answer_in_order(&sound_call(), &faults, &APART, run_enhance);
 }
@@ -343,7 +349,7 @@ fn lists_of_1024_and_1025_passes() {
     }
 }
 
-/// 1 to 4, 16, then each pass 5, 6, 7, 8, 18.
+/// 1 to 4, 16, then each pass 5, 6, 7, 8, 18, 19.
 #[test]
 fn passes_in_memory() {
     let run = |passes: &[Pass], plane: usize, marks: usize, w: usize| {
@@ -362,8 +368,14 @@ fn passes_in_memory() {
         (8, Pass { rule: Rule::Limited { k: 1_001 }, ..SOUND }),
         (18, Pass { rule: WRONG_SLOPES[2], ..SOUND }),
         (18, Pass { rule: WRONG_SLOPES[5], ..SOUND }),
+        (6, Pass { area: 0, neighbours: 3, ..SOUND }),
+        (7, Pass { rule: Rule::Plain { low: 81, high: 80 }, neighbours: 5, ..SOUND }),
+        (8, Pass { rule: Rule::Limited { k: 1_001 }, neighbours: 7, ..SOUND }),
+        (18, Pass { rule: WRONG_SLOPES[1], neighbours: 9, ..SOUND }),
+        (19, Pass { neighbours: 255, ..SOUND }),
     ];
     assert_eq!(run(&[SOUND], 4, 4, 2), Ok(1));
+    assert_eq!(run(&[SOUND, Pass { neighbours: 8, ..SOUND }], 4, 4, 2), Ok(2));
     assert_eq!(run(&[], 4, 4, 2), Ok(0));
     assert_eq!(run(&[], 4, 3, 2), Err(4));
     assert_eq!(run(&[], 5, 3, 2), Err(3));
@@ -430,6 +442,20 @@ fn numbers_of_the_affine_rule() {
         for (smin, smax) in [(0, 0), (0, 10_000), (300, 300), (10_000, 10_000)] {
             assert_eq!(run(Rule::Affine { segments, smin, smax }), Ok(1));
         }
+    }
+}
+
+/// 4 and 8 are accepted, and no other number.
+#[test]
+fn numbers_of_neighbours() {
+    for neighbours in 0..=255 {
+        let expected = if neighbours == 4 || neighbours == 8 { Ok(1) } else { Err(19) };
+        let mut call = sound_call();
+        (call.pass.neighbours, call.settings.neighbours, call.settings.last_level) = (neighbours, neighbours, 0);
+        assert_eq!(run_pass(&call), expected);
+        assert_eq!(run_enhance(&call), expected);
+        let passes = [Pass { neighbours, ..SOUND }];
+        assert_eq!(run_passes(&passes, &mut bytes(4), 4, 4, 2, 2).map(Counts::together), expected);
     }
 }
 
@@ -678,4 +704,5 @@ fn the_table() {
     list[9] = 3;
     assert_eq!(run_list(&list, &mut one, 1, 1, 1, 1), Err(17));
     assert_eq!(pass(&mut one, 1, 1, 1, 1, &Pass { rule: WRONG_SLOPES[0], ..SOUND }), Err(18));
+    assert_eq!(pass(&mut one, 1, 1, 1, 1, &Pass { neighbours: 5, ..SOUND }), Err(19));
 }

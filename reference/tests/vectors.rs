@@ -1,6 +1,6 @@
 //! The stored test cases are what the generator makes, and they show what they are meant to show.
 
-use mlhe_reference::cases::{answers, cases, encode, rule_of, Case, Kind};
+use mlhe_reference::cases::{answers, cases, encode, passes_bytes, passes_of, rule_of, Case, Kind};
 use mlhe_reference::{intensity, level_by_level, list_passes, sufficient_in_all, Pass, Rule, Settings};
 use std::collections::{BTreeMap, BTreeSet};
 use std::fs;
@@ -46,12 +46,12 @@ fn the_stored_files_are_what_the_generator_makes() {
 fn every_refusal_of_every_call_is_there() {
     let refusals: [(Kind, &[u8]); 9] = [
         (Kind::Intensity, &[1, 2, 3]),
-        (Kind::Pass, &[1, 2, 3, 4, 5, 6, 7, 8, 18]),
+        (Kind::Pass, &[1, 2, 3, 4, 5, 6, 7, 8, 18, 19]),
         (Kind::Recolour, &[1, 2, 3, 14]),
-        (Kind::Enhance, &[1, 2, 3, 4, 6, 7, 8, 9, 14, 18]),
+        (Kind::Enhance, &[1, 2, 3, 4, 6, 7, 8, 9, 14, 18, 19]),
         (Kind::House, &[1, 2, 3, 4, 14]),
         (Kind::List, &[1, 2, 3, 4, 5, 6, 7, 8, 15, 16, 17, 18]),
-        (Kind::Passes, &[1, 2, 3, 4, 5, 6, 7, 8, 16, 18]),
+        (Kind::Passes, &[1, 2, 3, 4, 5, 6, 7, 8, 16, 18, 19]),
         (Kind::Read, &[1, 2, 10, 11, 12, 13]),
         (Kind::Write, &[1, 2, 3, 14]),
     ];
@@ -92,29 +92,32 @@ fn every_level_shows() {
 #[test]
 fn every_number_of_the_house_setting_shows() {
     let (cases, lines) = stored_of(Kind::House);
-    let written_out = |last_level: u8, area: u32, numbers: [u16; 2]| -> usize {
+    let written_out = |last_level: u8, area: u32, numbers: [u16; 2], neighbours: u8| -> usize {
         let begins = |case: &Case, line: &String| {
-            let case = Case { kind: Kind::Enhance, last_level, area, rule: 0, numbers, ..case.clone() };
+            let case = Case { kind: Kind::Enhance, last_level, area, rule: 0, numbers, neighbours, ..case.clone() };
             line.starts_with(&(answers(&encode(&case)).trim_end().to_string() + " "))
         };
         cases.iter().zip(&lines).filter(|(case, line)| begins(case, line)).count()
     };
-    assert_eq!(written_out(7, 20, [80, 300]), cases.len());
-    for (last_level, area, low, high) in [
-        (6, 20, 80, 300),
-        (7, 19, 80, 300),
-        (7, 21, 80, 300),
-        (7, 20, 79, 300),
-        (7, 20, 81, 300),
-        (7, 20, 80, 299),
-        (7, 20, 80, 303),
+    assert_eq!(written_out(7, 20, [80, 300], 4), cases.len());
+    for (last_level, area, low, high, neighbours) in [
+        (6, 20, 80, 300, 4),
+        (7, 19, 80, 300, 4),
+        (7, 21, 80, 300, 4),
+        (7, 20, 79, 300, 4),
+        (7, 20, 81, 300, 4),
+        (7, 20, 80, 299, 4),
+        (7, 20, 80, 303, 4),
+        (7, 20, 80, 300, 8),
     ] {
-        assert!(written_out(last_level, area, [low, high]) < cases.len(), "{last_level} {area} {low} {high}");
+        let same = written_out(last_level, area, [low, high], neighbours);
+        assert!(same < cases.len(), "{last_level} {area} {low} {high} {neighbours}");
     }
+    assert!(lines.iter().all(|line| line.ends_with(" 7 20 80 300 4")));
 }
 
-/// All rules retone; the plain rule keeps back by each of its limits; each number of the affine rule and the area
-/// decide.
+/// All rules retone; the plain rule keeps back by each of its limits; each number of the affine rule, the area and the
+/// number of neighbours decide.
 #[test]
 fn every_part_of_a_pass_shows() {
     let (cases, lines) = stored_of(Kind::Pass);
@@ -139,6 +142,9 @@ fn every_part_of_a_pass_shows() {
     assert!(differs(|case| case.numbers[0] = case.numbers[1], 2) > 10);
     assert!(differs(|case| case.numbers[1] = case.numbers[0], 2) > 10);
     assert!(differs(|case| case.numbers[1] = 10_000, 2) > 10);
+    for rule in 0..=2 {
+        assert!(differs(|case| case.neighbours = 12 - case.neighbours, rule) > 10, "rule {rule}");
+    }
     assert!(accepted.iter().any(|(case, _)| case.plane.len() == usize::from(case.marks) && case.w == 16));
     for (rule, many) in [(0, 9), (1, 9), (2, 2)] {
         assert!(accepted.iter().any(|(case, line)| case.rule == rule && counts(line)[0] > many), "rule {rule}");
@@ -180,12 +186,13 @@ fn both_counts_together_are_all_of_sufficient_area() {
     for kind in [Kind::Pass, Kind::Enhance] {
         let (cases, lines) = stored_of(kind);
         for (case, line) in cases.iter().zip(&lines).filter(|(_, line)| line.starts_with('+')) {
-            let (w, h, area) = (case.w as usize, case.h as usize, case.area);
+            let (w, h, area, neighbours) = (case.w as usize, case.h as usize, case.area, case.neighbours);
             let mut first = case.plane.clone();
-            let mut passes = vec![Pass { a: case.a, b: case.b, area, rule: rule(case) }];
+            let mut passes = vec![Pass { a: case.a, b: case.b, area, rule: rule(case), neighbours }];
             if kind == Kind::Enhance {
                 intensity(&case.bytes, w, h, &mut first).expect("accepted");
-                passes = level_by_level(&Settings { last_level: case.last_level.into(), area, rule: rule(case) });
+                let last_level = case.last_level.into();
+                passes = level_by_level(&Settings { last_level, area, rule: rule(case), neighbours });
             }
             let [retoned, kept] = counts(line);
             assert_eq!(retoned + kept, sufficient_in_all(&passes, &first, w, h), "{case:?}");
@@ -221,6 +228,52 @@ fn rules_are_mixed() {
         let pairs: BTreeSet<&[u8]> = runs.iter().flat_map(|run| run.windows(2)).collect();
         assert_eq!(pairs.len(), 9);
     }
+}
+
+/// Some accepted passes in memory and some chain have passes with four neighbours and with eight, and each number
+/// follows each.
+#[test]
+fn numbers_of_neighbours_are_mixed() {
+    let (cases, lines) = stored_of(Kind::Passes);
+    let accepted = cases.iter().zip(&lines).filter(|(_, line)| line.starts_with('+'));
+    let lists: Vec<Vec<u8>> =
+        accepted.map(|(case, _)| passes_of(&case.bytes).iter().map(|pass| pass.neighbours).collect()).collect();
+    let (cases, lines) = stored_calls();
+    let calls: Vec<(&Case, &String)> = cases.iter().zip(&lines).collect();
+    let chains: Vec<Vec<u8>> = calls
+        .split(|(case, line)| case.kind != Kind::Pass || !case.same_plane || line.starts_with('-'))
+        .map(|chain| chain.iter().map(|(case, _)| case.neighbours).collect())
+        .collect();
+    for runs in [lists, chains] {
+        let pairs: BTreeSet<&[u8]> = runs.iter().flat_map(|run| run.windows(2)).collect();
+        assert_eq!(pairs, BTreeSet::from([&[4, 4][..], &[4, 8], &[8, 4], &[8, 8]]));
+    }
+}
+
+/// At every level from 1 on some enhancement with eight neighbours is answered otherwise than with four; so are many
+/// lists in memory, and many lists in files would be.
+#[test]
+fn eight_neighbours_show() {
+    let (cases, lines) = stored_of(Kind::Enhance);
+    for last_level in 1..=7 {
+        let differs = |(case, line): &(&Case, &String)| {
+            let four = Case { neighbours: 4, ..(*case).clone() };
+            case.neighbours == 8 && case.last_level == last_level && answers(&encode(&four)).trim_end() != *line
+        };
+        assert!(cases.iter().zip(&lines).any(|pair| differs(&pair)), "level {last_level}");
+    }
+    let differs = |case: &Case, passes: &[Pass], line: &String, neighbours: u8| {
+        let other: Vec<Pass> = passes.iter().map(|&pass| Pass { neighbours, ..pass }).collect();
+        let case = Case { kind: Kind::Passes, bytes: passes_bytes(&other), ..case.clone() };
+        line.starts_with('+') && answers(&encode(&case)).trim_end() != line
+    };
+    let (cases, lines) = stored_of(Kind::Passes);
+    let would = |(case, line): &(&Case, &String)| differs(case, &passes_of(&case.bytes), line, 4);
+    assert!(cases.iter().zip(&lines).filter(would).count() > 20);
+    let (cases, lines) = stored_of(Kind::List);
+    let would =
+        |(case, line): &(&Case, &String)| list_passes(&case.bytes).is_ok_and(|list| differs(case, &list, line, 8));
+    assert!(cases.iter().zip(&lines).filter(would).count() > 30);
 }
 
 /// A chain starts with intensity and goes on with the same plane, through passes to recolouring.

@@ -125,7 +125,7 @@ impl Frame {
     }
 
     /// The frame, enhanced. Refusals, in order: [`Refusal::Level`], [`Refusal::Area`], [`Refusal::Limits`],
-    /// [`Refusal::Clip`], [`Refusal::Slopes`].
+    /// [`Refusal::Clip`], [`Refusal::Slopes`], [`Refusal::Neighbours`].
     ///
     /// ```
     /// use mlhe::{Counts, Frame, Memory, Refusal, Rule, Settings};

@@ -63,7 +63,8 @@ pub fn intensity(frame: &[u8], w: usize, h: usize, plane: &mut [u8]) -> Result<(
     Refusal::of_answer(answer).map(|_| ())
 }
 
-/// Runs one pass over a plane and answers the numbers of retoned and kept components. Refusals, in order: 1 to 8, 18.
+/// Runs one pass over a plane and answers the numbers of retoned and kept components. Refusals, in order: 1 to 8, 18,
+/// 19.
 pub fn pass(
     plane: &mut [u8],
     marks: &mut [u8],
@@ -72,7 +73,7 @@ pub fn pass(
     h: usize,
     pass: &Pass,
 ) -> Result<Counts, Refusal> {
-    let rule = pass.rule.lent();
+    let rule = pass.rule.lent(pass.neighbours);
     let mut counts = [0; 2];
     // SAFETY: each pointer goes with the length of its memory; what is writable is borrowed alone.
     let answer = unsafe {
@@ -97,9 +98,9 @@ pub fn pass(
     Refusal::of_answer(answer).map(|_| Counts::of_lent(counts))
 }
 
-/// Runs the passes of a list in its file format and answers the sums of their counts. All records are checked before
-/// the first pass runs. Refusals, in order: 1 to 4, 16 (fewer than 7 bytes), 15, 16, then for each record 17, 5, 6, 7,
-/// 8, 18.
+/// Runs the passes of a list in its file format, all with four neighbours, and answers the sums of their counts. All
+/// records are checked before the first pass runs. Refusals, in order: 1 to 4, 16 (fewer than 7 bytes), 15, 16, then
+/// for each record 17, 5, 6, 7, 8, 18.
 pub fn run_list(
     list: &[u8],
     plane: &mut [u8],
@@ -150,7 +151,7 @@ pub fn recolour(frame: &[u8], w: usize, h: usize, plane: &[u8], output: &mut [u8
 
 /// Enhances a frame: the new intensity is left in the plane and the recoloured frame in the output. The guarantee is of
 /// the plane, not of the output's own intensity. Answers the numbers of retoned and kept components, on all levels.
-/// Refusals, in order: 1, 2, 3, 4, 14, 9, 6, 7, 8, 18.
+/// Refusals, in order: 1, 2, 3, 4, 14, 9, 6, 7, 8, 18, 19.
 #[allow(clippy::too_many_arguments)]
 pub fn enhance(
     frame: &[u8],
@@ -162,7 +163,7 @@ pub fn enhance(
     queue: &mut [u32],
     output: &mut [u8],
 ) -> Result<Counts, Refusal> {
-    let rule = settings.rule.lent();
+    let rule = settings.rule.lent(settings.neighbours);
     let mut counts = [0; 2];
     // SAFETY: each pointer goes with the length of its memory; what is writable is borrowed alone.
     let answer = unsafe {

@@ -7,17 +7,21 @@
 //!
 //! Of the **plane**: whatever passes a [`Plane`] goes through, one after the other, equal four-neighbours stay equal,
 //! unequal ones are never reversed, and each regional maximum or minimum contains a whole one of the first plane; so
-//! there are no more of either. An enhancement leaves such a plane of the frame's intensity, [`Enhanced::plane`].
+//! there are no more of either. Passes with four and with eight neighbours may be mixed. Where all of them have eight,
+//! the same holds by eight neighbours too. An enhancement leaves such a plane of the frame's intensity,
+//! [`Enhanced::plane`], by eight neighbours too where it has eight.
 //!
 //! Not of the recoloured frame, [`Enhanced::frame`]: recolouring holds a channel at 255 and rounds, so that its own
 //! intensity is another plane, in which neighbours may be reversed and spots be new. **Match spots on the plane, not on
-//! the recoloured frame.** Where all pixels of the frame are grey, the same holds of the recoloured frame's own
-//! intensity too.
+//! the recoloured frame.** Where all pixels of the frame are grey, the same holds by four neighbours of the recoloured
+//! frame's own intensity too.
 //!
 //! # What there is
 //!
 //! - [`Frame`] and [`Plane`] own their bytes and always have the length of their sides.
 //! - [`Pass`], [`Rule`] and [`Settings`] say what to do, and [`PassList`] is a list of passes that has been checked.
+//!   With eight neighbours, by [`Pass::with_neighbours`] and [`Settings::with_neighbours`], pixels that touch at a
+//!   corner belong together.
 //! - [`Counts`] is what passes and enhancements count: the components that were retoned, and those that were kept back.
 //! - [`Memory`] is working memory, to be used again from call to call.
 //! - [`Refusal`] says why a call is turned down.

@@ -1,6 +1,6 @@
 //! Passes, their tone rules, and lists of passes.
 
-use crate::{lent, Refusal};
+use crate::{lent, Refusal, GREATEST_PASSES};
 
 /// A tone rule with its own numbers. A later version may have more rules.
 #[derive(Clone, Copy, Debug, PartialEq, Eq, Hash)]
@@ -54,15 +54,32 @@ impl Rule {
         }
     }
 
-    /// The same numbers, as a C function is lent them.
-    pub(crate) fn lent(self) -> [u16; 4] {
+    /// The same numbers with that of the neighbours, as a C function is lent them.
+    pub(crate) fn lent(self, neighbours: u8) -> [u16; 5] {
         let (code, first, second, segments) = self.numbers();
-        [code.into(), first, second, segments.into()]
+        [code.into(), first, second, segments.into(), neighbours.into()]
     }
 }
 
 /// A pass: every component of the pixels with values from `a` to `b` that has at least `area` pixels gets the rule. A
-/// later version may have more to tell a pass, so it is made by [`Pass::new`].
+/// component is connected by four neighbours, which differ by one in one coordinate and agree in the other, or by
+/// eight, which differ by at most one in each: with eight, pixels that touch at a corner belong together. A later
+/// version may have more to tell a pass, so it is made by [`Pass::new`] and [`Pass::with_neighbours`].
+///
+/// ```
+/// use mlhe::{Counts, Memory, Pass, Plane, Refusal, Rule};
+///
+/// // Two dark pixels that touch at a corner: two components of one value each, or one component of both.
+/// let mut plane = Plane::new(2, 2, vec![10, 200, 200, 20])?;
+/// let dark = Pass::new(0, 127, 1, Rule::Plain { low: 0, high: 25_500 });
+/// let mut memory = Memory::new();
+/// assert_eq!(plane.pass(&dark, &mut memory)?, Counts { retoned: 0, kept: 2 });
+/// assert_eq!(plane.values(), [10, 200, 200, 20]);
+/// assert_eq!(plane.pass(&dark.with_neighbours(8), &mut memory)?, Counts { retoned: 1, kept: 0 });
+/// assert_eq!(plane.values(), [64, 200, 200, 127]);
+/// assert_eq!(plane.pass(&dark.with_neighbours(6), &mut memory), Err(Refusal::Neighbours));
+/// # Ok::<(), Refusal>(())
+/// ```
 #[derive(Clone, Copy, Debug, PartialEq, Eq, Hash)]
 #[non_exhaustive]
 pub struct Pass {
@@ -74,18 +91,52 @@ pub struct Pass {
     pub area: u32,
     /// The tone rule.
     pub rule: Rule,
+    /// How many neighbours a pixel has: 4 or 8.
+    pub neighbours: u8,
 }
 
 impl Pass {
-    /// A pass of these numbers. A call refuses those that are out of range.
+    /// A pass of these numbers, with four neighbours. A call refuses those that are out of range.
     #[must_use]
     pub const fn new(a: u8, b: u8, area: u32, rule: Rule) -> Pass {
-        Pass { a, b, area, rule }
+        Pass { a, b, area, rule, neighbours: 4 }
+    }
+
+    /// The same with another number of neighbours: 4 or 8. A call refuses any other.
+    #[must_use]
+    pub const fn with_neighbours(self, neighbours: u8) -> Pass {
+        Pass { neighbours, ..self }
+    }
+
+    /// The pass of a record that the library accepts.
+    fn of_record(record: &[u8]) -> Pass {
+        let half = |at: usize| u16::from_le_bytes([record[at], record[at + 1]]);
+        let rule = match record[2] {
+            0 => Rule::Plain { low: half(8), high: half(10) },
+            1 => Rule::Limited { k: half(8) },
+            _ => Rule::Affine { segments: record[3], smin: half(8), smax: half(10) },
+        };
+        let area = u32::from_le_bytes([record[4], record[5], record[6], record[7]]);
+        Pass::new(record[0], record[1], area, rule)
+    }
+
+    /// The record of the pass, which has no place for the neighbours.
+    fn to_record(self) -> [u8; RECORD] {
+        let (code, first, second, segments) = self.rule.numbers();
+        let ([f, g], [s, t]) = (first.to_le_bytes(), second.to_le_bytes());
+        let [i, j, k, l] = self.area.to_le_bytes();
+        [self.a, self.b, code, segments, i, j, k, l, f, g, s, t]
     }
 }
 
-/// Passes to run one after the other, checked: none of them is refused. At most
-/// [`GREATEST_PASSES`](crate::GREATEST_PASSES).
+/// The bytes before the first record of a list, and those of a record.
+const HEAD: usize = 7;
+const RECORD: usize = 12;
+
+/// Passes to run one after the other, checked: none of them is refused. At most [`GREATEST_PASSES`].
+///
+/// A list in memory carries the neighbours of each pass. Its file format, of version 1, has no place for them and means
+/// four.
 ///
 /// ```
 /// use mlhe::{Counts, Memory, Pass, PassList, Plane, Refusal, Rule};
@@ -98,45 +149,71 @@ impl Pass {
 /// assert_eq!(plane.values(), [64, 127, 200, 10, 10]);
 ///
 /// // The file format, and back.
-/// assert_eq!(PassList::from_bytes(list.bytes())?, list);
+/// let bytes = list.bytes().expect("all its passes have four neighbours");
+/// assert_eq!(PassList::from_bytes(bytes)?, list);
 /// assert_eq!(PassList::from_bytes(b"MLQ\x01\0\0\0"), Err(Refusal::ListMark));
 /// assert_eq!(PassList::new(&[Pass::new(9, 8, 1, rule)]), Err(Refusal::Interval));
+///
+/// // A list in memory may have eight neighbours.
+/// let mixed = PassList::new(&[dark, dark.with_neighbours(8)])?;
+/// let mut plane = Plane::new(2, 2, vec![10, 200, 200, 20])?;
+/// assert_eq!(plane.run(&mixed, &mut Memory::new()), Counts { retoned: 1, kept: 2 });
+/// assert_eq!(plane.values(), [64, 200, 200, 127]);
+/// assert_eq!((mixed.passes()[1].neighbours, mixed.bytes()), (8, None));
+/// assert_eq!(PassList::new(&[dark.with_neighbours(9)]), Err(Refusal::Neighbours));
 /// # Ok::<(), Refusal>(())
 /// ```
 #[derive(Clone, Debug, PartialEq, Eq, Hash)]
 pub struct PassList {
-    bytes: Vec<u8>,
+    passes: Vec<Pass>,
+    /// The list in its file format, where that has a place for all of it.
+    bytes: Option<Vec<u8>>,
 }
 
 impl PassList {
     /// The list of these passes. Refusals, in order: [`Refusal::ListLength`] for more than 1,024; then for each pass
-    /// [`Refusal::Interval`], [`Refusal::Area`], [`Refusal::Limits`], [`Refusal::Clip`], [`Refusal::Slopes`].
+    /// [`Refusal::Interval`], [`Refusal::Area`], [`Refusal::Limits`], [`Refusal::Clip`], [`Refusal::Slopes`],
+    /// [`Refusal::Neighbours`].
     pub fn new(passes: &[Pass]) -> Result<PassList, Refusal> {
-        let count = u16::try_from(passes.len()).map_err(|_| Refusal::ListLength)?;
-        let mut bytes = b"MLP\x01\x00".to_vec();
-        bytes.extend(count.to_le_bytes());
-        for pass in passes {
-            let (code, first, second, segments) = pass.rule.numbers();
-            bytes.extend([pass.a, pass.b, code, segments]);
-            bytes.extend(pass.area.to_le_bytes());
-            bytes.extend(first.to_le_bytes());
-            bytes.extend(second.to_le_bytes());
+        if passes.len() > GREATEST_PASSES {
+            return Err(Refusal::ListLength);
         }
-        PassList::from_bytes(&bytes)
+        for pass in passes {
+            // The library checks the numbers of a pass before it runs, so one pixel is enough to have them checked.
+            lent::pass(&mut [0], &mut [0], &mut [0], 1, 1, pass)?;
+        }
+        let all_four = passes.iter().all(|pass| pass.neighbours == 4);
+        Ok(PassList { passes: passes.to_vec(), bytes: all_four.then(|| written(passes)) })
     }
 
-    /// A list in its file format. Refusals, in order: [`Refusal::ListLength`] for fewer than 7 bytes,
-    /// [`Refusal::ListMark`], [`Refusal::ListLength`]; then for each record [`Refusal::Rule`], [`Refusal::Interval`],
-    /// [`Refusal::Area`], [`Refusal::Limits`], [`Refusal::Clip`], [`Refusal::Slopes`].
+    /// A list in its file format, whose passes have four neighbours. Refusals, in order: [`Refusal::ListLength`] for
+    /// fewer than 7 bytes, [`Refusal::ListMark`], [`Refusal::ListLength`]; then for each record [`Refusal::Rule`],
+    /// [`Refusal::Interval`], [`Refusal::Area`], [`Refusal::Limits`], [`Refusal::Clip`], [`Refusal::Slopes`].
     pub fn from_bytes(bytes: &[u8]) -> Result<PassList, Refusal> {
         // The library checks a whole list before it runs the first pass, so one pixel is enough to have it checked.
         lent::run_list(bytes, &mut [0], &mut [0], &mut [0], 1, 1)?;
-        Ok(PassList { bytes: bytes.to_vec() })
+        let passes = bytes[HEAD..].chunks_exact(RECORD).map(Pass::of_record).collect();
+        Ok(PassList { passes, bytes: Some(bytes.to_vec()) })
     }
 
-    /// The list in its file format.
+    /// The passes, in their order.
     #[must_use]
-    pub fn bytes(&self) -> &[u8] {
-        &self.bytes
+    pub fn passes(&self) -> &[Pass] {
+        &self.passes
     }
+
+    /// The list in its file format, of version 1; nothing where a pass has eight neighbours, for which that format has
+    /// no place.
+    #[must_use]
+    pub fn bytes(&self) -> Option<&[u8]> {
+        self.bytes.as_deref()
+    }
+}
+
+/// The file of at most [`GREATEST_PASSES`] passes, which have four neighbours.
+fn written(passes: &[Pass]) -> Vec<u8> {
+    let mut bytes = b"MLP\x01\x00".to_vec();
+    bytes.extend((passes.len() as u16).to_le_bytes());
+    bytes.extend(passes.iter().flat_map(|pass| pass.to_record()));
+    bytes
 }

@@ -4,7 +4,7 @@ use crate::{lent, Counts, Frame, Memory, Pass, PassList, Refusal, Rule};
 
 /// A plane: w columns and h rows of values, row by row, left to right. Its sides are 1 to 4,096, and it has at most
 /// 1,048,576 pixels. Passes never reverse two four-neighbours of it, part equal ones, or invent a regional maximum or
-/// minimum, however many of them run.
+/// minimum, however many of them run; where all of them have eight neighbours, none of this by eight neighbours either.
 #[derive(Clone, Debug, PartialEq, Eq, Hash)]
 pub struct Plane {
     w: usize,
@@ -65,7 +65,7 @@ impl Plane {
     }
 
     /// Runs one pass and answers the numbers of retoned and kept components. Refusals, in order: [`Refusal::Interval`],
-    /// [`Refusal::Area`], [`Refusal::Limits`], [`Refusal::Clip`], [`Refusal::Slopes`].
+    /// [`Refusal::Area`], [`Refusal::Limits`], [`Refusal::Clip`], [`Refusal::Slopes`], [`Refusal::Neighbours`].
     ///
     /// ```
     /// use mlhe::{Counts, Memory, Pass, Plane, Refusal, Rule};
@@ -83,9 +83,19 @@ impl Plane {
         lent::pass(&mut self.values, marks, queue, self.w, self.h, pass)
     }
 
-    /// Runs the passes of a list and answers the sums of their counts.
+    /// Runs the passes of a list and answers the sums of their counts. A list is the chain of its passes, one after the
+    /// other (theorem `lists-are-chains`), and was checked whole when it was made, so that all of it runs.
     pub fn run(&mut self, list: &PassList, memory: &mut Memory) -> Counts {
+        let sound = "plane and list are sound";
         let (marks, queue) = memory.lend(self.values.len());
-        lent::run_list(list.bytes(), &mut self.values, marks, queue, self.w, self.h).expect("plane and list are sound")
+        if let Some(bytes) = list.bytes() {
+            return lent::run_list(bytes, &mut self.values, marks, queue, self.w, self.h).expect(sound);
+        }
+        let mut sums = Counts::default();
+        for pass in list.passes() {
+            let counts = lent::pass(&mut self.values, marks, queue, self.w, self.h, pass).expect(sound);
+            sums = Counts { retoned: sums.retoned + counts.retoned, kept: sums.kept + counts.kept };
+        }
+        sums
     }
 }

@@ -48,11 +48,13 @@ pub enum Refusal {
     ListMark = 15,
     /// 16: a pass list's count or length is wrong, or there are more than 1,024 passes.
     ListLength = 16,
-    /// 17: no such rule, or a number that has to be 0 is set, in a pass list or a C call; or a C call is not lent four
-    /// numbers for its rule.
+    /// 17: no such rule, or a number that has to be 0 is set, in a pass list or a C call; or a C call is lent neither
+    /// four nor five numbers for its rule and neighbours.
     Rule = 17,
     /// 18: there are 0 segments or more than 16, smin is above smax, or smax is above 10,000.
     Slopes = 18,
+    /// 19: the number of neighbours is neither 4 nor 8.
+    Neighbours = 19,
 }
 
 impl Refusal {
@@ -76,6 +78,7 @@ impl Refusal {
         Refusal::ListLength,
         Refusal::Rule,
         Refusal::Slopes,
+        Refusal::Neighbours,
     ];
 
     /// The refusal's number, from 1 on.
@@ -106,6 +109,7 @@ impl Refusal {
             Refusal::ListLength => "the pass list's count or length is wrong",
             Refusal::Rule => "there is no such tone rule, or a number that has to be 0 is set",
             Refusal::Slopes => "there are 0 segments or more than 16, smin is above smax, or smax is above 10,000",
+            Refusal::Neighbours => "the number of neighbours is neither 4 nor 8",
         }
     }
 

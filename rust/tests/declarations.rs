@@ -1,7 +1,7 @@
 //! Nothing in the languages holds the declarations of the C functions against their source. This does: the functions of
 //! `crates/capi`, `include/mlhe.h` and `src/ffi.rs` have the same names, parameters and types, in the same order, and
 //! the house setting has the same numbers in `crates/levels`, `include/mlhe.h` and `src/settings.rs`. Header and crate
-//! have the same version, refusals, reasons, sizes, rules and counts.
+//! have the same version, refusals, reasons, sizes, rules, neighbours and counts.
 
 use mlhe::{Pass, PassList, Refusal, Rule, Settings};
 use mlhe::{
@@ -171,10 +171,23 @@ fn the_rules_of_the_header_are_those_of_the_crate() {
     let rules =
         [Rule::Plain { low: 0, high: 1 }, Rule::Limited { k: 2 }, Rule::Affine { segments: 3, smin: 4, smax: 5 }];
     let list = PassList::new(&rules.map(|rule| Pass::new(0, 255, 1, rule))).expect("accepted");
-    let codes: Vec<u32> = list.bytes()[7..].chunks(12).map(|record| record[2].into()).collect();
+    let bytes = list.bytes().expect("four neighbours");
+    let codes: Vec<u32> = bytes[7..].chunks(12).map(|record| record[2].into()).collect();
     assert_eq!(numbers(&["PLAIN", "LIMITED", "AFFINE"]), codes);
-    assert_eq!(numbers(&["RULE_CODE", "RULE_FIRST", "RULE_SECOND", "RULE_SEGMENTS", "RULE_NUMBERS"]), [0, 1, 2, 3, 4]);
-    assert!(text("rust/src/pass.rs").contains("[code.into(), first, second, segments.into()]"));
+    assert_eq!(numbers(&["RULE_CODE", "RULE_FIRST", "RULE_SECOND", "RULE_SEGMENTS"]), [0, 1, 2, 3]);
+    assert_eq!(numbers(&["RULE_NEIGHBOURS", "RULE_NUMBERS", "PASS_NUMBERS"]), [4, 4, 5]);
+    assert!(text("rust/src/pass.rs").contains("[code.into(), first, second, segments.into(), neighbours.into()]"));
+}
+
+/// The numbers of neighbours of the header are those that the library takes, and the crate's own is the first.
+#[test]
+fn the_neighbours_of_the_header_are_those_of_the_crate() {
+    let header = text("include/mlhe.h");
+    let named = ["FOUR", "EIGHT"].map(|name| number_after(&header, &format!("MLHE_{name}_NEIGHBOURS = ")));
+    let pass = Pass::new(0, 255, 1, Rule::Limited { k: 2 });
+    let is_taken = |&number: &u8| PassList::new(&[pass.with_neighbours(number)]).is_ok();
+    assert_eq!(named.to_vec(), (0..=u8::MAX).filter(is_taken).map(u32::from).collect::<Vec<_>>());
+    assert_eq!(u32::from(pass.neighbours), named[0]);
 }
 
 #[test]
@@ -199,6 +212,13 @@ fn the_refusals_of_the_header_are_those_of_the_crate() {
     assert_eq!(numbers, Refusal::ALL.iter().map(|refusal| refusal.number()).collect::<Vec<_>>());
 }
 
+/// The refusals by sides, lengths and neighbours are named in the library's own source too.
+#[test]
+fn the_refusal_of_neighbours_is_that_of_the_library() {
+    let library = number_after(&text("crates/planes/src/refused.rt"), "pub const NEIGHBOURS: u8 = ");
+    assert_eq!(library, Refusal::Neighbours.number().into());
+}
+
 /// The number after a mark, which stands once in the text.
 fn number_after(text: &str, mark: &str) -> u32 {
     let parts: Vec<&str> = text.split(mark).collect();
@@ -207,23 +227,23 @@ fn number_after(text: &str, mark: &str) -> u32 {
     digits.parse().expect("a number")
 }
 
-/// The number that stands after each of the four names of the house setting's numbers and `between`.
-fn house_numbers(text: &str, prefix: &str, between: [&str; 4]) -> [u32; 4] {
-    let names = ["LAST", "AREA", "LOW", "HIGH"];
-    [0, 1, 2, 3].map(|place| number_after(text, &format!("{prefix}{}{} = ", names[place], between[place])))
+/// The number that stands after each of the names of the house setting's numbers and `between`.
+fn house_numbers(text: &str, prefix: &str, between: [&str; 5]) -> [u32; 5] {
+    let names = ["LAST", "AREA", "LOW", "HIGH", "NEIGHBOURS"];
+    [0, 1, 2, 3, 4].map(|place| number_after(text, &format!("{prefix}{}{} = ", names[place], between[place])))
 }
 
 #[test]
 fn the_house_settings_agree() {
-    let types = [": u8", ": u32", ": u16", ": u16"];
+    let types = [": u8", ": u32", ": u16", ": u16", ": u8"];
     let library = house_numbers(&text("crates/levels/src/lib.rt"), "pub const HOUSE_", types);
     let header = text("include/mlhe.h");
-    assert_eq!(house_numbers(&header, "MLHE_HOUSE_", [""; 4]), library);
+    assert_eq!(house_numbers(&header, "MLHE_HOUSE_", [""; 5]), library);
     assert!(header.contains("MLHE_HOUSE_RULE = MLHE_PLAIN,"));
     assert!(header.contains("#define MLHE_HOUSE_NUMBERS {MLHE_HOUSE_RULE, MLHE_HOUSE_LOW, MLHE_HOUSE_HIGH, 0}\n"));
-    let [last, area, low, high] = library;
+    let [last, area, low, high, neighbours] = library;
     let number = |number: u32| u16::try_from(number).expect("16 bits");
     let rule = Rule::Plain { low: number(low), high: number(high) };
-    assert_eq!(Settings::house(), Settings::new(last as u8, area, rule));
+    assert_eq!(Settings::house(), Settings::new(last as u8, area, rule).with_neighbours(neighbours as u8));
     assert_eq!(Settings::default(), Settings::HOUSE);
 }

@@ -56,6 +56,7 @@ fn numbers_are_refused_and_nothing_changes() {
         (Pass::new(0, 255, 1, Rule::Limited { k: 1_001 }), Refusal::Clip),
         (Pass::new(0, 255, 1, Rule::Affine { segments: 0, smin: 0, smax: 0 }), Refusal::Slopes),
         (Pass::new(0, 255, 1, Rule::Affine { segments: 1, smin: 5, smax: 4 }), Refusal::Slopes),
+        (WHOLE.with_neighbours(6), Refusal::Neighbours),
     ];
     for (pass, refusal) in refused {
         assert_eq!(plane.pass(&pass, &mut memory), Err(refusal));
@@ -79,8 +80,8 @@ fn the_sizes_are_those_of_the_library() {
     let longest = Frame::new(GREATEST_SIDE / 4, GREATEST_SIDE / 4, vec![0; 3 * GREATEST_PIXELS]).unwrap();
     assert_eq!(longest.to_p6().len(), GREATEST_HEADER + 3 * GREATEST_PIXELS);
 
-    let list = |passes: usize| PassList::new(&vec![WHOLE; passes]).map(|list| list.bytes().len());
-    assert_eq!(list(GREATEST_PASSES), Ok(7 + 12 * GREATEST_PASSES));
+    let list = |passes: usize| PassList::new(&vec![WHOLE; passes]).map(|list| list.bytes().map(<[u8]>::len));
+    assert_eq!(list(GREATEST_PASSES), Ok(Some(7 + 12 * GREATEST_PASSES)));
     assert_eq!(list(GREATEST_PASSES + 1), Err(Refusal::ListLength));
     let frame = Frame::new(1, 1, vec![1, 2, 3]).unwrap();
     let enhanced = |settings: Settings| frame.enhanced(&settings, &mut Memory::new()).map(|enhanced| enhanced.counts);
@@ -104,9 +105,13 @@ fn the_sizes_are_those_of_the_library() {
 
 #[test]
 fn a_list_has_at_most_1024_passes() {
-    assert_eq!(PassList::new(&[WHOLE; 1_024]).unwrap().bytes().len(), 7 + 12 * 1_024);
-    assert_eq!(PassList::new(&[WHOLE; 1_025]), Err(Refusal::ListLength));
-    assert_eq!(PassList::new(&[WHOLE; 65_536]), Err(Refusal::ListLength));
+    let longest = PassList::new(&[WHOLE; 1_024]).unwrap();
+    assert_eq!(longest.bytes().map(<[u8]>::len), Some(7 + 12 * 1_024));
+    assert_eq!(PassList::from_bytes(longest.bytes().unwrap()), Ok(longest));
+    for pass in [WHOLE, WHOLE.with_neighbours(8), WHOLE.with_neighbours(9)] {
+        assert_eq!(PassList::new(&[pass; 1_025]), Err(Refusal::ListLength));
+        assert_eq!(PassList::new(&[pass; 65_536]), Err(Refusal::ListLength));
+    }
 }
 
 #[test]
@@ -165,7 +170,7 @@ fn counted_pass(area: u8, lent: usize) -> Left {
 
 /// The same as a list.
 fn counted_list(area: u8, lent: usize) -> Left {
-    let mut list = PassList::new(&[WHOLE]).unwrap().bytes().to_vec();
+    let mut list = PassList::new(&[WHOLE]).unwrap().bytes().unwrap().to_vec();
     list[11] = area;
     let (mut plane, mut marks, mut queue, mut counts) = ([10, 20], [0; 2], [0; 2], [7; 3]);
     let (p, m, q, c) = (plane.as_mut_ptr(), marks.as_mut_ptr(), queue.as_mut_ptr(), counts.as_mut_ptr());

@@ -57,7 +57,9 @@ fn a_list_of_all_rules() {
         [0, 200, 0, 0, 1, 0, 0, 0, 0, 0, 0x9C, 0x63],
         [100, 200, 1, 0, 1, 0, 0, 0, 10, 0, 0, 0],
     ];
-    assert_eq!(list.bytes(), [&b"MLP\x01\0\x04\0"[..], &records.concat()].concat());
+    let bytes = [&b"MLP\x01\0\x04\0"[..], &records.concat()].concat();
+    assert_eq!(list.bytes(), Some(&bytes[..]));
+    assert_eq!(PassList::from_bytes(&bytes).unwrap().passes(), list.passes());
     let mut plane = Plane::new(4, 1, ROW.to_vec()).unwrap();
     assert_eq!(plane.run(&list, &mut Memory::new()), Counts { retoned: 3, kept: 1 });
     assert_eq!(plane.values(), [134, 134, 200, 255]);
@@ -111,16 +113,18 @@ fn c_enhance([last, area]: [u8; 2], rule: &[u16], lent: usize) -> i64 {
     answer
 }
 
-/// 17 comes before the other numbers: no such code, a number set that has to be 0, not four numbers.
+/// 17 comes before the other numbers: no such code, a number set that has to be 0, neither four numbers nor five.
 #[test]
 fn numbers_of_no_rule() {
-    let wrong: [&[u16]; 15] = [
+    let wrong: [&[u16]; 17] = [
         &[],
         &[0],
         &[0, 0, 25_500],
         &[2, 0, 10_000],
-        &[0, 0, 25_500, 0, 0],
-        &[2, 0, 10_000, 1, 0],
+        &[0, 0, 25_500, 0, 4, 0],
+        &[2, 0, 10_000, 1, 8, 0],
+        &[3, 0, 0, 0, 4],
+        &[0, 0, 25_500, 1, 8],
         &[3, 0, 0, 0],
         &[255, 0, 0, 0],
         &[256, 0, 0, 0],

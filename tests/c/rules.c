@@ -9,7 +9,7 @@
 #include <string.h>
 
 /* Level 0 of an enhancement is a pass over all values: with the greys of the row, both leave the same plane. */
-enum { N = 4, MOST = MLHE_RULE_NUMBERS + 1, LEFT = 77 };
+enum { N = 4, MOST = MLHE_PASS_NUMBERS + 1, LEFT = 77 };
 static const uint8_t row[N] = {10, 10, 20, 30};
 static uint8_t frame[3 * N];
 
@@ -38,9 +38,9 @@ static const struct refused {
     uint16_t rule[MOST];
 } refused[] = {{MLHE_REFUSED_RULE, 0, {MLHE_PLAIN, 0, 25500, 0, 0}},
                {MLHE_REFUSED_RULE, 3, {MLHE_PLAIN, 0, 25500, 0, 0}},
-               {MLHE_REFUSED_RULE, 5, {MLHE_PLAIN, 0, 25500, 0, 0}},
+               {MLHE_REFUSED_RULE, 6, {MLHE_PLAIN, 0, 25500, 0, MLHE_FOUR_NEIGHBOURS, 0}},
                {MLHE_REFUSED_RULE, 3, {MLHE_AFFINE, 100, 10000, 2, 0}},
-               {MLHE_REFUSED_RULE, 5, {MLHE_AFFINE, 100, 10000, 2, 0}},
+               {MLHE_REFUSED_RULE, 6, {MLHE_AFFINE, 100, 10000, 2, MLHE_FOUR_NEIGHBOURS, 0}},
                {MLHE_REFUSED_RULE, 4, {MLHE_PLAIN, 0, 25500, 1, 0}},
                {MLHE_REFUSED_RULE, 4, {MLHE_PLAIN, 0, 25500, 256, 0}},
                {MLHE_REFUSED_RULE, 4, {MLHE_LIMITED, 10, 0, 1, 0}},

@@ -19,14 +19,18 @@ static struct frame {
     uint32_t *queue;
 } frame;
 
-/* The setting of a call; a list has one pass with the same. */
+/* The setting of a call; a list has one pass with the same, but for the neighbours, which are four. */
 static const struct setting {
-    uint16_t rule[MLHE_RULE_NUMBERS];
+    uint16_t rule[MLHE_PASS_NUMBERS];
+    size_t length;
     uint8_t area;
-} settings[] = {{MLHE_HOUSE_NUMBERS, MLHE_HOUSE_AREA},
-                {{MLHE_PLAIN, 0, MLHE_GREATEST_HIGH, 0}, 1},
-                {{MLHE_LIMITED, 20, 0, 0}, 1},
-                {{MLHE_AFFINE, 0, MLHE_GREATEST_SLOPE, MLHE_GREATEST_SEGMENTS}, 1}};
+} settings[] = {
+    {MLHE_HOUSE_NUMBERS, MLHE_RULE_NUMBERS, MLHE_HOUSE_AREA},
+    {{MLHE_PLAIN, 0, MLHE_GREATEST_HIGH, 0}, MLHE_RULE_NUMBERS, 1},
+    {{MLHE_LIMITED, 20, 0, 0}, MLHE_RULE_NUMBERS, 1},
+    {{MLHE_AFFINE, 0, MLHE_GREATEST_SLOPE, MLHE_GREATEST_SEGMENTS}, MLHE_RULE_NUMBERS, 1},
+    {{MLHE_PLAIN, 0, MLHE_GREATEST_HIGH, 0, MLHE_EIGHT_NEIGHBOURS}, MLHE_PASS_NUMBERS, 1},
+    {{MLHE_AFFINE, 0, MLHE_GREATEST_SLOPE, MLHE_GREATEST_SEGMENTS, MLHE_EIGHT_NEIGHBOURS}, MLHE_PASS_NUMBERS, 1}};
 static const struct setting *setting;
 static size_t counts[MLHE_COUNTS];
 static int64_t answer;
@@ -49,7 +53,7 @@ static void intensity(void) {
 
 static void pass(void) {
     answer = mlhe_pass(frame.plane, frame.n, frame.marks, frame.n, frame.queue, frame.n, frame.w, frame.h, 0, 255,
-                       setting->area, setting->rule, MLHE_RULE_NUMBERS, counts, MLHE_COUNTS);
+                       setting->area, setting->rule, setting->length, counts, MLHE_COUNTS);
 }
 
 static void run_list(void) {
@@ -67,7 +71,7 @@ static void recolour(void) {
 
 static void enhance(void) {
     answer = mlhe_enhance(frame.bytes, 3 * frame.n, frame.w, frame.h, 7, setting->area, setting->rule,
-                          MLHE_RULE_NUMBERS, frame.plane, frame.n, frame.marks, frame.n, frame.queue, frame.n,
+                          setting->length, frame.plane, frame.n, frame.marks, frame.n, frame.queue, frame.n,
                           frame.output, 3 * frame.n, counts, MLHE_COUNTS);
 }
 

@@ -6,7 +6,7 @@ use mlhe::{Frame, Memory, Rule, Settings};
 use std::path::PathBuf;
 
 /// The arguments of settings, none of which goes with a list.
-const SETTINGS: [&str; 5] = ["last", "area", "plain", "limited", "affine"];
+const SETTINGS: [&str; 6] = ["last", "area", "plain", "limited", "affine", "neighbours"];
 
 /// Enhances frames by morpho-local histogram equalisation, on the proved library.
 #[derive(Parser)]
@@ -45,7 +45,7 @@ pub struct Enhance {
     pub plane: bool,
     #[command(flatten)]
     pub settings: Numbers,
-    /// Run the passes of a pass list, in place of settings
+    /// Run the passes of a pass list, in place of settings; they have four neighbours
     #[arg(long, value_name = "FILE", conflicts_with_all = SETTINGS)]
     pub list: Option<PathBuf>,
     /// Write a line for each file, with tabs between file, size, answer, components retoned, components kept back, and
@@ -64,7 +64,9 @@ pub struct Enhance {
 ///
 /// The list is read from a file, made from lines of text, or else the one that an enhancement with the settings equals.
 /// A line of text is a pass: first value, last value, least area, and `plain LOW HIGH`, `limited K` or
-/// `affine N SMIN SMAX`. Empty lines and what follows a # are passed over. What is printed has this form too.
+/// `affine N SMIN SMAX`, then `neighbours 8` where it has eight. Empty lines and what follows a # are passed over. What
+/// is printed has this form too. A list file is of version 1, which means four neighbours and has no place for eight: a
+/// list that has them is printed, and not written.
 #[derive(Args)]
 pub struct List {
     /// A pass list, in the bytes of its file format
@@ -75,7 +77,7 @@ pub struct List {
     pub text: Option<PathBuf>,
     #[command(flatten)]
     pub settings: Numbers,
-    /// Write the list to this file, in place of printing it
+    /// Write the list to this file, in place of printing it; a list with eight neighbours is not written
     #[arg(long, value_name = "FILE")]
     pub to: Option<PathBuf>,
 }
@@ -100,6 +102,10 @@ pub struct Numbers {
     /// in place of plain; kept back where the segments do not reach the range's upper end
     #[arg(long, num_args = 3, value_names = ["N", "SMIN", "SMAX"], conflicts_with_all = ["plain", "limited"])]
     affine: Option<Vec<u16>>,
+    /// How many neighbours a pixel has: 4, or 8, with which pixels that touch at a corner belong together, so that thin
+    /// diagonal wires do not break into single pixels [house setting: 4]
+    #[arg(long, value_name = "N")]
+    neighbours: Option<u16>,
 }
 
 impl Numbers {
@@ -120,7 +126,9 @@ impl Numbers {
     pub fn settings(&self) -> Result<Settings, Stop> {
         let house = Settings::house();
         let (last, area) = (self.last.unwrap_or(house.last), self.area.unwrap_or(house.area));
-        let settings = Settings::new(last, area, self.rule().unwrap_or(house.rule));
+        // More neighbours than a byte holds are refused as 255 are.
+        let neighbours = self.neighbours.map_or(house.neighbours, |number| number.try_into().unwrap_or(u8::MAX));
+        let settings = Settings::new(last, area, self.rule().unwrap_or(house.rule)).with_neighbours(neighbours);
         let pixel = Frame::new(1, 1, vec![0; 3]).expect("one pixel is a frame");
         match pixel.enhanced(&settings, &mut Memory::new()) {
             Ok(_) => Ok(settings),

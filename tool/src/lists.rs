@@ -9,12 +9,12 @@ use std::process::ExitCode;
 use std::str::{FromStr, SplitWhitespace};
 use std::{fs, io};
 
-/// Bytes before the first record of a list, and of a record.
-const HEAD: usize = 7;
-const RECORD: usize = 12;
-
 /// The rules as they stand in a line.
 const RULES: &str = "plain LOW HIGH, limited K, or affine N SMIN SMAX";
+
+/// Why a list is not written to a file.
+const NO_PLACE: &str = "it is not written, for a list file of version 1 has no place for eight neighbours: leave --to \
+                        away to print the list as text";
 
 /// Prints or writes a list.
 pub fn run(arguments: &List) -> Result<ExitCode, Stop> {
@@ -29,7 +29,9 @@ pub fn run(arguments: &List) -> Result<ExitCode, Stop> {
             if fs::metadata(file).is_ok_and(|metadata| !metadata.is_file()) {
                 return Err(Stop::Usage(format!("{}: it is there and no file", file.display())));
             }
-            save::save(file, list.bytes()).map_err(|error| Stop::Failed(format!("{}: {error}", file.display())))?;
+            let failed = |why: String| Stop::Failed(format!("{}: {why}", file.display()));
+            let bytes = list.bytes().ok_or_else(|| failed(NO_PLACE.to_owned()))?;
+            save::save(file, bytes).map_err(|error| failed(error.to_string()))?;
         }
     }
     Ok(ExitCode::SUCCESS)
@@ -41,14 +43,16 @@ pub fn read(file: &Path) -> Result<PassList, String> {
     PassList::from_bytes(&bytes).map_err(|refusal| format!("{}: {refusal}", file.display()))
 }
 
-/// The list that an enhancement equals: level by level, lower sections first, level 0 with area 1.
+/// The list that an enhancement equals: level by level, lower sections first, level 0 with area 1, and the same
+/// neighbours on all levels.
 fn of_settings(settings: &Settings) -> PassList {
     let mut passes = Vec::new();
     for level in 0..=settings.last {
         let width = 256_usize >> level;
         let area = if level == 0 { 1 } else { settings.area };
         for a in (0..256).step_by(width) {
-            passes.push(Pass::new(a as u8, (a + width - 1) as u8, area, settings.rule));
+            let pass = Pass::new(a as u8, (a + width - 1) as u8, area, settings.rule);
+            passes.push(pass.with_neighbours(settings.neighbours));
         }
     }
     PassList::new(&passes).expect("accepted settings make an accepted list")
@@ -87,12 +91,21 @@ fn pass(line: &str) -> Result<Pass, String> {
         Some(word) => return Err(format!("the rule is plain, limited or affine, not {word}")),
         None => return Err(format!("the rule is missing: {RULES}")),
     };
+    let four = Pass::new(a, b, area, rule);
+    let pass = match words.next() {
+        None => four,
+        Some("neighbours") => four.with_neighbours(number(&mut words, "number of neighbours")?),
+        Some(word) => return Err(too_much(word)),
+    };
     if let Some(word) = words.next() {
-        return Err(format!("{word} is too much: a line is A B AREA and {RULES}"));
+        return Err(too_much(word));
     }
-    let pass = Pass::new(a, b, area, rule);
     PassList::new(&[pass]).map_err(|refusal| refusal.to_string())?;
     Ok(pass)
+}
+
+fn too_much(word: &str) -> String {
+    format!("{word} is too much: a line is A B AREA and {RULES}, then neighbours 4 or neighbours 8, or neither")
 }
 
 fn number<N: FromStr>(words: &mut SplitWhitespace, name: &str) -> Result<N, String> {
@@ -102,17 +115,16 @@ fn number<N: FromStr>(words: &mut SplitWhitespace, name: &str) -> Result<N, Stri
 
 /// A list as lines of text, from which the same list is made again.
 fn text(list: &PassList) -> String {
-    let records = list.bytes()[HEAD..].chunks_exact(RECORD);
-    let mut text = format!("# {} passes: first value, last value, least area, rule\n", records.len());
-    for record in records {
-        let half = |at: usize| u16::from_le_bytes([record[at], record[at + 1]]);
-        let area = u32::from_le_bytes([record[4], record[5], record[6], record[7]]);
-        let _ = write!(text, "{} {} {area} ", record[0], record[1]);
-        let _ = match record[2] {
-            0 => writeln!(text, "plain {} {}", half(8), half(10)),
-            1 => writeln!(text, "limited {}", half(8)),
-            _ => writeln!(text, "affine {} {} {}", record[3], half(8), half(10)),
+    let mut text = format!("# {} passes: first value, last value, least area, rule\n", list.passes().len());
+    for pass in list.passes() {
+        let _ = write!(text, "{} {} {} ", pass.a, pass.b, pass.area);
+        let _ = match pass.rule {
+            Rule::Plain { low, high } => write!(text, "plain {low} {high}"),
+            Rule::Limited { k } => write!(text, "limited {k}"),
+            Rule::Affine { segments, smin, smax } => write!(text, "affine {segments} {smin} {smax}"),
+            _ => unreachable!("a list has the rules of a line alone"),
         };
+        text.push_str(if pass.neighbours == 4 { "\n" } else { " neighbours 8\n" });
     }
     text
 }
@@ -142,6 +154,19 @@ mod tests {
     }
 
     #[test]
+    fn eight_neighbours_have_a_text_and_no_file() {
+        let lines = ["0 255 1 plain 80 300", "16 200 3 limited 25 neighbours 8", "0 9 1 affine 5 50 300 neighbours 8"];
+        let passes = lines.map(|line| pass(line).unwrap());
+        assert_eq!(passes.map(|pass| pass.neighbours), [4, 8, 8]);
+        let list = PassList::new(&passes).unwrap();
+        assert_eq!(text(&list).lines().skip(1).collect::<Vec<_>>(), lines);
+        assert_eq!(list.bytes(), None);
+        assert_eq!(pass("0 255 1 plain 80 300 neighbours 4").unwrap(), passes[0]);
+        let eight = of_settings(&Settings::house().with_neighbours(8));
+        assert!(text(&eight).lines().skip(1).all(|line| line.ends_with(" plain 80 300 neighbours 8")));
+    }
+
+    #[test]
     fn wrong_lines_are_told() {
         assert_eq!(pass("0 256 1 plain 0 1").unwrap_err(), "the last value is a number in its range, not 256");
         assert_eq!(pass("0 255 1 limited").unwrap_err(), "the clip is missing");
@@ -153,5 +178,11 @@ mod tests {
         assert!(pass("0 9 1 affine 2 5 6 7").unwrap_err().starts_with("7 is too much"));
         assert!(pass("0 9 1 affine 0 5 6").unwrap_err().starts_with("refused 18: "));
         assert!(pass("0 9 1 affine 2 6 5").unwrap_err().starts_with("refused 18: "));
+        assert!(pass("0 9 1 affine 2 6 5 neighbours 9").unwrap_err().starts_with("refused 18: "));
+        assert!(pass("0 9 1 limited 5 neighbours 9").unwrap_err().starts_with("refused 19: "));
+        assert_eq!(pass("0 9 1 limited 5 neighbours").unwrap_err(), "the number of neighbours is missing");
+        assert!(pass("0 9 1 limited 5 neighbours 260").unwrap_err().ends_with("is a number in its range, not 260"));
+        assert!(pass("0 9 1 limited 5 neighbours 8 8").unwrap_err().starts_with("8 is too much"));
+        assert!(pass("0 9 1 limited 5 corners 8").unwrap_err().starts_with("corners is too much"));
     }
 }

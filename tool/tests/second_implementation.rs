@@ -11,6 +11,7 @@ use std::process::Command;
 type Answer = (Vec<u8>, Vec<u8>, Counts);
 
 const AFFINE: Rule = Rule::Affine { segments: 5, smin: 50, smax: 300 };
+const LIMITED: Rule = Rule::Limited { k: 40 };
 
 /// Frames of the corpus that are accepted.
 const FRAMES: [&str; 7] = [
@@ -80,13 +81,17 @@ fn of_list(bytes: &[u8], list: &[u8]) -> Answer {
 #[test]
 fn settings() {
     let folder = folder("settings");
-    let plain = |last_level, area, low, high| Settings { last_level, area, rule: Rule::Plain { low, high } };
+    let of = |last_level, area, rule| Settings { last_level, area, rule, ..Settings::HOUSE };
+    let plain = |last_level, area, low, high| of(last_level, area, Rule::Plain { low, high });
     for (words, settings) in [
         (&[][..], Settings::HOUSE),
         (&["--last", "3", "--area", "5"], plain(3, 5, 80, 300)),
         (&["--plain", "0", "25500", "--area", "1"], plain(7, 1, 0, 25_500)),
-        (&["--limited", "40", "--last", "2"], Settings { last_level: 2, area: 20, rule: Rule::Limited { k: 40 } }),
-        (&["--affine", "5", "50", "300"], Settings { last_level: 7, area: 20, rule: AFFINE }),
+        (&["--limited", "40", "--last", "2"], of(2, 20, LIMITED)),
+        (&["--affine", "5", "50", "300"], of(7, 20, AFFINE)),
+        (&["--neighbours", "4"], Settings::HOUSE),
+        (&["--neighbours", "8"], Settings { neighbours: 8, ..Settings::HOUSE }),
+        (&["--neighbours", "8", "--area", "3", "--limited", "40"], Settings { neighbours: 8, ..of(7, 3, LIMITED) }),
     ] {
         for name in FRAMES {
             let bytes = fs::read(corpus(name)).unwrap();
@@ -104,9 +109,9 @@ fn lists() {
     fs::write(text, lines).unwrap();
     zopykue(&["list", "--text", text, "--to", list]);
     let passes = [
-        Pass { a: 0, b: 255, area: 1, rule: Rule::Plain { low: 0, high: 25_500 } },
-        Pass { a: 16, b: 200, area: 3, rule: Rule::Limited { k: 25 } },
-        Pass { a: 0, b: 127, area: 2, rule: AFFINE },
+        Pass { a: 0, b: 255, area: 1, rule: Rule::Plain { low: 0, high: 25_500 }, neighbours: 4 },
+        Pass { a: 16, b: 200, area: 3, rule: Rule::Limited { k: 25 }, neighbours: 4 },
+        Pass { a: 0, b: 127, area: 2, rule: AFFINE, neighbours: 4 },
     ];
     assert_eq!(fs::read(list).unwrap(), list_bytes(&passes));
     for name in FRAMES {

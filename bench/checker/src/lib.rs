@@ -44,6 +44,7 @@ pub unsafe extern "C" fn checker_enhance(
     last_level: u32,
     area: u32,
     rule: CheckerRule,
+    neighbours: u8,
     plane: *mut u8,
     output: *mut u8,
 ) -> CheckerCounts {
@@ -53,7 +54,7 @@ pub unsafe extern "C" fn checker_enhance(
         let (plane, output) = (slice::from_raw_parts_mut(plane, n), slice::from_raw_parts_mut(output, 3 * n));
         (slice::from_raw_parts(frame, 3 * n), plane, output)
     };
-    let settings = Settings { last_level, area, rule: rule.into() };
+    let settings = Settings { last_level, area, rule: rule.into(), neighbours };
     enhance(frame, w, h, &settings, plane, n, n, output).expect("the benchmark's calls are sound").into()
 }
 
@@ -71,9 +72,11 @@ pub unsafe extern "C" fn checker_pass(
     b: u8,
     area: u32,
     rule: CheckerRule,
+    neighbours: u8,
 ) -> CheckerCounts {
     let n = w * h;
     // SAFETY: the caller lends so many bytes.
     let plane = unsafe { slice::from_raw_parts_mut(plane, n) };
-    pass(plane, n, n, w, h, &Pass { a, b, area, rule: rule.into() }).expect("the benchmark's calls are sound").into()
+    let one = Pass { a, b, area, rule: rule.into(), neighbours };
+    pass(plane, n, n, w, h, &one).expect("the benchmark's calls are sound").into()
 }

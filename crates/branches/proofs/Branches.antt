@@ -108,16 +108,16 @@ small {near} {s = s} {plane = plane} few whole T = (
 -- ## Bounds
 
 -- a branch has as many sections as it has numbers
-deep-length : (k area : ℕ) (rule : Rule) (d a : ℕ) → length (deep k area rule d a) + 1 ≡ 2 ^ (d + 1)
+deep-length : (k area : ℕ) (rule : Rule) (number d a : ℕ) → length (deep k area rule number d a) + 1 ≡ 2 ^ (d + 1)
 unfolding deep
-deep-length k area rule zero a = refl
-deep-length k area rule (suc d) a =
+deep-length k area rule number zero a = refl
+deep-length k area rule number (suc d) a =
     let a′ = a + 2 ^ (d + k) in
     omega (
       arith,
-      length-append (deep k area rule d a) (deep k area rule d a′),
-      deep-length k area rule d a,
-      deep-length k area rule d a′,
+      length-append (deep k area rule number d a) (deep k area rule number d a′),
+      deep-length k area rule number d a,
+      deep-length k area rule number d a′,
       ap (2 ^_) (suc-add d 1),
       pow-suc 2 (d + 1),
     )
@@ -139,8 +139,8 @@ pub branch-few : {z : Shape} {a b d code span : ℕ} {t : Settings} {plane marks
     → Equalised z a b code span t plane marks queue plane' marks' queue' r
     → (r .retoned ≤ span * 1048576) × (r .kept ≤ span * 1048576)
 branch-few {z} {a} {d = d} {span = span} {t} {plane} {plane' = plane'} {r = r} N whole few E =
-    let sections = deep-length (N .k) (t .area) (t .rule) d a in
-    counts-few (passNeighbours z) (deep (N .k) (t .area) (t .rule) d a) span r _ plane plane'
+    let sections = deep-length (N .k) (t .area) (t .rule) (t .neighbours) d a in
+    counts-few (passNeighbours z) (deep (N .k) (t .area) (t .rule) (t .neighbours) d a) span r _ plane plane'
     (omega (arith, N .spans)) (omega arith) (E .model d (N .k) (N .wide))
 
 pub halves-few : {z : Shape} {a b code span : ℕ} {t : Settings} {plane marks queue plane' marks' queue' : List ℕ}
@@ -149,9 +149,9 @@ pub halves-few : {z : Shape} {a b code span : ℕ} {t : Settings} {plane marks q
     → (r .retoned ≤ span * 1048576) × (r .kept ≤ span * 1048576)
 halves-few zero some N whole few H = absurd (omega arith)
 halves-few {z} {a} {span = span} {t} {plane} {plane' = plane'} {r = r} (suc d) some N whole few H =
-    let section : ℕ → List Pass = deep (N .k) (t .area) (t .rule) d in
+    let section : ℕ → List Pass = deep (N .k) (t .area) (t .rule) (t .neighbours) d in
     let a′ = a + 2 ^ (d + N .k) in
-    let sections = deep-length (N .k) (t .area) (t .rule) d in
+    let sections = deep-length (N .k) (t .area) (t .rule) (t .neighbours) d in
     let both = length-append (section a) (section a′) in
     counts-few (passNeighbours z) (section a ++ section a′) span r _ plane plane'
     (omega (arith, sections a, sections a′, N .spans, ap (2 ^_) (suc-add d 1), pow-suc 2 (d + 1))) (omega arith)
@@ -171,11 +171,11 @@ told-few {x = x} {r} few whole levels T =
 
 -- the section of the model
 the-section : {last a b d k : ℕ} (t : Settings) → Wide last a b d k
-    → passOn t a b ≡ section (t .area) (t .rule) a (2 ^ (d + k))
+    → passOn t a b ≡ section (t .area) (t .rule) (t .neighbours) a (2 ^ (d + k))
 unfolding section
 the-section {a = a} {b} {d} {k} t W =
     let e : b ≡ a + 2 ^ (d + k) - 1 = omega (arith, W .width) in
-    ap (λ (x : ℕ). record { a = a; b = x; area = t .area; rule = t .rule }) e
+    ap (λ (x : ℕ). record { a = a; b = x; area = t .area; rule = t .rule; neighbours = t .neighbours }) e
 
 -- a section of the settings that was treated; x is the number of levels below it
 module _ (z : Shape) (t : Settings) {a b code x : ℕ} {u : Next} {plane marks queue plane₁ marks₁ queue₁ : List ℕ}
@@ -188,7 +188,7 @@ module _ (z : Shape) (t : Settings) {a b code x : ℕ} {u : Next} {plane marks q
 
   section-came : {d k : ℕ} → Wide (t .last) a b d k
       → owing before (came plane₁ (told r))
-      ≡ passEffect (passNeighbours z) (section (t .area) (t .rule) a (2 ^ (d + k))) plane
+      ≡ passEffect (passNeighbours z) (section (t .area) (t .rule) (t .neighbours) a (2 ^ (d + k))) plane
   section-came W =
       treated-came (passNeighbours z) T ∙ ap (λ (s : Pass). passEffect (passNeighbours z) s plane) (the-section t W)
 
@@ -201,7 +201,7 @@ module _ (z : Shape) (t : Settings) {a b code x : ℕ} {u : Next} {plane marks q
     where
       one : (d k : ℕ) → Wide (t .last) a b d k → d ≡ 0
           → owing ((d + 1) * before) (came plane₁ (allTold x r))
-          ≡ runEffect (passNeighbours z) (deep k (t .area) (t .rule) d a) plane
+          ≡ runEffect (passNeighbours z) (deep k (t .area) (t .rule) (t .neighbours) d a) plane
       one zero k W e =
           let none : x * r .left ≡ 0 * r .left = ap (_* r .left) (B .exact 0 k W) in
           effect-same refl refl (omega arith) ∙ section-came W ∙ sym (run-one (passNeighbours z) _ plane)
@@ -226,7 +226,7 @@ module _ (z : Shape) (t : Settings) {a b code x : ℕ} {u : Next} {plane marks q
 
       both : (d k : ℕ) → Wide (t .last) a b d k → 0 < d
           → owing ((d + 1) * before) (came plane' (sums (allTold x r) r'))
-          ≡ runEffect (passNeighbours z) (deep k (t .area) (t .rule) d a) plane
+          ≡ runEffect (passNeighbours z) (deep k (t .area) (t .rule) (t .neighbours) d a) plane
       both zero k W e = absurd (omega arith)
       both (suc d) k W e =
           let gone-is : below ≡ r .left + before = left ∙ sym (T .left-is) in
@@ -252,7 +252,7 @@ module _ {z : Shape} {a b code span : ℕ} {r r' : Counts} {t : Settings}
       → Halved z a b code span t plane marks queue plane' marks' queue' (sums r r')
   halves same A = record {
     model = λ d k W.
-        let below = deep k (t .area) (t .rule) d in
+        let below = deep k (t .area) (t .rule) (t .neighbours) d in
         let start : (a + b) / 2 + 1 ≡ a + 2 ^ (d + k) = low-half W .width in
         let upper = H .model d k (high-half W) ∙ ap (λ (x : ℕ). runEffect (passNeighbours z) (below x) plane₁) start in
         effect-same refl refl (omega (

@@ -11,7 +11,7 @@ use lib.Dec.{leb, eqb}
 use borrow.Author.Tests.{eq-eqb, eqb-true, le-leb, lt-leb, leb-true, leb-false}
 use Rattle.planes.specs.Lists.{at, from, count}
 use Rattle.planes.specs.Neighbours.{Near}
-use Rattle.planes.specs.Shapes.{pixels}
+use Rattle.planes.specs.Shapes.{pixels, adjacency}
 use Rattle.planes.specs.declared.Shape.{Shape}
 use Rattle.planes.proofs.Tests.{decide, same-test, less-or-not}
 use Rattle.planes.proofs.Counts.{count-same, count-sum}
@@ -104,7 +104,7 @@ module _ {near : Near} {n code : ℕ} {r : Treatment} {s : Pass} {u : Next}
 -- a section and a part of it take their components by the same neighbours
 pub halves-near : (z : Shape) {s t : Pass} → Part s t → passNeighbours z s ≡ passNeighbours z t
 unfolding passNeighbours
-halves-near z P = refl
+halves-near z P = ap (adjacency z) (sym (P .neighbours))
 
 -- the halves of a treated section are due: t has the same rule, and no smaller least area
 module _ (z : Shape) (t : Settings) {code span d : ℕ} {s : Pass} {u : Next}
@@ -113,7 +113,7 @@ module _ (z : Shape) (t : Settings) {code span d : ℕ} {s : Pass} {u : Next}
     (K : Coded (passNeighbours z s) (pixels z) code s plane marks) (are : MarksAre (pixels z) code span marks)
     (middle : u .mid ≡ (s .a + s .b) / 2)
     (numbers : (u .low ≡ code + 1) × (u .high ≡ code + 1 + (span - 1) / 2))
-    (area : s .area ≤ t .area) (rule : t .rule ≡ s .rule)
+    (area : s .area ≤ t .area) (rule : t .rule ≡ s .rule) (same : t .neighbours ≡ s .neighbours)
     (N : Numbered (t .last) (s .a) (s .b) (suc d) code span) where
   abbrev mid : ℕ
   mid = (s .a + s .b) / 2
@@ -158,7 +158,7 @@ module _ (z : Shape) (t : Settings) {code span d : ℕ} {s : Pass} {u : Next}
 
   picks-low : Picks (pixels z) marks u s lower low
   picks-low = record {
-    part = record { low = omega arith; high = omega (arith, ab); area = area; rule = rule };
+    part = record { low = omega arith; high = omega (arith, ab); area = area; rule = rule; neighbours = same };
     real = omega arith;
     fresh = fresh low (omega arith) (omega (arith, twice N, half-some N));
     given = λ v e.
@@ -169,7 +169,7 @@ module _ (z : Shape) (t : Settings) {code span d : ℕ} {s : Pass} {u : Next}
 
   picks-high : Picks (pixels z) marks u s upper high
   picks-high = record {
-    part = record { low = omega (arith, ab); high = omega arith; area = area; rule = rule };
+    part = record { low = omega (arith, ab); high = omega arith; area = area; rule = rule; neighbours = same };
     real = omega arith;
     fresh = fresh high (omega arith) (omega (arith, twice N, half-some N));
     given = λ v e.
@@ -258,17 +258,17 @@ module _ (z : Shape) (t : Settings) {code span : ℕ} {s : Pass} {u : Next}
     (K : Coded (passNeighbours z s) (pixels z) code s plane marks) (are : MarksAre (pixels z) code span marks)
     (middle : u .mid ≡ (s .a + s .b) / 2)
     (numbers : (u .low ≡ code + 1) × (u .high ≡ code + 1 + (span - 1) / 2))
-    (area : s .area ≤ t .area) (rule : t .rule ≡ s .rule) where
+    (area : s .area ≤ t .area) (rule : t .rule ≡ s .rule) (same : t .neighbours ≡ s .neighbours) where
   pub next-halves : (d : ℕ) → 0 < d → Numbered (t .last) (s .a) (s .b) d code span
       → Halves z (s .a) (s .b) code span (r .low) (r .high) t plane' marks'
   next-halves zero i N = absurd (omega arith)
-  next-halves (suc d) i N = halves-of z t whole T K are middle numbers area rule N
+  next-halves (suc d) i N = halves-of z t whole T K are middle numbers area rule same N
 
   pub next-gone : (d : ℕ) → 0 < d → Numbered (t .last) (s .a) (s .b) d code span
       → goneBelow z t (s .a) (s .b) code span plane' marks'
       ≡ componentCount (leaves (passOn t (s .a) (s .b))) (passNeighbours z s) s plane
   next-gone zero i N = absurd (omega arith)
-  next-gone (suc d) i N = gone-halves z t whole T K are middle numbers area rule N
+  next-gone (suc d) i N = gone-halves z t whole T K are middle numbers area rule same N
 
 -- ## The halves, one after the other
 

@@ -35,7 +35,7 @@ use Rattle.levels.specs.declared.Settings.{Settings}
 
 -- the pass on [a, b]
 abbrev pub passOn : Settings → ℕ → ℕ → Pass
-passOn t a b = record { a = a; b = b; area = t .area; rule = t .rule }
+passOn t a b = record { a = a; b = b; area = t .area; rule = t .rule; neighbours = t .neighbours }
 
 -- a plane of the shape with room for it, and settings whose last level and area are not refused
 pub record Ready (z : Shape) (plane marks queue : ℕ) (t : Settings) : Type 0 where
@@ -100,7 +100,7 @@ pub record Equalised (z : Shape) (a b code span : ℕ) (t : Settings) (plane mar
     (r : Counts) : Type 0 where
   pub model : (d k : ℕ) → Wide (t .last) a b d k
       → owing ((d + 1) * goneOn z t a b code plane marks) (came plane' r)
-      ≡ runEffect (passNeighbours z) (deep k (t .area) (t .rule) d a) plane
+      ≡ runEffect (passNeighbours z) (deep k (t .area) (t .rule) (t .neighbours) d a) plane
   pub apart : Apart (pixels z) a b code span plane marks plane' marks'
   pub rest : Rest (pixels z) marks queue marks' queue'
 
@@ -116,6 +116,6 @@ pub record Halved (z : Shape) (a b code span : ℕ) (t : Settings) (plane marks 
   pub model : (d k : ℕ) → Wide (t .last) a b (suc d) k
       → owing ((d + 1) * goneBelow z t a b code span plane marks) (came plane' r)
       ≡ runEffect (passNeighbours z)
-      (deep k (t .area) (t .rule) d a ++ deep k (t .area) (t .rule) d (a + 2 ^ (d + k))) plane
+      (deep k (t .area) (t .rule) (t .neighbours) d a ++ deep k (t .area) (t .rule) (t .neighbours) d (a + 2 ^ (d + k))) plane
   pub apart : Apart (pixels z) a b code span plane marks plane' marks'
   pub rest : Rest (pixels z) marks queue marks' queue'

@@ -53,10 +53,17 @@ fn equalise(
     let last = settings.last;
     let area = settings.area;
     let rule = settings.rule;
+    let neighbours = settings.neighbours;
     let mid = ((a as u16 + b as u16) / 2) as u8;
     let more = levels::deeper(a, b, last);
     let next = levels::next_of(more, mid, code, span);
-    let section = Pass { a, b, area, rule };
+    let section = Pass {
+        a,
+        b,
+        area,
+        rule,
+        neighbours,
+    };
     let t = sections::treat_section(plane, marks, queue, shape, code, due, section, next);
     let counts = counts_of(t, levels::below(a, b, last));
     if more {

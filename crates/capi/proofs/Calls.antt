@@ -39,7 +39,8 @@ use Rattle.netpbm.specs.Writing.{encoding, writeRefusal, writtenReply, WriteOut
 use Rattle.netpbm.proofs.Writing.{wrote-size, wrote-writable}
 use Rattle.cnumbers.specs.Numbers.{encoded, numberReply, doneReply, statusNumber, answerNumber, writtenNumber, Short}
 use Rattle.passlists.specs.Outcomes.{runListRefusal, ListOutcome}
-use Rattle.cnumbers.specs.Numbers.{numbersFor, passOf, settingsOf, countsAfter, countsRefusal, countsReply}
+use Rattle.cnumbers.specs.Numbers.{numbersFor, neighboursFor, passOf, settingsOf, countsAfter, countsRefusal}
+use Rattle.cnumbers.specs.Numbers.{countsReply}
 use Rattle.capi.specs.Calls.{CountsOutcome, CountsOutputOutcome, passRefusalOf, PassNumber}
 use Rattle.capi.specs.Calls.{listRefusalOf, ListNumber, enhanceRefusalOf, EnhanceNumber}
 use Rattle.cnumbers.specs.Numbers.{readNumber, numbersAfter}
@@ -153,9 +154,9 @@ module _ (w h a b area : ℕ) (rule plane marks queue numbers : List ℕ) where
   abbrev thePass : Pass
   thePass = passOf a b area rule
 
-  -- a pass with these numbers and a rule
-  abbrev ruled : Rule → Pass
-  ruled x = record { a = a; b = b; area = area; rule = x }
+  -- a pass with these numbers, a rule and a number of neighbours
+  abbrev made : Rule → ℕ → Pass
+  made x y = record { a = a; b = b; area = area; rule = x; neighbours = y }
 
   -- all refusals but 14
   abbrev passNext : ℕ
@@ -180,12 +181,14 @@ module _ (w h a b area : ℕ) (rule plane marks queue numbers : List ℕ) where
       counts-coded (Answer.Refused k) d refl (refused-by k is f)
 
   -- refused for too few numbers, unless for something else
-  pub pass-short : {rule' : Rule} {k : ℕ} {r : ℤ} → passFirst ≡ 0 → rule' ≡ ruleOf form → length numbers < 2
-      → k ≡ numbersRefusal (ruled rule') → r ≡ encoded (k ▷ 14) 0
+  pub pass-short : {rule' : Rule} {number k : ℕ} {r : ℤ} → passFirst ≡ 0 → rule' ≡ ruleOf form
+      → number ≡ neighboursFor rule → length numbers < 2 → k ≡ numbersRefusal (made rule' number)
+      → r ≡ encoded (k ▷ 14) 0
       → PassNumber w h a b area rule plane marks queue numbers r plane marks queue numbers
-  pass-short {rule'} {k} e rule-is few told d =
+  pass-short {rule'} {number} {k} e rule-is number-is few told d =
       let same : passNext ≡ k =
-      ▷-right passFirst _ e ∙ sym (told ∙ ap (λ (x : Rule). numbersRefusal (ruled x)) rule-is) in
+      ▷-right passFirst _ e
+      ∙ sym (told ∙ ap₂ (λ (x : Rule) (y : ℕ). numbersRefusal (made x y)) rule-is number-is) in
       let is : k ▷ 14 ≡ passWhole =
       sym (pass-order ∙ ap (_▷ countsRefusal (length numbers)) same ∙ counts-short k numbers few) in
       counts-coded (Answer.Refused (k ▷ 14)) d refl (refused-by (k ▷ 14) is (some-14 k))
@@ -199,15 +202,16 @@ module _ (w h a b area : ℕ) (rule plane marks queue numbers : List ℕ) where
       ∙ ▷-right passFirst _ e
       ∙ sym (▷-right lent _ (▷-none lent _ e .0))
 
-  pub pass-made : {rule' : Rule} {plane' marks' queue' numbers' : List ℕ} (s : Answer) {r : ℤ} → passFirst ≡ 0
-      → 2 ≤ length numbers → rule' ≡ ruleOf form
-      → PassOutcome z (ruled rule') plane marks queue (answerReply s) plane' marks' queue'
+  pub pass-made : {rule' : Rule} {number : ℕ} {plane' marks' queue' numbers' : List ℕ} (s : Answer) {r : ℤ}
+      → passFirst ≡ 0 → 2 ≤ length numbers → rule' ≡ ruleOf form → number ≡ neighboursFor rule
+      → PassOutcome z (made rule' number) plane marks queue (answerReply s) plane' marks' queue'
       → r ≡ answerNumber s → numbers' ≡ countsAfter s numbers
       → PassNumber w h a b area rule plane marks queue numbers r plane' marks' queue' numbers'
-  pass-made {rule'} {plane'} {marks'} {queue'} s e enough d o g f =
-      let made : PassOutcome z thePass plane marks queue (answerReply s) plane' marks' queue' =
-      subst (λ (x : Rule). PassOutcome z (ruled x) plane marks queue (answerReply s) plane' marks' queue') d o in
-      counts-coded s g f (outcome-number (sym (pass-same e enough)) made)
+  pass-made {plane' = plane'} {marks'} {queue'} s e enough rule-is number-is o g f =
+      let same = ap₂ made rule-is number-is in
+      let outcome : PassOutcome z thePass plane marks queue (answerReply s) plane' marks' queue' =
+      subst (λ (x : Pass). PassOutcome z x plane marks queue (answerReply s) plane' marks' queue') same o in
+      counts-coded s g f (outcome-number (sym (pass-same e enough)) outcome)
 
 -- ## Lists
 
@@ -248,9 +252,9 @@ module _ (w h last area : ℕ) (rule frame plane marks queue output numbers : Li
   abbrev theSettings : Settings
   theSettings = settingsOf last area rule
 
-  -- settings with these numbers and a rule
-  abbrev settled : Rule → Settings
-  settled x = record { last = last; area = area; rule = x }
+  -- settings with these numbers, a rule and a number of neighbours
+  abbrev settled : Rule → ℕ → Settings
+  settled x y = record { last = last; area = area; rule = x; neighbours = y }
 
   -- all refusals but 14 for the counts
   abbrev enhanceNext : ℕ
@@ -277,13 +281,15 @@ module _ (w h last area : ℕ) (rule frame plane marks queue output numbers : Li
       output-coded (Answer.Refused k) d refl (output-refused-by k is f)
 
   -- refused for too few numbers, unless for something else
-  pub enhance-short : {rule' : Rule} {k : ℕ} {r : ℤ} → enhanceFirst ≡ 0 → rule' ≡ ruleOf ruleNumbers
-      → length numbers < 2 → k ≡ enhance.settingsRefusal (settled rule') → r ≡ encoded (k ▷ 14) 0
+  pub enhance-short : {rule' : Rule} {number k : ℕ} {r : ℤ} → enhanceFirst ≡ 0 → rule' ≡ ruleOf ruleNumbers
+      → number ≡ neighboursFor rule → length numbers < 2 → k ≡ enhance.settingsRefusal (settled rule' number)
+      → r ≡ encoded (k ▷ 14) 0
       → EnhanceNumber w h last area rule frame plane marks queue output numbers r
       plane marks queue output numbers
-  enhance-short {rule'} {k} e rule-is few told d =
+  enhance-short {rule'} {number} {k} e rule-is number-is few told d =
       let same : enhanceNext ≡ k =
-      ▷-right enhanceFirst _ e ∙ sym (told ∙ ap (λ (x : Rule). enhance.settingsRefusal (settled x)) rule-is) in
+      ▷-right enhanceFirst _ e
+      ∙ sym (told ∙ ap₂ (λ (x : Rule) (y : ℕ). enhance.settingsRefusal (settled x y)) rule-is number-is) in
       let is : k ▷ 14 ≡ enhanceWhole =
       sym (enhance-order ∙ ap (_▷ countsRefusal (length numbers)) same ∙ counts-short k numbers few) in
       output-coded (Answer.Refused (k ▷ 14)) d refl (output-refused-by (k ▷ 14) is (some-14 k))
@@ -298,18 +304,18 @@ module _ (w h last area : ℕ) (rule frame plane marks queue output numbers : Li
       ∙ ▷-right enhanceFirst _ e
       ∙ sym (▷-right memory _ (▷-none memory _ e .0))
 
-  pub enhance-made : {rule' : Rule} {plane' marks' queue' output' numbers' : List ℕ} (s : Answer) {r : ℤ}
-      → enhanceFirst ≡ 0 → 2 ≤ length numbers → rule' ≡ ruleOf ruleNumbers
-      → enhance.EnhanceOutcome shape (settled rule') frame plane marks queue output (answerReply s)
+  pub enhance-made : {rule' : Rule} {number : ℕ} {plane' marks' queue' output' numbers' : List ℕ} (s : Answer) {r : ℤ}
+      → enhanceFirst ≡ 0 → 2 ≤ length numbers → rule' ≡ ruleOf ruleNumbers → number ≡ neighboursFor rule
+      → enhance.EnhanceOutcome shape (settled rule' number) frame plane marks queue output (answerReply s)
       plane' marks' queue' output'
       → r ≡ answerNumber s → numbers' ≡ countsAfter s numbers
       → EnhanceNumber w h last area rule frame plane marks queue output numbers r
       plane' marks' queue' output' numbers'
-  enhance-made {rule'} {plane'} {marks'} {queue'} {output'} s e enough d o g f =
-      let Made : Rule → Type 0 =
-      λ x. enhance.EnhanceOutcome shape (settled x) frame plane marks queue output (answerReply s)
+  enhance-made {plane' = plane'} {marks'} {queue'} {output'} s e enough rule-is number-is o g f =
+      let Made : Settings → Type 0 =
+      λ x. enhance.EnhanceOutcome shape x frame plane marks queue output (answerReply s)
       plane' marks' queue' output' in
-      output-coded s g f (output-number (sym (enhance-same e enough)) (subst Made d o))
+      output-coded s g f (output-number (sym (enhance-same e enough)) (subst Made (ap₂ settled rule-is number-is) o))
 
 -- ## Reading
 

@@ -61,6 +61,7 @@ pub extern "C" fn mlhe_pass(
 {
     let shape = Shape { w, h };
     let numbers = cnumbers::rule_numbers(rule);
+    let neighbours = cnumbers::neighbour_number(rule);
     let refusal = cnumbers::pass_form_refusal(
         shape,
         plane.len(),
@@ -72,7 +73,13 @@ pub extern "C" fn mlhe_pass(
         return cnumbers::refused(refusal);
     }
     let rule = tones::rule_of(numbers);
-    let pass = Pass { a, b, area, rule };
+    let pass = Pass {
+        a,
+        b,
+        area,
+        rule,
+        neighbours,
+    };
     if counts.len() < cnumbers::COUNTS {
         return cnumbers::short_counts(model::pass_refusal(pass));
     }
@@ -126,6 +133,7 @@ pub extern "C" fn mlhe_enhance(
 {
     let shape = Shape { w, h };
     let numbers = cnumbers::rule_numbers(rule);
+    let neighbours = cnumbers::neighbour_number(rule);
     let refusal = cnumbers::enhance_form_refusal(
         shape,
         frame.len(),
@@ -139,7 +147,12 @@ pub extern "C" fn mlhe_enhance(
         return cnumbers::refused(refusal);
     }
     let rule = tones::rule_of(numbers);
-    let settings = Settings { last, area, rule };
+    let settings = Settings {
+        last,
+        area,
+        rule,
+        neighbours,
+    };
     if counts.len() < cnumbers::COUNTS {
         return cnumbers::short_counts(levels::settings_refusal(settings));
     }

@@ -9,12 +9,14 @@
 --   countsRefusal  14, where too few numbers are lent for both counts
 --   countsReply    the reply that a number and the lent numbers stand for, of such a call
 --   writtenNumber  the answer of writing, encoded
---   numbersFor     the numbers of a rule, by the four that are lent for it
+--   numbersFor     the numbers of a rule, by the four or five that are lent
+--   neighboursFor  the number of neighbours, by the fifth of them
 --   ruleLent       the four numbers of a rule
+--   passLent       the same and a number of neighbours
 --   passOf         the pass for its numbers
 --   settingsOf     the settings for their numbers
 use Prim.Native.Nat.{ℕ, zero, suc, _<_, min}
-use mathlib.Core.Bool.{cond}
+use mathlib.Core.Bool.{Bool, _||_, cond}
 use mathlib.Core.Path.{_≡_}
 use mathlib.Core.List.{List, [], _∷_}
 use lib.IntN.{ℤ, pos, negsuc}
@@ -84,22 +86,35 @@ writtenNumber (Written.Length size) = encoded 0 size
 pub record Short (r : Written) : Type 0 where
   pub short : (size : ℕ) → r ≡ Written.Length size → size < 9223372036854775808
 
--- a rule by four numbers: its code, first and second number, and segments. Code and segments are bytes of a record:
--- what is above 255 stands for 255, which is no code and too many segments. Fewer or more numbers stand for no rule.
+-- four numbers are lent for a rule, or five: those of a rule and a number of neighbours
+abbrev pub ruled : ℕ → Bool
+ruled count = eqb count 4 || eqb count 5
+
+-- a rule by its code, first and second number, and segments. Code and segments are bytes of a record: what is above 255
+-- stands for 255, which is no code and too many segments. Fewer numbers than four, or more than five, stand for no rule.
 abbrev pub numbersFor : List ℕ → RuleNumbers
 numbersFor rule =
-    cond (eqb (length rule) 4)
+    cond (ruled (length rule))
     (record { code = min (at rule 0) 255; extra = min (at rule 3) 255; first = at rule 1; second = at rule 2 })
     (record { code = 255; extra = 0; first = 0; second = 0 })
 
 abbrev pub ruleLent : Rule → List ℕ
 ruleLent rule = let n = numbersOf rule in n .code ∷ n .first ∷ n .second ∷ n .extra ∷ []
 
+-- the fifth number, and 4 where there is none. What is above 255 stands for 255, which is neither 4 nor 8.
+abbrev pub neighboursFor : List ℕ → ℕ
+neighboursFor rule = cond (eqb (length rule) 5) (min (at rule 4) 255) 4
+
+abbrev pub passLent : Rule → ℕ → List ℕ
+passLent rule number = let n = numbersOf rule in n .code ∷ n .first ∷ n .second ∷ n .extra ∷ number ∷ []
+
 abbrev pub passOf : ℕ → ℕ → ℕ → List ℕ → Pass
-passOf a b area rule = record { a = a; b = b; area = area; rule = ruleOf (numbersFor rule) }
+passOf a b area rule =
+    record { a = a; b = b; area = area; rule = ruleOf (numbersFor rule); neighbours = neighboursFor rule }
 
 abbrev pub settingsOf : ℕ → ℕ → List ℕ → Settings
-settingsOf last area rule = record { last = last; area = area; rule = ruleOf (numbersFor rule) }
+settingsOf last area rule =
+    record { last = last; area = area; rule = ruleOf (numbersFor rule); neighbours = neighboursFor rule }
 
 -- ## What reading answers
 

@@ -230,7 +230,7 @@ module _ {near : Near} {w n code start head tail : ℕ} {marks₀ queue₀ marks
       go false d = sym (F .searched .marks-are x ∙ ap (λ (t : Bool). cond t 0 (at marks₀ x)) d) ∙ e
 
   -- a chain leads to what is beyond the entry at the head
-  from-start : (x : ℕ) → JoinedBeyond near n marks code (at queue head) x → Chain (alike near marks₀ code) n start x
+  from-start : (x : ℕ) → JoinedBeyond near near n marks code (at queue head) x → Chain (alike near marks₀ code) n start x
   from-start x b =
       let had = F .searched .had head l in
       let first = first-had (b .next) (b .joined .has) in
@@ -239,7 +239,7 @@ module _ {near : Near} {w n code start head tail : ℕ} {marks₀ queue₀ marks
       (step (F .searched .reached head l) link (b .below)) (b .joined .chain)
 
   pub turn : {tail' : ℕ} {marks' queue' : List ℕ}
-      → Spread near w n code (at queue head) marks queue tail marks' queue' tail'
+      → Spread near near w n code (at queue head) marks queue tail marks' queue' tail'
       → Flooding near w n code start marks₀ queue₀ marks' queue' (head + 1) tail'
   turn S =
       let kept = taken-kept (S .taken) in

@@ -2,5 +2,6 @@ pub mod Regions
 pub mod Spreading
 pub mod Gauging
 pub mod Flooding
-pub mod Four
+pub mod Columns
+pub mod Around
 pub mod Whole

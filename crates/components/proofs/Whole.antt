@@ -1,5 +1,5 @@
--- A plane whose pixels all have one code is one component: the chain of neighbours from its first pixel to any other
--- has that code all along. So the pixels taken in reading order, one after the other, are that component, and their
+-- A plane whose pixels all have one code is one component, by 4 and by 8 neighbours: the chain of neighbours from its
+-- first pixel to any other has that code all along. So the pixels taken in reading order, one after the other, are that component, and their
 -- values are the plane itself. Assumes nothing.
 use Prim.Native.Nat.{ℕ, _+_, _≤_, _<_}
 use mathlib.Core.Path.{_≡_, refl, sym, ap, _∙_}
@@ -13,14 +13,14 @@ use borrow.Author.Tests.{le-ltb}
 use Rattle.planes.specs.Lists.{at, Beyond}
 use Rattle.planes.specs.Neighbours.{Near, linked}
 use Rattle.planes.specs.Enumerations.{Enumerates}
-use Rattle.planes.specs.Shapes.{pixels, neighbours}
+use Rattle.planes.specs.Shapes.{pixels, adjacency}
 use Rattle.planes.specs.declared.Shape.{Shape}
 use Rattle.planes.proofs.Tests.{less-or-not}
 use Rattle.planes.proofs.Lists.{beyond-refl}
 use Rattle.planes.proofs.Stores.{at-set}
 use Rattle.planes.proofs.Links.{chain-map}
 use Rattle.planes.proofs.Enumerations.{entries-size}
-use Rattle.planes.proofs.Shapes.{shape-chain}
+use Rattle.planes.proofs.Shapes.{adjacency-chain}
 use Rattle.histograms.specs.Histograms.{values}
 use Rattle.histograms.proofs.Components.{values-size, values-at}
 use Rattle.rows.specs.Codes.{alike}
@@ -33,15 +33,18 @@ use Rattle.components.proofs.Regions.{region-of}
 -- ## All pixels are one component
 
 -- all pixels of a plane have the code
-module _ (z : Shape) (code : ℕ) (marks : List ℕ) (wide : 1 ≤ z .w) (all : (p : ℕ) → p < pixels z → at marks p ≡ code)
-  where
-    -- the chain that leads to p has the code all along
-    pub plane-region : (p : ℕ) → p < pixels z → region (neighbours z) (pixels z) marks code 0 p ≡ true
-    plane-region p h =
-        let same = chain-map (pixels z) (neighbours z) (alike (neighbours z) marks code)
-        (λ u v hu hv e. alike-of (neighbours z) code marks (all u hu) (all v hv) e)
-        (omega arith) (shape-chain z (pixels z) wide p h) in
-        region-of (neighbours z) (pixels z) code marks 0 p (omega arith) h (same .1)
+module _ (z : Shape) (number code : ℕ) (marks : List ℕ) (wide : 1 ≤ z .w)
+    (all : (p : ℕ) → p < pixels z → at marks p ≡ code) where
+  abbrev near : Near
+  near = adjacency z number
+
+  -- the chain that leads to p has the code all along
+  pub plane-region : (p : ℕ) → p < pixels z → region near (pixels z) marks code 0 p ≡ true
+  plane-region p h =
+      let same = chain-map (pixels z) near (alike near marks code)
+      (λ u v hu hv e. alike-of near code marks (all u hu) (all v hv) e)
+      (omega arith) (adjacency-chain z number (pixels z) wide p h) in
+      region-of near (pixels z) code marks 0 p (omega arith) h (same .1)
 
 -- no pixel past the first n is in a region
 region-past : (near : Near) (n code : ℕ) (marks : List ℕ) (s p : ℕ) → n ≤ p → region near n marks code s p ≡ false
@@ -107,18 +110,18 @@ module _ {n : ℕ} {marks queue marks' queue' : List ℕ} (T : PlaneTaken n mark
       values-at plane queue' n fits k below ∙ ap (at plane) (T .listed k below))
 
 -- where they all had one code, they are one component, flooded; m is their number
-pub plane-flooded : (z : Shape) (code : ℕ) {marks queue marks' queue' : List ℕ} → 1 ≤ z .w
+pub plane-flooded : (z : Shape) (number code : ℕ) {marks queue marks' queue' : List ℕ} → 1 ≤ z .w
     → PlaneTaken (pixels z) marks queue marks' queue' → pixels z ≤ length queue
     → ((p : ℕ) → p < pixels z → at marks p ≡ code) → {m : ℕ} → m ≡ pixels z
-    → Flooded (neighbours z) (pixels z) code 0 marks queue marks' queue' m
-plane-flooded z code {marks} wide T room all e =
-    let component = plane-region z code marks wide all in
-    let one = region (neighbours z) (pixels z) marks code 0 in
+    → Flooded (adjacency z number) (pixels z) code 0 marks queue marks' queue' m
+plane-flooded z number code {marks} wide T room all e =
+    let component = plane-region z number code marks wide all in
+    let one = region (adjacency z number) (pixels z) marks code 0 in
     let pixels-are = lists-all T room one component in
     rw e (record {
       size = entries-size pixels-are;
       enumerates = pixels-are;
-      marks-are = all-off T room one component (region-past (neighbours z) (pixels z) code marks 0);
+      marks-are = all-off T room one component (region-past (adjacency z number) (pixels z) code marks 0);
       rest = T .queue-rest .rest;
       marks-length = T .marks-rest .size;
       queue-length = T .queue-rest .size;

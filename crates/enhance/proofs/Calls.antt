@@ -21,7 +21,8 @@ use Rattle.colours.proofs.Frames.{length-intensity}
 use Rattle.colours.proofs.Calls.{intensity-accepts, recolour-accepts, recolour-given}
 use Rattle.model.specs.declared.Pass.{Pass}
 use Rattle.tones.specs.Refusals.{ruleRefusal}
-use Rattle.model.specs.Calls.{areaRefusal, numbersRefusal, passRefusal, AllAccepted, chainEffect}
+use Rattle.model.specs.Calls.{areaRefusal, neighbourRefusal, numbersRefusal, passRefusal, AllAccepted}
+use Rattle.model.specs.Calls.{chainEffect}
 use Rattle.model.specs.Effects.{Effect}
 use Rattle.model.specs.Runs.{All, none, more}
 use Rattle.model.specs.Enhancement.{section, level, levels, passes, callOf, enhanced}
@@ -44,6 +45,7 @@ pub record Fine (z : Shape) (frame plane marks queue output : ℕ) (t : Settings
   pub room : 3 * pixels z ≤ output
   pub area : areaRefusal (t .area) ≡ 0
   pub rule : ruleRefusal (t .rule) ≡ 0
+  pub neighbours : neighbourRefusal (t .neighbours) ≡ 0
 
 pub fine : (z : Shape) (frame plane marks queue output : ℕ) (t : Settings)
     → enhanceRefusal z frame plane marks queue output t ≡ 0 → Fine z frame plane marks queue output t
@@ -70,7 +72,8 @@ fine z frame plane marks queue output t e =
       channels = length-fits frame (3 * pixels z) (channel .0);
       room = output-fits output (3 * pixels z) (working .1);
       area = settings .1 .0;
-      rule = settings .1 .1;
+      rule = settings .1 .1 .0;
+      neighbours = settings .1 .1 .1;
     }
 
 -- ## The calls on the frame are accepted
@@ -87,49 +90,55 @@ area-one : areaRefusal 1 ≡ 0
 unfolding areaRefusal
 area-one = refl
 
-module _ (z : Shape) (size : SizedShape z) (rule : Rule) (ok : ruleRefusal rule ≡ 0) where
-  accepts : (s : Pass) → s .a ≤ s .b → areaRefusal (s .area) ≡ 0 → s .rule ≡ rule → model.Accepted z s
+module _ (z : Shape) (size : SizedShape z) (rule : Rule) (ok : ruleRefusal rule ≡ 0) (number : ℕ)
+    (either : neighbourRefusal number ≡ 0) where
+  accepts : (s : Pass) → s .a ≤ s .b → areaRefusal (s .area) ≡ 0 → s .rule ≡ rule → s .neighbours ≡ number
+      → model.Accepted z s
   unfolding passRefusal callOf numbersRefusal
-  accepts s ab some e =
+  accepts s ab some e f =
       ▷-both (lentRefusal z (pixels z) (pixels z) (pixels z)) _
       (lent-none z (pixels z) (pixels z) (pixels z)
       record { size = size; whole = refl; covered = omega arith; spare = omega arith })
-      (simp (le-ltb (s .b) (s .a) ab, some) (ap ruleRefusal e ∙ ok))
+      (simp (le-ltb (s .b) (s .a) ab, some)
+      (▷-both (ruleRefusal (s .rule)) _ (ap ruleRefusal e ∙ ok) (ap neighbourRefusal f ∙ either)))
 
   all-of : (l area : ℕ) → areaRefusal area ≡ 0 → (js : List ℕ)
-      → All (model.Accepted z) (map (λ j. section area rule (j * 2 ^ (8 - l)) (2 ^ (8 - l))) js)
+      → All (model.Accepted z) (map (λ j. section area rule number (j * 2 ^ (8 - l)) (2 ^ (8 - l))) js)
   unfolding section
   all-of l area some [] = none
   all-of l area some (j ∷ js) =
-      let s : Pass = section area rule (j * 2 ^ (8 - l)) (2 ^ (8 - l)) in
-      more {s = s} (accepts s (omega (arith, pow-pos (8 - l))) some refl) (all-of l area some js)
+      let s : Pass = section area rule number (j * 2 ^ (8 - l)) (2 ^ (8 - l)) in
+      more {s = s} (accepts s (omega (arith, pow-pos (8 - l))) some refl refl) (all-of l area some js)
 
-  all-level : (l area : ℕ) → areaRefusal area ≡ 0 → All (model.Accepted z) (level l area rule)
+  all-level : (l area : ℕ) → areaRefusal area ≡ 0 → All (model.Accepted z) (level l area rule number)
   unfolding level
   all-level l area some = all-of l area some (from 0 (2 ^ l))
 
-  all-levels : (ls : List ℕ) (area : ℕ) → areaRefusal area ≡ 0 → All (model.Accepted z) (levels ls area rule)
+  all-levels : (ls : List ℕ) (area : ℕ) → areaRefusal area ≡ 0 → All (model.Accepted z) (levels ls area rule number)
   unfolding levels
   all-levels [] area some = none
   all-levels (l ∷ ls) area some = all-append (all-level l area some) (all-levels ls area some)
 
-  all-passes : (last area : ℕ) → areaRefusal area ≡ 0 → All (model.Accepted z) (passes last area rule)
+  all-passes : (last area : ℕ) → areaRefusal area ≡ 0 → All (model.Accepted z) (passes last area rule number)
   unfolding passes
   all-passes last area some = all-append (all-level 0 1 area-one) (all-levels (from 1 last) area some)
 
 -- the settings of an enhancement that is not refused
 pub fine-passes : {z : Shape} {frame plane marks queue output : ℕ} {t : Settings}
-    → Fine z frame plane marks queue output t → All (model.Accepted z) (passes (t .last) (t .area) (t .rule))
-fine-passes {z} {t = t} F = all-passes z (F .ready .lent .size) (t .rule) (F .rule) (t .last) (t .area) (F .area)
+    → Fine z frame plane marks queue output t
+    → All (model.Accepted z) (passes (t .last) (t .area) (t .rule) (t .neighbours))
+fine-passes {z} {t = t} F =
+    all-passes z (F .ready .lent .size) (t .rule) (F .rule) (t .neighbours) (F .neighbours) (t .last) (t .area) (F .area)
 
 -- the recursion comes to what the chain of passes comes to
 as-listed : {z : Shape} {r : Counts} {frame plane marks queue output : ℕ} {t : Settings}
     {p marks₁ queue₁ p' marks' queue' : List ℕ} → Fine z frame plane marks queue output t → length p ≡ pixels z
     → RecursionOutcome z t p marks₁ queue₁ p' marks' queue' r
-    → came p' r ≡ chainEffect (enhanced z p (t .last) (t .area) (t .rule))
+    → came p' r ≡ chainEffect (enhanced z p (t .last) (t .area) (t .rule) (t .neighbours))
 as-listed {z} {t = t} {p} F whole R =
     R .model
-    ∙ sym (model.enhanced-recursion z (t .last) (t .area) (t .rule) p (F .ready .last) whole (fine-passes F))
+    ∙ sym (model.enhanced-recursion z (t .last) (t .area) (t .rule) (t .neighbours) p (F .ready .last) whole
+    (fine-passes F))
 
 -- the intensity of an accepted frame has a byte for each pixel
 pub fine-length : {z : Shape} {plane marks queue output : ℕ} {t : Settings} (frame : List ℕ)
@@ -141,7 +150,8 @@ pub chain-accepted : (z : Shape) (t : Settings) (frame plane marks queue output 
     → enhanceCallRefusal z t frame plane marks queue output ≡ 0 → AllAccepted (chainOf z t frame .answers)
 chain-accepted z t frame plane marks queue output taken =
     let F = fine z (length frame) (length plane) (length marks) (length queue) (length output) t taken in
-    model.enhanced-accepted z (t .last) (t .area) (t .rule) (intensity frame) (fine-length frame F) (fine-passes F)
+    model.enhanced-accepted z (t .last) (t .area) (t .rule) (t .neighbours) (intensity frame) (fine-length frame F)
+    (fine-passes F)
 
 -- ## Outcomes
 
@@ -159,7 +169,7 @@ in-turn {z} {r} {t} {frame} {plane} {output = output} {plane₁} {plane'} F len�
     I .plane-is ∙ ap (λ (k : ℕ). after k plane (intensity frame)) (frame-accepted F) in
     let same : came plane' r ≡ chainEffect (chainOf z t frame) =
     as-listed F (len₁ ∙ F .ready .lent .whole) R
-    ∙ ap (λ (p : List ℕ). chainEffect (enhanced z p (t .last) (t .area) (t .rule))) intensities in
+    ∙ ap (λ (p : List ℕ). chainEffect (enhanced z p (t .last) (t .area) (t .rule) (t .neighbours))) intensities in
     let plane-same : plane' ≡ chainOf z t frame .plane = ap (λ (e : Effect). e .plane) same in
     let accepts = recolour-accepts (z .w) (z .h) (length frame) (length plane') (length output)
     (ap (intensityRefusal (z .w) (z .h) (length frame)) (len ∙ len₁) ∙ frame-accepted F) (F .room) in

@@ -27,8 +27,8 @@ module _ (z : Shape) (t : Settings) (frame plane marks queue output : List ℕ) 
       → chainEffect (chainOf z t frame) ≡ publishedOf z t frame
   chain-published taken =
       let F = fine z (length frame) (length plane) (length marks) (length queue) (length output) t taken in
-      enhanced-published z (t .last) (t .area) (t .rule) (intensity frame) (F .ready .last) (fine-length frame F)
-      (λ x hx. intensity-bytes frame bytes x) (fine-passes F)
+      enhanced-published z (t .last) (t .area) (t .rule) (t .neighbours) (intensity frame) (F .ready .last)
+      (fine-length frame F) (λ x hx. intensity-bytes frame bytes x) (fine-passes F)
 
   pub enhance-published : {vs plane' marks' queue' output' : List ℕ}
       → EnhanceOutcome z t frame plane marks queue output (gives vs) plane' marks' queue' output'

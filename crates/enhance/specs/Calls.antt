@@ -32,7 +32,7 @@ memoryRefusal z frame plane marks queue output =
     shapeRefusal z ▷ lengthRefusal plane (pixels z) ▷ lengthRefusal frame (3 * pixels z)
     ▷ roomRefusal (pixels z) marks queue ▷ outputRefusal output (3 * pixels z)
 
--- 1, 2, 3, 4, 14, 9, 6, 7, 8, 18
+-- 1, 2, 3, 4, 14, 9, 6, 7, 8, 18, 19
 unfoldable pub enhanceRefusal : Shape → ℕ → ℕ → ℕ → ℕ → ℕ → Settings → ℕ
 enhanceRefusal z frame plane marks queue output t =
     memoryRefusal z frame plane marks queue output ▷ settingsRefusal t
@@ -41,12 +41,12 @@ enhanceRefusal z frame plane marks queue output t =
 
 -- the list of passes level by level, lower section first, level 0 with area 1, run as a chain from the intensity
 abbrev pub chainOf : Shape → Settings → List ℕ → State
-chainOf z t frame = enhanced z (intensity frame) (t .last) (t .area) (t .rule)
+chainOf z t frame = enhanced z (intensity frame) (t .last) (t .area) (t .rule) (t .neighbours)
 
 -- the number of components of sufficient area, summed over these passes, in the plane as each finds it
 abbrev pub sufficientOf : Shape → Settings → List ℕ → ℕ
 sufficientOf z t frame =
-    chainSufficient z (intensity frame) (map (callOf (pixels z)) (passes (t .last) (t .area) (t .rule)))
+    chainSufficient z (intensity frame) (map (callOf (pixels z)) (passes (t .last) (t .area) (t .rule) (t .neighbours)))
 
 -- the plane and the sums of both counts of the chain, and the output recoloured from its last plane; what lies beyond
 -- stays

@@ -1,7 +1,7 @@
 // Enhancement of a frame: its intensity, the published recursion on it, and the frame recoloured.
 //
-// Settings   the last level, the least area and the tone rule, with the house setting
-// enhance    enhances a frame: refusals 1, 2, 3, 4, 14, 9, 6, 7, 8, 18
+// Settings   the last level, the least area, the tone rule and the number of neighbours, with the house setting
+// enhance    enhances a frame: refusals 1, 2, 3, 4, 14, 9, 6, 7, 8, 18, 19
 ghost use mathlib.Core.Path.{_≡_};
 ghost use lib.ListN.{length};
 ghost use Rattle.planes.specs.Refusals.{_▷_};
@@ -44,7 +44,7 @@ pub fn memory_refusal(
     first(working, planes::output_refusal(output, 3 * n))
 }
 
-// The same, then 9, 6, 7, 8, 18 for the settings, or 0.
+// The same, then 9, 6, 7, 8, 18, 19 for the settings, or 0.
 fn refusal_of(
     shape: Shape,
     frame: usize,

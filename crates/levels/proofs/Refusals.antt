@@ -7,7 +7,7 @@ use borrow.Author.Tests.{ltb-false}
 use Rattle.planes.specs.Refusals.{_▷_}
 use Rattle.planes.proofs.Refusals.{when-none, ▷-none}
 use Rattle.tones.specs.Refusals.{ruleRefusal}
-use Rattle.model.specs.Calls.{areaRefusal}
+use Rattle.model.specs.Calls.{areaRefusal, neighbourRefusal}
 use Rattle.levels.specs.Levels.{levelRefusal, settingsRefusal}
 use Rattle.levels.specs.declared.Settings.{Settings}
 
@@ -21,8 +21,10 @@ some-area zero e = absurd (omega arith)
 some-area (suc area) e = omega arith
 
 pub settings-fit : (t : Settings) → settingsRefusal t ≡ 0
-    → (levelRefusal (t .last) ≡ 0) × ((areaRefusal (t .area) ≡ 0) × (ruleRefusal (t .rule) ≡ 0))
+    → (levelRefusal (t .last) ≡ 0)
+    × ((areaRefusal (t .area) ≡ 0) × ((ruleRefusal (t .rule) ≡ 0) × (neighbourRefusal (t .neighbours) ≡ 0)))
 unfolding settingsRefusal
 settings-fit t e =
     let last = ▷-none (levelRefusal (t .last)) _ e in
-    (last .0, ▷-none (areaRefusal (t .area)) (ruleRefusal (t .rule)) (last .1))
+    let area = ▷-none (areaRefusal (t .area)) _ (last .1) in
+    (last .0, (area .0, ▷-none (ruleRefusal (t .rule)) (neighbourRefusal (t .neighbours)) (area .1)))

@@ -4,7 +4,7 @@
 --
 --   house            the house setting
 --   levelRefusal     9, by the last level
---   settingsRefusal  9, 6, 7, 8, 18, by the settings
+--   settingsRefusal  9, 6, 7, 8, 18, 19, by the settings
 --   Wide             a section's width is a power of two, and so is the last level's
 --   Below            how many levels there are below a section's own
 --   Deeper           whether a section is split
@@ -19,23 +19,24 @@ use lib.Dec.{ltb}
 use Rattle.planes.specs.Refusals.{when, _▷_}
 use Rattle.tones.specs.declared.Rule.the-variants.{Plain}
 use Rattle.tones.specs.Refusals.{ruleRefusal}
-use Rattle.model.specs.Calls.{areaRefusal}
+use Rattle.model.specs.Calls.{areaRefusal, neighbourRefusal}
 use Rattle.painting.specs.declared.Next.{Next}
 use Rattle.levels.specs.declared.Settings.{Settings}
 
 -- ## Settings
 
--- L 7, area 20, plain, low 80, high 300
+-- L 7, area 20, plain, low 80, high 300, four neighbours
 abbrev pub house : Settings
-house = record { last = 7; area = 20; rule = Plain 80 300 }
+house = record { last = 7; area = 20; rule = Plain 80 300; neighbours = 4 }
 
 -- 9: L above 7
 unfoldable pub levelRefusal : ℕ → ℕ
 levelRefusal last = when (ltb 7 last) 9
 
--- 9, 6, 7, 8, 18
+-- 9, 6, 7, 8, 18, 19
 unfoldable pub settingsRefusal : Settings → ℕ
-settingsRefusal t = levelRefusal (t .last) ▷ areaRefusal (t .area) ▷ ruleRefusal (t .rule)
+settingsRefusal t =
+    levelRefusal (t .last) ▷ areaRefusal (t .area) ▷ ruleRefusal (t .rule) ▷ neighbourRefusal (t .neighbours)
 
 -- ## Sections
 

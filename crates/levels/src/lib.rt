@@ -1,8 +1,8 @@
 // Levels: the settings of an enhancement, and the sections of its levels. Level 0 is the section of all values, and
 // each section is split into two halves for the next level, down to the last.
 //
-// Settings           the last level, the least area and the tone rule, with the house setting
-// settings_refusal   refusals 9, 6, 7, 8, 18 for settings, or 0
+// Settings           the last level, the least area, the tone rule and the number of neighbours, with the house setting
+// settings_refusal   refusals 9, 6, 7, 8, 18, 19 for settings, or 0
 // below              how many levels there are below a section's own
 // deeper             whether a section has halves
 // next_of            the numbers of a section's halves
@@ -18,11 +18,13 @@ use tones::Rule;
 // The greatest last level.
 pub const LAST: u8 = 7;
 
-// The levels 0 to `last` run; components from level 1 on have at least `area` pixels.
+// The levels 0 to `last` run; components from level 1 on have at least `area` pixels. On all levels they are taken by the
+// number of neighbours, 4 or 8.
 pub struct Settings {
     pub last: u8,
     pub area: u32,
     pub rule: Rule,
+    pub neighbours: u8,
 }
 
 impl Settings {
@@ -35,10 +37,17 @@ impl Settings {
 
     pub const HOUSE_HIGH: u16 = 300;
 
-    pub fn new(last: u8, area: u32, rule: Rule) -> Self
-        ensures { λ r. ⌜ r ≡ record { last = last; area = area; rule = rule } ⌝ }
+    pub const HOUSE_NEIGHBOURS: u8 = 4;
+
+    pub fn new(last: u8, area: u32, rule: Rule, neighbours: u8) -> Self
+        ensures { λ r. ⌜ r ≡ record { last = last; area = area; rule = rule; neighbours = neighbours } ⌝ }
     {
-        Self { last, area, rule }
+        Self {
+            last,
+            area,
+            rule,
+            neighbours,
+        }
     }
 
     pub fn house() -> Self
@@ -48,7 +57,12 @@ impl Settings {
             low: Self::HOUSE_LOW,
             high: Self::HOUSE_HIGH,
         };
-        Self::new(Self::HOUSE_LAST, Self::HOUSE_AREA, rule)
+        Self::new(
+            Self::HOUSE_LAST,
+            Self::HOUSE_AREA,
+            rule,
+            Self::HOUSE_NEIGHBOURS,
+        )
     }
 }
 
@@ -62,7 +76,7 @@ fn level_refusal(last: u8) -> u8
     0
 }
 
-// 9, 6, 7, 8, 18 in that order for the settings, or 0.
+// 9, 6, 7, 8, 18, 19 in that order for the settings, or 0.
 pub fn settings_refusal(settings: Settings) -> u8
     ensures { λ r. ⌜ r ≡ settingsRefusal settings ⌝ }
 {
@@ -75,7 +89,11 @@ pub fn settings_refusal(settings: Settings) -> u8
         return area;
     }
     let rule = settings.rule;
-    tones::rule_refusal(rule)
+    let unfit = tones::rule_refusal(rule);
+    if unfit != 0 {
+        return unfit;
+    }
+    model::neighbour_refusal(settings.neighbours)
 }
 
 // The level of a section, by its width: eight less the exponent of a power of two.

@@ -2,14 +2,14 @@
 use mathlib.Core.Path.{refl}
 use Rattle.tones.specs.Refusals.{ruleRefusal}
 use Rattle.tones.specs.Numbers.{malformed}
-use Rattle.model.specs.Calls.{areaRefusal, numbersRefusal}
+use Rattle.model.specs.Calls.{areaRefusal, neighbourRefusal, numbersRefusal}
 use Rattle.listformat.specs.Format.{passAt, misnamed, miscounted, headRefusal}
 use Rattle.listformat.specs.Refusals.{recordRefusal, recordRefusals, listRefusal}
 use Rattle.listformat.specs.Examples.{ListRefusals}
 
 pub list-refusals : ListRefusals
 unfolding listRefusal headRefusal misnamed miscounted malformed recordRefusals recordRefusal passAt numbersRefusal
-    areaRefusal ruleRefusal
+    areaRefusal ruleRefusal neighbourRefusal
 list-refusals = record {
   no-passes = refl;
   two-passes = refl;

@@ -86,12 +86,12 @@ read-numbers s f rest =
     (join16 (numbersOf (s .rule) .first) (fits .first-fits))
     (join16 (numbersOf (s .rule) .second) (fits .second-fits))
 
-abbrev pass : ℕ → ℕ → ℕ → Rule → Pass
-pass a b area rule = record { a = a; b = b; area = area; rule = rule }
+abbrev pass : ℕ → ℕ → ℕ → Rule → ℕ → Pass
+pass a b area rule number = record { a = a; b = b; area = area; rule = rule; neighbours = number }
 
-same-pass : {a b area a' b' area' : ℕ} {rule rule' : Rule} → a ≡ a' → b ≡ b' → area ≡ area' → rule ≡ rule'
-    → pass a b area rule ≡ pass a' b' area' rule'
-same-pass a b area rule = cc
+same-pass : {a b area number a' b' area' number' : ℕ} {rule rule' : Rule} → a ≡ a' → b ≡ b' → area ≡ area'
+    → rule ≡ rule' → number ≡ number' → pass a b area rule number ≡ pass a' b' area' rule' number'
+same-pass a b area rule number = cc
 
 -- a pass, written and read
 pub read-pass : (s : Pass) → Storable s → (rest : List ℕ) → passAt (encodePass s ++ rest) 0 ≡ s
@@ -102,6 +102,7 @@ read-pass s f rest =
     (mod-eq-of-lt (f .b-fits))
     (join32 (s .area) (f .area-fits))
     (ap ruleOf (read-numbers s f rest) ∙ read-rule (s .rule))
+    (sym (f .neighbours-are))
 
 pub formed-pass : (s : Pass) → Storable s → (rest : List ℕ) → malformedAt (encodePass s ++ rest) 0 ≡ false
 formed-pass s f rest = ap malformed (read-numbers s f rest) ∙ formed-rule (s .rule)
@@ -332,6 +333,7 @@ storable-at bs b i = record {
   b-fits = b .each (i + 1);
   area-fits = omega (arith, two (i + 4), two (i + 4 + 2));
   rule-fits = numbers-rule (numbersAt bs i) (b .each (i + 3)) (two (i + 8)) (two (i + 10));
+  neighbours-are = refl;
 }
   where
     two : (j : ℕ) → number16 bs j < 65536

@@ -3,7 +3,7 @@
 -- A list is the mark MLP, the version 1 and the count of its records, both 16-bit, then a record of 12 bytes for each
 -- pass: a, b, the rule (0 plain, 1 limited, 2 affine), a byte that is zero for plain and limited and the segments for
 -- affine, the least area (32-bit) and two 16-bit numbers, which are low and high, k and 0, or smin and smax. Of each
--- number the low byte comes first.
+-- number the low byte comes first. A record has no number of neighbours: its pass takes the four.
 --
 --   number16, number32  the number that stands at an index of a byte list
 --   headLength, recordLength, recordStart
@@ -21,6 +21,7 @@
 --   Storable            a pass whose numbers fit the fields of a record
 --   Listable            some passes that a list can hold
 use Prim.Native.Nat.{ℕ, _+_, _*_, _/_, _%_, _≤_, _<_}
+use mathlib.Core.Path.{_≡_}
 use mathlib.Core.Bool.{Bool, not, _&&_, _||_, cond}
 use mathlib.Core.List.{List, [], _∷_, _++_, map}
 use mathlib.Core.Option.{Option, none, some}
@@ -90,6 +91,7 @@ passAt bs i = record {
   b = upperEnd bs i;
   area = leastArea bs i;
   rule = ruleOf (numbersAt bs i);
+  neighbours = 4;
 }
 
 unfoldable pub passesOf : List ℕ → List Pass
@@ -156,12 +158,13 @@ encode ss = 77 ∷ 76 ∷ 80 ∷ (bytes16 version ++ (bytes16 (length ss) ++ enc
 pub record Bytes (bs : List ℕ) : Type 0 where
   pub each : (i : ℕ) → at bs i < 256
 
--- the numbers of a pass fit the fields of a record, as those of a pass in memory do
+-- the numbers of a pass fit the fields of a record, as those of a pass in memory do, and it takes the four neighbours
 pub record Storable (s : Pass) : Type 0 where
   pub a-fits : s .a < 256
   pub b-fits : s .b < 256
   pub area-fits : s .area < 4294967296
   pub rule-fits : RuleFits (s .rule)
+  pub neighbours-are : s .neighbours ≡ 4
 
 -- some passes that a list can hold
 pub record Listable (ss : List Pass) : Type 0 where

@@ -2,7 +2,7 @@
 --
 --   firstRefusal    the first of some refusals that applies
 --   recordAt        a record: 17 for its form, or 0, and its pass
---   recordRefusal   17, then 5 to 8, 18, for one record
+--   recordRefusal   17, then 5 to 8, 18, for one record; never 19, since its pass takes the four neighbours
 --   listRefusal     of a list of bytes: its head, then its records in order
 --   countRefusal    16, by the number of passes in memory
 --   passesRefusal   of passes in memory: more than 1,024 of them, then each pass in order

@@ -12,6 +12,7 @@ ghost use Rattle.listformat.specs.Format.{number16, number32, numbersAt,
 ghost use Rattle.listformat.specs.Format.{recordStart, countOf, greatestCount, misnamed, headRefusal};
 ghost use Rattle.listformat.specs.Refusals.{firstRefusal, recordAt, recordRefusal, recordRefusals, listRefusal};
 use model::Pass;
+use planes::FOUR;
 use planes::refused;
 use tones::RuleNumbers;
 
@@ -94,7 +95,7 @@ fn numbers_at(list: &[u8], i: usize) -> RuleNumbers
     }
 }
 
-// The pass of the record that starts at index i.
+// The pass of the record that starts at index i, which takes the four neighbours.
 fn pass_at(list: &[u8], i: usize) -> Pass
     requires { ⌜ i + recordLength ≤ length (now list) ⌝ }
     ensures { λ r. ⌜ r ≡ passAt (now (list .entry)) i ⌝ }
@@ -103,7 +104,13 @@ fn pass_at(list: &[u8], i: usize) -> Pass
     let b = list[i + UPPER];
     let area = number32_at(list, i + AREA);
     let rule = tones::rule_of(numbers_at(list, i));
-    Pass { a, b, area, rule }
+    Pass {
+        a,
+        b,
+        area,
+        rule,
+        neighbours: FOUR,
+    }
 }
 
 // 17 for a malformed record at index i, else 0.

@@ -100,17 +100,17 @@ module _ (z : Shape) where
   start-runs ss a p size = chain-runs ss a (start p) size ∙ nothing-then p (runEffect (passNeighbours z) ss p)
 
   -- in an enhancement whose passes are all accepted, all calls are
-  pub enhanced-accepted : (last area : ℕ) (rule : Rule) (p : List ℕ) → length p ≡ pixels z
-      → All Accepted (passes last area rule) → AllAccepted (enhanced z p last area rule .answers)
+  pub enhanced-accepted : (last area : ℕ) (rule : Rule) (number : ℕ) (p : List ℕ) → length p ≡ pixels z
+      → All Accepted (passes last area rule number) → AllAccepted (enhanced z p last area rule number .answers)
   unfolding enhanced callOf
-  enhanced-accepted last area rule p size a =
-      chain-taken z (callOf (pixels z)) (λ s. refl) (passes last area rule) a (start p) size none
+  enhanced-accepted last area rule number p size a =
+      chain-taken z (callOf (pixels z)) (λ s. refl) (passes last area rule number) a (start p) size none
 
   -- its effect is the recursion's
-  pub enhanced-recursion : (last area : ℕ) (rule : Rule) (p : List ℕ) → last ≤ 7 → length p ≡ pixels z
-      → All Accepted (passes last area rule)
-      → chainEffect (enhanced z p last area rule) ≡ runEffect (passNeighbours z) (recursive last area rule) p
+  pub enhanced-recursion : (last area : ℕ) (rule : Rule) (number : ℕ) (p : List ℕ) → last ≤ 7 → length p ≡ pixels z
+      → All Accepted (passes last area rule number)
+      → chainEffect (enhanced z p last area rule number) ≡ runEffect (passNeighbours z) (recursive last area rule number) p
   unfolding enhanced
-  enhanced-recursion last area rule p l size a =
-      start-runs (passes last area rule) a p size
-      ∙ sym (recursion-listed (passNeighbours z) last area rule l .effects p)
+  enhanced-recursion last area rule number p l size a =
+      start-runs (passes last area rule number) a p size
+      ∙ sym (recursion-listed (passNeighbours z) last area rule number l .effects p)

@@ -1,21 +1,28 @@
 -- The neighbours by which a pass takes its components: a symmetric relation that has the plane's neighbours in it, and
--- by which the whole plane is linked. Assumes nothing.
+-- by which the whole plane is linked. Passes that carry one number run by one relation. Assumes nothing.
 use Prim.Native.Nat.{ℕ, _≤_, _<_}
-use Rattle.planes.specs.Neighbours.{Chain}
-use Rattle.planes.specs.Shapes.{neighbours, Symmetric, Narrower}
+use mathlib.Core.Path.{_≡_, refl, ap, _∙_}
+use mathlib.Core.List.{List, [], _∷_}
+use Rattle.planes.specs.Neighbours.{Near, Chain}
+use Rattle.planes.specs.Shapes.{neighbours, adjacency, Symmetric, Narrower}
 use Rattle.planes.specs.declared.Shape.{Shape}
-use Rattle.planes.proofs.Shapes.{neighbours-sym, shape-chain}
+use Rattle.planes.proofs.Shapes.{adjacency-sym, adjacency-wider, adjacency-chain}
 use Rattle.model.specs.declared.Pass.{Pass}
 use Rattle.model.specs.Neighbourhoods.{passNeighbours}
 
 pub pass-sym : (z : Shape) (s : Pass) → Symmetric (passNeighbours z s)
 unfolding passNeighbours
-pass-sym z s = neighbours-sym z
+pass-sym z s = adjacency-sym z (s .neighbours)
 
 pub pass-wider : (z : Shape) (s : Pass) → Narrower (neighbours z) (passNeighbours z s)
 unfolding passNeighbours
-pass-wider z s i j e = e
+pass-wider z s = adjacency-wider z (s .neighbours)
 
 pub pass-chain : (z : Shape) (s : Pass) (n : ℕ) → 1 ≤ z .w → (p : ℕ) → p < n → Chain (passNeighbours z s) n 0 p
 unfolding passNeighbours
-pass-chain z s = shape-chain z
+pass-chain z s = adjacency-chain z (s .neighbours)
+
+-- a pass by the number that it carries
+pub pass-by : (z : Shape) (s : Pass) {number : ℕ} → s .neighbours ≡ number → passNeighbours z s ≡ adjacency z number
+unfolding passNeighbours
+pass-by z s e = ap (adjacency z) e

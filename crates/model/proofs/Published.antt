@@ -52,19 +52,19 @@ reading-reorders a b Ss = reordered-same Ss
 abbrev top : ℕ → ℕ → ℕ → ℕ
 top k d a = a + 2 ^ (d + k) - 1
 
-deep-fits : (area : ℕ) (rule : Rule) (k d a : ℕ) → All (InRange a (top k d a) area) (deep k area rule d a)
+deep-fits : (area : ℕ) (rule : Rule) (number k d a : ℕ) → All (InRange a (top k d a) area) (deep k area rule number d a)
 unfolding deep section
-deep-fits area rule k zero a =
+deep-fits area rule number k zero a =
     let h = pow-pos (0 + k) in
-    more {s = section area rule a (2 ^ (0 + k))}
+    more {s = section area rule number a (2 ^ (0 + k))}
     (record { low = omega arith; high = omega arith; least = refl }) none
-deep-fits area rule k (suc d) a =
+deep-fits area rule number k (suc d) a =
     let h = pow-pos (d + k) in
     let e = double d k in
-    more {s = section area rule a (2 ^ (suc d + k))}
+    more {s = section area rule number a (2 ^ (suc d + k))}
     (record { low = omega arith; high = omega arith; least = refl })
-    (all-append (range-wider (omega arith) (omega arith) (deep-fits area rule k d a))
-    (range-wider (omega arith) (omega arith) (deep-fits area rule k d (a + 2 ^ (d + k)))))
+    (all-append (range-wider (omega arith) (omega arith) (deep-fits area rule number k d a))
+    (range-wider (omega arith) (omega arith) (deep-fits area rule number k d (a + 2 ^ (d + k)))))
 
 module _ (arrange : Arrangement) (reorders : Reorders arrange) (near : Near) (symm : Symmetric near)
     (area : ℕ) where
@@ -168,15 +168,15 @@ module _ (arrange : Arrangement) (reorders : Reorders arrange) (near : Near) (sy
 
   -- ## The levels below a set
 
-  module _ (rule : Rule) (k : ℕ) where
+  module _ (rule : Rule) (number k : ℕ) where
     -- the recursion with d levels below a section is the run of the section and the sections below
     recursive-does : (d a : ℕ)
-        → Performs near area (recursiveHistogramEqualization arrange near area rule d) (deep k area rule d a) a
+        → Performs near area (recursiveHistogramEqualization arrange near area rule d) (deep k area rule number d a) a
         (top k d a)
     unfolding recursiveHistogramEqualization deep section
     recursive-does zero a = record {
-      fits = deep-fits area rule k zero a;
-      does = λ n A t m S P large. equalization-does near symm n A (section area rule a (2 ^ (0 + k))) t m S P large;
+      fits = deep-fits area rule number k zero a;
+      does = λ n A t m S P large. equalization-does near symm n A (section area rule number a (2 ^ (0 + k))) t m S P large;
     }
     recursive-does (suc d) a =
         let f : Procedure = recursiveHistogramEqualization arrange near area rule d in
@@ -187,13 +187,13 @@ module _ (arrange : Arrangement) (reorders : Reorders arrange) (near : Near) (sy
         let low : top k d a ≡ mid = omega arith in
         let next : a′ ≡ mid + 1 = omega arith in
         let high : top k d a′ ≡ top k (suc d) a = omega arith in
-        let X = subst (Performs near area f (deep k area rule d a) a) low (recursive-does d a) in
-        let Y = subst₂ (Performs near area f (deep k area rule d a′)) next high (recursive-does d a′) in
+        let X = subst (Performs near area f (deep k area rule number d a) a) low (recursive-does d a) in
+        let Y = subst₂ (Performs near area f (deep k area rule number d a′)) next high (recursive-does d a′) in
         record {
-          fits = deep-fits area rule k (suc d) a;
+          fits = deep-fits area rule number k (suc d) a;
           does = λ n A t m S P large.
-              level-does (section area rule a (2 ^ (suc d + k))) mid (omega arith) (omega arith) f
-              (deep k area rule d a) (deep k area rule d a′) X Y n A t m S P large;
+              level-does (section area rule number a (2 ^ (suc d + k))) mid (omega arith) (omega arith) f
+              (deep k area rule number d a) (deep k area rule number d a′) X Y n A t m S P large;
         }
 
 -- ## The whole plane
@@ -228,12 +228,12 @@ module _ (near : Near) (symm : Symmetric near) (area : ℕ) (rule : Rule) (p : L
   large-all = omega (arith, count-all (from 0 n), length-from 0 n, c .some)
 
   module _ (arrange : Arrangement) (reorders : Reorders arrange) where
-    published-does : (last : ℕ) → last ≤ 7
-        → Does near n all (recursive last area rule) p start (publishedIn arrange near last area rule p)
+    published-does : (number last : ℕ) → last ≤ 7
+        → Does near n all (recursive last area rule number) p start (publishedIn arrange near last area rule p)
     unfolding recursive publishedIn recursiveHistogramEqualization section
-    published-does zero h = rw (← keep-all (from 0 n))
-        (equalization-does near symm n all (section 1 rule 0 256) start p shows-all piece-all large-all)
-    published-does (suc m) h =
+    published-does number zero h = rw (← keep-all (from 0 n))
+        (equalization-does near symm n all (section 1 rule number 0 256) start p shows-all piece-all large-all)
+    published-does number (suc m) h =
         let k = 7 - m in
         let a′ = 0 + 2 ^ (m + k) in
         let f : Procedure = recursiveHistogramEqualization arrange near area rule m in
@@ -242,33 +242,36 @@ module _ (near : Near) (symm : Symmetric near) (area : ℕ) (rule : Rule) (p : L
         let low : top k m 0 ≡ 127 = omega arith in
         let next : a′ ≡ 128 = omega arith in
         let high : top k m a′ ≡ 255 = omega arith in
-        let X = subst (Performs near area f (deep k area rule m 0) 0) low
-        (recursive-does arrange reorders near symm area rule k m 0) in
-        let Y = subst₂ (Performs near area f (deep k area rule m a′)) next high
-        (recursive-does arrange reorders near symm area rule k m a′) in
+        let X = subst (Performs near area f (deep k area rule number m 0) 0) low
+        (recursive-does arrange reorders near symm area rule number k m 0) in
+        let Y = subst₂ (Performs near area f (deep k area rule number m a′)) next high
+        (recursive-does arrange reorders near symm area rule number k m a′) in
         rw (← keep-all (from 0 n))
-        (level-does arrange reorders near symm area (section 1 rule 0 256) 127 (omega arith) (omega arith) f
-        (deep k area rule m 0) (deep k area rule m a′) X Y n all start p shows-all piece-all large-all)
+        (level-does arrange reorders near symm area (section 1 rule number 0 256) 127 (omega arith) (omega arith) f
+        (deep k area rule number m 0) (deep k area rule number m a′) X Y n all start p shows-all piece-all large-all)
 
-    -- the published recursion ends as the recursion by sections, whatever the order of the components
-    pub published-run-in : (last : ℕ) → last ≤ 7
-        → publishedIn arrange near last area rule p ≡ runEffect (always near) (recursive last area rule) p
-    published-run-in last h =
-        let D = published-does last h in
-        let size = D .size ∙ sym (length-run (always near) (recursive last area rule) p) in
+    -- the published recursion ends as the recursion by sections, whatever the order of the components, and whatever
+    -- number its passes carry, where one relation is used for all
+    pub published-run-in : (number last : ℕ) → last ≤ 7
+        → publishedIn arrange near last area rule p ≡ runEffect (always near) (recursive last area rule number) p
+    published-run-in number last h =
+        let D = published-does number last h in
+        let size = D .size ∙ sym (length-run (always near) (recursive last area rule number) p) in
         effect-same (ext-getD 0 _ _ size (λ x hx. D .on x (omega (arith, D .size)) refl))
         (D .sum ∙ zero-add _) (D .kept-sum ∙ zero-add _)
 
-  pub published-run : (last : ℕ) → last ≤ 7
-      → published near last area rule p ≡ runEffect (always near) (recursive last area rule) p
+  pub published-run : (number last : ℕ) → last ≤ 7
+      → published near last area rule p ≡ runEffect (always near) (recursive last area rule number) p
   published-run = published-run-in readingOrder reading-reorders
 
   -- and so as the passes level by level
-  pub published-listed : (last : ℕ) → last ≤ 7
-      → published near last area rule p ≡ runEffect (always near) (passes last area rule) p
-  published-listed last h = published-run last h ∙ recursion-listed (always near) last area rule h .effects p
+  pub published-listed : (number last : ℕ) → last ≤ 7
+      → published near last area rule p ≡ runEffect (always near) (passes last area rule number) p
+  published-listed number last h =
+      published-run number last h ∙ recursion-listed (always near) last area rule number h .effects p
 
   -- in whatever order components are treated
   pub published-any-order : (arrange : Arrangement) → Reorders arrange → (last : ℕ) → last ≤ 7
       → publishedIn arrange near last area rule p ≡ published near last area rule p
-  published-any-order arrange reorders last h = published-run-in arrange reorders last h ∙ sym (published-run last h)
+  published-any-order arrange reorders last h =
+      published-run-in arrange reorders 4 last h ∙ sym (published-run 4 last h)

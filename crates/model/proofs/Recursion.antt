@@ -136,10 +136,10 @@ pub double : (d k : ℕ) → 2 ^ (suc d + k) ≡ 2 ^ (d + k) + 2 ^ (d + k)
 double d k = ap (2 ^_) (suc-add d k) ∙ omega arith
 
 -- with the last level's width 2 ^ k: a section of width 2 ^ (d + k) and the d levels below it
-module _ (k area : ℕ) (rule : Rule) where
+module _ (k area : ℕ) (rule : Rule) (number : ℕ) where
   -- the level l below it
   pub wide : ℕ → ℕ → ℕ → List Pass
-  wide d a zero = section area rule a (2 ^ (d + k)) ∷ []
+  wide d a zero = section area rule number a (2 ^ (d + k)) ∷ []
   wide zero a (suc l) = []
   wide (suc d) a (suc l) = wide d a l ++ wide d (a + 2 ^ (d + k)) l
 
@@ -149,7 +149,7 @@ module _ (k area : ℕ) (rule : Rule) where
 
   wide-in : (d a l : ℕ) → All (In a (a + 2 ^ (d + k))) (wide d a l)
   unfolding wide section
-  wide-in d a zero = let h = pow-pos (d + k) in more {s = section area rule a (2 ^ (d + k))} (omega arith) none
+  wide-in d a zero = let h = pow-pos (d + k) in more {s = section area rule number a (2 ^ (d + k))} (omega arith) none
   wide-in zero a (suc l) = none
   wide-in (suc d) a (suc l) =
       let e = double d k in
@@ -186,61 +186,61 @@ module _ (by : Pass → Near) where
       (same-trans by (same-after by (x i) past)
       (same-of (sym (append-assoc (x i) jx (y i ++ jy))))))
 
-  module _ (k area : ℕ) (rule : Rule) where
+  module _ (k area : ℕ) (rule : Rule) (number : ℕ) where
     -- the lists of the two halves are apart
     apart-halves : (d a l r : ℕ)
-        → All (λ s. All (Away s) (wide k area rule d (a + 2 ^ (d + k)) r)) (wide k area rule d a l)
+        → All (λ s. All (Away s) (wide k area rule number d (a + 2 ^ (d + k)) r)) (wide k area rule number d a l)
     apart-halves d a l r =
         let half : ℕ = 2 ^ (d + k) in
-        all-map (λ s (g : In k area rule a (a + half) s).
-        all-map (λ t (h : In k area rule (a + half) (a + half + half) t). (g .1, h .1, inl (omega arith)))
-        (wide-in k area rule d (a + half) r))
-        (wide-in k area rule d a l)
+        all-map (λ s (g : In k area rule number a (a + half) s).
+        all-map (λ t (h : In k area rule number (a + half) (a + half + half) t). (g .1, h .1, inl (omega arith)))
+        (wide-in k area rule number d (a + half) r))
+        (wide-in k area rule number d a l)
 
     -- the two halves, level by level or one after the other
     halves : (d a m : ℕ)
-        → Same by (joined (λ l. wide k area rule d a l ++ wide k area rule d (a + 2 ^ (d + k)) l) 0 m)
-        (joined (wide k area rule d a) 0 m ++ joined (wide k area rule d (a + 2 ^ (d + k))) 0 m)
-    halves d a m = interleave (wide k area rule d a) (wide k area rule d (a + 2 ^ (d + k))) (apart-halves d a) 0 m
+        → Same by (joined (λ l. wide k area rule number d a l ++ wide k area rule number d (a + 2 ^ (d + k)) l) 0 m)
+        (joined (wide k area rule number d a) 0 m ++ joined (wide k area rule number d (a + 2 ^ (d + k))) 0 m)
+    halves d a m = interleave (wide k area rule number d a) (wide k area rule number d (a + 2 ^ (d + k))) (apart-halves d a) 0 m
 
-    pub deep-wide : (d a : ℕ) → Same by (deep k area rule d a) (joined (wide k area rule d a) 0 (suc d))
+    pub deep-wide : (d a : ℕ) → Same by (deep k area rule number d a) (joined (wide k area rule number d a) 0 (suc d))
     unfolding deep wide joined
     deep-wide zero a = same-refl by _
     deep-wide (suc d) a =
         let a′ = a + 2 ^ (d + k) in
-        same-cons by (section area rule a (2 ^ (suc d + k)))
-        (same-trans by (same-before by (deep k area rule d a′) (deep-wide d a))
-        (same-trans by (same-after by (joined (wide k area rule d a) 0 (suc d)) (deep-wide d a′))
+        same-cons by (section area rule number a (2 ^ (suc d + k)))
+        (same-trans by (same-before by (deep k area rule number d a′) (deep-wide d a))
+        (same-trans by (same-after by (joined (wide k area rule number d a) 0 (suc d)) (deep-wide d a′))
         (same-trans by (same-sym by (halves d a (suc d)))
-        (same-of (joined-shift (wide k area rule (suc d) a) 0 (suc d))))))
+        (same-of (joined-shift (wide k area rule number (suc d) a) 0 (suc d))))))
 
 -- ## An enhancement's recursion and its list of passes
 
 -- the levels below the two halves are the levels 1 to m + 1, section by section
-listed : (m area : ℕ) (rule : Rule) → m < 7
-    → joined (λ l. wide (7 - m) area rule m 0 l ++ wide (7 - m) area rule m (0 + 2 ^ (m + (7 - m))) l) 0 (suc m)
-    ≡ levels (from 1 (suc m)) area rule
+listed : (m area : ℕ) (rule : Rule) (number : ℕ) → m < 7
+    → joined (λ l. wide (7 - m) area rule number m 0 l ++ wide (7 - m) area rule number m (0 + 2 ^ (m + (7 - m))) l) 0 (suc m)
+    ≡ levels (from 1 (suc m)) area rule number
 unfolding joined wide levels level section
-listed zero area rule h = refl
-listed (suc zero) area rule h = refl
-listed (suc (suc zero)) area rule h = refl
-listed (suc (suc (suc zero))) area rule h = refl
-listed (suc (suc (suc (suc zero)))) area rule h = refl
-listed (suc (suc (suc (suc (suc zero))))) area rule h = refl
-listed (suc (suc (suc (suc (suc (suc zero)))))) area rule h = refl
-listed (suc (suc (suc (suc (suc (suc (suc m))))))) area rule h = absurd (omega arith)
+listed zero area rule number h = refl
+listed (suc zero) area rule number h = refl
+listed (suc (suc zero)) area rule number h = refl
+listed (suc (suc (suc zero))) area rule number h = refl
+listed (suc (suc (suc (suc zero)))) area rule number h = refl
+listed (suc (suc (suc (suc (suc zero))))) area rule number h = refl
+listed (suc (suc (suc (suc (suc (suc zero)))))) area rule number h = refl
+listed (suc (suc (suc (suc (suc (suc (suc m))))))) area rule number h = absurd (omega arith)
 
 module _ (by : Pass → Near) where
-  pub recursion-listed : (last area : ℕ) (rule : Rule) → last ≤ 7
-      → Same by (recursive last area rule) (passes last area rule)
+  pub recursion-listed : (last area : ℕ) (rule : Rule) (number : ℕ) → last ≤ 7
+      → Same by (recursive last area rule number) (passes last area rule number)
   unfolding recursive passes level levels section
-  recursion-listed zero area rule h = same-refl by _
-  recursion-listed (suc m) area rule h =
+  recursion-listed zero area rule number h = same-refl by _
+  recursion-listed (suc m) area rule number h =
       let a = 0 + 2 ^ (m + (7 - m)) in
-      let lower = deep-wide by (7 - m) area rule m 0 in
-      let upper = deep-wide by (7 - m) area rule m a in
-      same-cons by (section 1 rule 0 256)
-      (same-trans by (same-before by (deep (7 - m) area rule m a) lower)
-      (same-trans by (same-after by (joined (wide (7 - m) area rule m 0) 0 (suc m)) upper)
-      (same-trans by (same-sym by (halves by (7 - m) area rule m 0 (suc m)))
-      (same-of by (listed m area rule h)))))
+      let lower = deep-wide by (7 - m) area rule number m 0 in
+      let upper = deep-wide by (7 - m) area rule number m a in
+      same-cons by (section 1 rule number 0 256)
+      (same-trans by (same-before by (deep (7 - m) area rule number m a) lower)
+      (same-trans by (same-after by (joined (wide (7 - m) area rule number m 0) 0 (suc m)) upper)
+      (same-trans by (same-sym by (halves by (7 - m) area rule number m 0 (suc m)))
+      (same-of by (listed m area rule number h)))))

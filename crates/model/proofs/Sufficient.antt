@@ -107,9 +107,9 @@ module _ (z : Shape) where
 
   -- ## An enhancement
 
-  pub enhanced-sufficient : (p : List ℕ) (last area : ℕ) (rule : Rule)
-      → total retonedIn (enhanced z p last area rule .answers) + total keptIn (enhanced z p last area rule .answers)
-      ≡ chainSufficient z p (map (callOf (pixels z)) (passes last area rule))
+  pub enhanced-sufficient : (p : List ℕ) (last area : ℕ) (rule : Rule) (number : ℕ)
+      → total retonedIn (enhanced z p last area rule number .answers) + total keptIn (enhanced z p last area rule number .answers)
+      ≡ chainSufficient z p (map (callOf (pixels z)) (passes last area rule number))
   unfolding enhanced
-  enhanced-sufficient p last area rule =
-      chain-sufficient (start p) (map (callOf (pixels z)) (passes last area rule)) ∙ zero-add _
+  enhanced-sufficient p last area rule number =
+      chain-sufficient (start p) (map (callOf (pixels z)) (passes last area rule number)) ∙ zero-add _

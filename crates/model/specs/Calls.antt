@@ -1,16 +1,18 @@
 -- Calls of a pass: their refusals in order, their answers, and the model of a chain of calls. Definitions only.
 --
 --   Call         what the model is fed of a call: the pass, and of marks and queue the lengths
---   passRefusal  the number of the first refusal that applies, 1 to 8 in order; 0 where none does
+--   passRefusal  the number of the first refusal that applies, 1 to 8, 18, 19 in order; 0 where none does
 --   retonedIn, keptIn   the counts of a reply
 --   total        the sum of a count over some replies
+--   AcceptedCarry   some calls with their replies: those that were accepted carry a number of neighbours
 --   AllAccepted  replies of calls that were all accepted
 --   State        the model's plane, and the replies so far
 --   call, chain  the state after a call, and after a chain of calls
 --   chainEffect  what a chain of calls comes to
 --   chainSufficient  the components of sufficient area, in the plane as each call finds it
 use Prim.Native.Nat.{ℕ, _+_}
-use mathlib.Core.Bool.{cond, _||_}
+use mathlib.Core.Path.{_≡_}
+use mathlib.Core.Bool.{cond, not, _||_}
 use mathlib.Core.List.{List, [], _∷_, _++_}
 use lib.ListN.{length}
 use lib.Dec.{ltb, eqb}
@@ -34,9 +36,14 @@ intervalRefusal a b = when (ltb b a) 5
 unfoldable pub areaRefusal : ℕ → ℕ
 areaRefusal area = when (eqb area 0 || ltb greatestPixels area) 6
 
--- 5 to 8, 18: a pass's own numbers
+-- 19: the number of neighbours is neither 4 nor 8
+unfoldable pub neighbourRefusal : ℕ → ℕ
+neighbourRefusal number = when (not (eqb number 4 || eqb number 8)) 19
+
+-- 5 to 8, 18, 19: a pass's own numbers
 unfoldable pub numbersRefusal : Pass → ℕ
-numbersRefusal s = intervalRefusal (s .a) (s .b) ▷ areaRefusal (s .area) ▷ ruleRefusal (s .rule)
+numbersRefusal s =
+    intervalRefusal (s .a) (s .b) ▷ areaRefusal (s .area) ▷ ruleRefusal (s .rule) ▷ neighbourRefusal (s .neighbours)
 
 -- what the model is fed of a call: the lengths of marks and queue, and the pass
 pub record Call : Type 0 where
@@ -44,7 +51,7 @@ pub record Call : Type 0 where
   pub queue : ℕ
   pub pass : Pass
 
--- 1, 2, 3, 4 for a plane of the shape that is lent as `plane` bytes, then 5 to 8, 18
+-- 1, 2, 3, 4 for a plane of the shape that is lent as `plane` bytes, then 5 to 8, 18, 19
 unfoldable pub passRefusal : Shape → ℕ → Call → ℕ
 passRefusal z plane c = lentRefusal z plane (c .marks) (c .queue) ▷ numbersRefusal (c .pass)
 
@@ -66,6 +73,14 @@ keptIn (gives (retoned ∷ kept ∷ rest)) = kept
 abbrev pub total : (Reply → ℕ) → List Reply → ℕ
 total f [] = 0
 total f (x ∷ xs) = f x + total f xs
+
+-- every call that was accepted carries the number of neighbours
+pub data AcceptedCarry (number : ℕ) : List Call → List Reply → Type 0 where
+  none : AcceptedCarry number [] []
+  refused : {c : Call} {cs : List Call} {k : ℕ} {replies : List Reply} → AcceptedCarry number cs replies
+      → AcceptedCarry number (c ∷ cs) (refuses k ∷ replies)
+  given : {c : Call} {cs : List Call} {values : List ℕ} {replies : List Reply} → c .pass .neighbours ≡ number
+      → AcceptedCarry number cs replies → AcceptedCarry number (c ∷ cs) (gives values ∷ replies)
 
 -- all calls were accepted
 pub data AllAccepted : List Reply → Type 0 where

@@ -1,9 +1,11 @@
 -- Lists of passes. Definitions only.
 --
 --   All                      every pass of a list has a property
+--   Carries                  a pass carries a number of neighbours
 --   run, runCount, runKept   the plane and the counts of a run, by name
 --   runSufficient            the components of sufficient area, in the plane as each pass finds it
 use Prim.Native.Nat.{ℕ, _+_}
+use mathlib.Core.Path.{_≡_}
 use mathlib.Core.List.{List, [], _∷_}
 use Rattle.planes.specs.Neighbours.{Near}
 use Rattle.model.specs.declared.Pass.{Pass}
@@ -13,6 +15,10 @@ use Rattle.model.specs.Effects.{passEffect, runEffect}
 pub data All (P : Pass → Type 0) : List Pass → Type 0 where
   none : All P []
   more : {s : Pass} {ss : List Pass} → P s → All P ss → All P (s ∷ ss)
+
+-- a pass carries the number of neighbours
+abbrev pub Carries : ℕ → Pass → Type 0
+Carries number s = s .neighbours ≡ number
 
 -- the plane after the passes
 abbrev pub run : (Pass → Near) → List Pass → List ℕ → List ℕ

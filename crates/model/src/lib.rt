@@ -1,23 +1,28 @@
 // The model of section passes: what a pass is, what a call of it answers, and the refusals of its numbers.
 //
-// Pass           an interval, a least area and a tone rule
-// Counts, plus   how many components were retoned, and how many kept back
-// Answer         what a pass, a list or an enhancement answers
-// pass_refusal   refusals 5 to 8 and 18 for a pass's own numbers, or 0
-// area_refusal   refusal 6 for a least area, or 0
+// Pass                an interval, a least area, a tone rule and a number of neighbours
+// Counts, plus        how many components were retoned, and how many kept back
+// Answer              what a pass, a list or an enhancement answers
+// pass_refusal        refusals 5 to 8, 18 and 19 for a pass's own numbers, or 0
+// area_refusal        refusal 6 for a least area, or 0
+// neighbour_refusal   refusal 19 for a number of neighbours, or 0
 ghost use mathlib.Core.Path.{_≡_};
 ghost use Prim.Native.Nat.{_+_, _<_};
 ghost use Rattle.model.specs.Outcomes.{sums};
-ghost use Rattle.model.specs.Calls.{areaRefusal, numbersRefusal};
+ghost use Rattle.model.specs.Calls.{areaRefusal, neighbourRefusal, numbersRefusal};
+use planes::EIGHT;
+use planes::FOUR;
 use planes::refused;
 use tones::Rule;
 
-// The section [a, b], the least area of the components that get the rule, and the rule with its own numbers.
+// The section [a, b], the least area of the components that get the rule, the rule with its own numbers, and the number
+// of neighbours by which components are taken, 4 or 8.
 pub struct Pass {
     pub a: u8,
     pub b: u8,
     pub area: u32,
     pub rule: Rule,
+    pub neighbours: u8,
 }
 
 // The number of components that were retoned, and of those of sufficient area that were kept back. Together they are
@@ -60,7 +65,20 @@ pub fn area_refusal(area: u32) -> u8
     0
 }
 
-// 5 where a is above b, else the refusal of the area or of the rule, else 0.
+// 19 where the number of neighbours is neither 4 nor 8, else 0.
+pub fn neighbour_refusal(neighbours: u8) -> u8
+    ensures { λ r. ⌜ r ≡ neighbourRefusal neighbours ⌝ }
+{
+    if neighbours == FOUR {
+        return 0;
+    }
+    if neighbours == EIGHT {
+        return 0;
+    }
+    refused::NEIGHBOURS
+}
+
+// 5 where a is above b, else the refusal of the area, of the rule or of the number of neighbours, else 0.
 pub fn pass_refusal(pass: Pass) -> u8
     ensures { λ r. ⌜ r ≡ numbersRefusal pass ⌝ }
 {
@@ -73,5 +91,9 @@ pub fn pass_refusal(pass: Pass) -> u8
         return small;
     }
     let rule = pass.rule;
-    tones::rule_refusal(rule)
+    let unfit = tones::rule_refusal(rule);
+    if unfit != 0 {
+        return unfit;
+    }
+    neighbour_refusal(pass.neighbours)
 }

@@ -1,10 +1,13 @@
--- The passes of an enhancement, written as a list and run on a plane, as the intensity of a frame, give the plane and
--- the count of the enhancement: level by level, and also in the order of the recursion, each section before its lower
--- and its upper half. All levels together are 255 passes. Assumes nothing.
+-- The passes of an enhancement, run as a list on a plane, as the intensity of a frame, give the plane and both counts of
+-- the enhancement: level by level, and also in the order of the recursion, each section before its lower and its upper
+-- half. In memory with 4 and with 8 neighbours, as a file with 4, since a record means 4. All levels together are 255
+-- passes. Assumes nothing.
 --
---   sections-255         the full recursion has 255 sections
---   list-enhances        the outcome of the list level by level is the enhancement's plane and count
---   recursion-enhances   so is that of the list in the order of the recursion
+--   sections-255            the full recursion has 255 sections
+--   passes-enhances         the outcome of the list in memory, level by level, is the enhancement's plane and counts
+--   recursion-in-memory     so is that of the list in memory in the order of the recursion
+--   list-enhances           so is that of the file, level by level
+--   recursion-enhances      so is that of the file in the order of the recursion
 use Prim.Native.Nat.{ℕ, zero, suc, _+_, _-_, _*_, _^_, _≤_, _<_}
 use mathlib.Core.Path.{_≡_, refl, sym, ap, ap₂, subst, _∙_}
 use mathlib.Core.Logic.{_⊎_, inl, inr}
@@ -29,7 +32,7 @@ use Rattle.model.specs.declared.Pass.{Pass}
 use Rattle.tones.specs.Refusals.{ruleRefusal}
 use Rattle.model.specs.Neighbourhoods.{passNeighbours}
 use Rattle.model.specs.Effects.{Effect, counts, runEffect, Same}
-use Rattle.model.specs.Calls.{areaRefusal, numbersRefusal, passRefusal, chainEffect}
+use Rattle.model.specs.Calls.{areaRefusal, neighbourRefusal, numbersRefusal, passRefusal, chainEffect}
 use Rattle.model.specs.Runs.{All, none, more}
 use Rattle.model.specs.Enhancement.{section, level, levels, passes, enhanced, callOf, deep, recursive}
 use Rattle.model.proofs.Recursion.{all-append, all-map, double, recursion-listed}
@@ -38,25 +41,25 @@ use Rattle.tones.specs.Numbers.{RuleFits}
 use Rattle.tones.proofs.Numbers.{accepted-fits}
 use Rattle.listformat.specs.Format.{greatestCount, encode, Storable}
 use Rattle.listformat.specs.Refusals.{firstRefusal, passesRefusal}
-use Rattle.listformat.proofs.Format.{passes-encode}
-use Rattle.listformat.proofs.Refusals.{encoded-refusal}
-use Rattle.passlists.specs.Outcomes.{runListRefusal, ListOutcome}
+use Rattle.passlists.specs.Outcomes.{runPassesRefusal, ListOutcome, PassesOutcome}
+use Rattle.passlists.proofs.Lists.{same-outcomes}
 
 -- ## The sections
 
-pub sections-255 : (area : ℕ) (rule : Rule)
-    → (length (passes 7 area rule) ≡ 255) × (length (recursive 7 area rule) ≡ 255)
+pub sections-255 : (area : ℕ) (rule : Rule) (number : ℕ)
+    → (length (passes 7 area rule number) ≡ 255) × (length (recursive 7 area rule number) ≡ 255)
 unfolding passes level levels recursive deep section
-sections-255 area rule = (refl, refl)
+sections-255 area rule number = (refl, refl)
 
--- a pass with the rule, and with area 1 or the given one, on an interval of bytes
-record Proper (area : ℕ) (rule : Rule) (s : Pass) : Type 0 where
+-- a pass with the rule and the number of neighbours, and with area 1 or the given one, on an interval of bytes
+record Proper (area : ℕ) (rule : Rule) (number : ℕ) (s : Pass) : Type 0 where
   order : s .a ≤ s .b
   top : s .b < 256
   area-is : (s .area ≡ 1) ⊎ (s .area ≡ area)
   rule-is : s .rule ≡ rule
+  number-is : s .neighbours ≡ number
 
-module _ (area : ℕ) (rule : Rule) where
+module _ (area : ℕ) (rule : Rule) (number : ℕ) where
   -- the first j sections of level l end at 256 or before
   ends : (l j : ℕ) → l ≤ 8 → j ≤ 2 ^ l → j * 2 ^ (8 - l) ≤ 256
   ends l j deep h =
@@ -66,38 +69,44 @@ module _ (area : ℕ) (rule : Rule) where
 
   -- a section that ends at 256 or before, with either area
   proper-at : (used a width : ℕ) → (used ≡ 1) ⊎ (used ≡ area) → 0 < width → a + width ≤ 256
-      → Proper area rule (section used rule a width)
+      → Proper area rule number (section used rule number a width)
   unfolding section
-  proper-at used a width is some h = record { order = omega arith; top = omega arith; area-is = is; rule-is = refl }
+  proper-at used a width is some h = record {
+    order = omega arith;
+    top = omega arith;
+    area-is = is;
+    rule-is = refl;
+    number-is = refl;
+  }
 
   -- section j of level l
   proper-section : (used l j : ℕ) → (used ≡ 1) ⊎ (used ≡ area) → l ≤ 8 → j < 2 ^ l
-      → Proper area rule (section used rule (j * 2 ^ (8 - l)) (2 ^ (8 - l)))
+      → Proper area rule number (section used rule number (j * 2 ^ (8 - l)) (2 ^ (8 - l)))
   proper-section used l j is deep h =
       let end = subst (_≤ 256) (suc-mul j (2 ^ (8 - l))) (ends l (suc j) deep h) in
       proper-at used (j * 2 ^ (8 - l)) (2 ^ (8 - l)) is (pow-pos (8 - l)) end
 
-  proper-level : (used l : ℕ) → (used ≡ 1) ⊎ (used ≡ area) → l ≤ 8 → All (Proper area rule) (level l used rule)
+  proper-level : (used l : ℕ) → (used ≡ 1) ⊎ (used ≡ area) → l ≤ 8 → All (Proper area rule number) (level l used rule number)
   unfolding level
   proper-level used l is deep = go 0 (2 ^ l) (omega arith)
     where
       go : (j m : ℕ) → j + m ≤ 2 ^ l
-          → All (Proper area rule) (map (λ i. section used rule (i * 2 ^ (8 - l)) (2 ^ (8 - l))) (from j m))
+          → All (Proper area rule number) (map (λ i. section used rule number (i * 2 ^ (8 - l)) (2 ^ (8 - l))) (from j m))
       go j zero h = none
       go j (suc m) h = more (proper-section used l j is deep (omega arith)) (go (suc j) m (omega arith))
 
-  proper-levels : (i m : ℕ) → i + m ≤ 9 → All (Proper area rule) (levels (from i m) area rule)
+  proper-levels : (i m : ℕ) → i + m ≤ 9 → All (Proper area rule number) (levels (from i m) area rule number)
   unfolding levels
   proper-levels i zero h = none
   proper-levels i (suc m) h =
       all-append (proper-level area i (inr refl) (omega arith)) (proper-levels (suc i) m (omega arith))
 
-  proper : (last : ℕ) → last ≤ 7 → All (Proper area rule) (passes last area rule)
+  proper : (last : ℕ) → last ≤ 7 → All (Proper area rule number) (passes last area rule number)
   unfolding passes
   proper last h = all-append (proper-level 1 0 (inl refl) (omega arith)) (proper-levels 1 last (omega arith))
 
   -- a section of the recursion and those below it
-  proper-deep : (k d a : ℕ) → a + 2 ^ (d + k) ≤ 256 → All (Proper area rule) (deep k area rule d a)
+  proper-deep : (k d a : ℕ) → a + 2 ^ (d + k) ≤ 256 → All (Proper area rule number) (deep k area rule number d a)
   unfolding deep
   proper-deep k zero a h = more (proper-at area a (2 ^ (0 + k)) (inr refl) (pow-pos (0 + k)) h) none
   proper-deep k (suc d) a h =
@@ -105,7 +114,7 @@ module _ (area : ℕ) (rule : Rule) where
       more (proper-at area a (2 ^ (suc d + k)) (inr refl) (pow-pos (suc d + k)) h)
       (all-append (proper-deep k d a (omega arith)) (proper-deep k d (a + 2 ^ (d + k)) (omega arith)))
 
-  proper-recursive : (last : ℕ) → last ≤ 7 → All (Proper area rule) (recursive last area rule)
+  proper-recursive : (last : ℕ) → last ≤ 7 → All (Proper area rule number) (recursive last area rule number)
   unfolding recursive
   proper-recursive zero h = more (proper-at 1 0 256 (inl refl) (omega arith) (omega arith)) none
   proper-recursive (suc m) h =
@@ -124,26 +133,28 @@ small used e =
     let tests = or-none (eqb used 0) (ltb greatestPixels used) none in
     omega (arith, ltb-false greatestPixels used (tests .1))
 
-module _ (area : ℕ) (rule : Rule) (area-fine : areaRefusal area ≡ 0) (rule-fine : ruleRefusal rule ≡ 0) where
-  accepted-area : (used : ℕ) → (used ≡ 1) ⊎ (used ≡ area) → areaRefusal used ≡ 0
-  unfolding areaRefusal
-  accepted-area used (inl e) = ap areaRefusal e
-  accepted-area used (inr e) = ap areaRefusal e ∙ area-fine
+module _ (area : ℕ) (rule : Rule) (number : ℕ) (area-fine : areaRefusal area ≡ 0) (rule-fine : ruleRefusal rule ≡ 0)
+  where
+    accepted-area : (used : ℕ) → (used ≡ 1) ⊎ (used ≡ area) → areaRefusal used ≡ 0
+    unfolding areaRefusal
+    accepted-area used (inl e) = ap areaRefusal e
+    accepted-area used (inr e) = ap areaRefusal e ∙ area-fine
 
-  accepted-pass : (s : Pass) → Proper area rule s → numbersRefusal s ≡ 0
-  unfolding numbersRefusal
-  accepted-pass s p =
-      ap₂ (λ (t : Bool) (k : ℕ). when t 5 ▷ k ▷ ruleRefusal (s .rule)) (le-ltb (s .b) (s .a) (p .order))
-      (accepted-area (s .area) (p .area-is))
-      ∙ ap ruleRefusal (p .rule-is) ∙ rule-fine
+    accepted-pass : neighbourRefusal number ≡ 0 → (s : Pass) → Proper area rule number s → numbersRefusal s ≡ 0
+    unfolding numbersRefusal
+    accepted-pass number-fine s p =
+        ap₂ (λ (t : Bool) (k : ℕ). when t 5 ▷ k ▷ ruleRefusal (s .rule) ▷ neighbourRefusal (s .neighbours))
+        (le-ltb (s .b) (s .a) (p .order)) (accepted-area (s .area) (p .area-is))
+        ∙ ap₂ _▷_ (ap ruleRefusal (p .rule-is) ∙ rule-fine) (ap neighbourRefusal (p .number-is) ∙ number-fine)
 
-  storable-pass : (s : Pass) → Proper area rule s → Storable s
-  storable-pass s p = record {
-    a-fits = omega (arith, p .order, p .top);
-    b-fits = p .top;
-    area-fits = small (s .area) (accepted-area (s .area) (p .area-is));
-    rule-fits = subst RuleFits (sym (p .rule-is)) (accepted-fits rule rule-fine);
-  }
+    storable-pass : number ≡ 4 → (s : Pass) → Proper area rule number s → Storable s
+    storable-pass four s p = record {
+      a-fits = omega (arith, p .order, p .top);
+      b-fits = p .top;
+      area-fits = small (s .area) (accepted-area (s .area) (p .area-is));
+      rule-fits = subst RuleFits (sym (p .rule-is)) (accepted-fits rule rule-fine);
+      neighbours-are = p .number-is ∙ four;
+    }
 
 -- ## The list
 
@@ -151,18 +162,18 @@ first-fine : (ss : List Pass) → All (λ s. numbersRefusal s ≡ 0) ss → firs
 first-fine [] none = refl
 first-fine (s ∷ ss) (more e a) = ap₂ _▷_ e (first-fine ss a)
 
-few : (last area : ℕ) (rule : Rule) → last ≤ 7
-    → (length (passes last area rule) ≤ 255) × (length (recursive last area rule) ≤ 255)
+few : (last area : ℕ) (rule : Rule) (number : ℕ) → last ≤ 7
+    → (length (passes last area rule number) ≤ 255) × (length (recursive last area rule number) ≤ 255)
 unfolding passes level levels recursive deep section
-few zero area rule h = (omega arith, omega arith)
-few (suc zero) area rule h = (omega arith, omega arith)
-few (suc (suc zero)) area rule h = (omega arith, omega arith)
-few (suc (suc (suc zero))) area rule h = (omega arith, omega arith)
-few (suc (suc (suc (suc zero)))) area rule h = (omega arith, omega arith)
-few (suc (suc (suc (suc (suc zero))))) area rule h = (omega arith, omega arith)
-few (suc (suc (suc (suc (suc (suc zero)))))) area rule h = (omega arith, omega arith)
-few (suc (suc (suc (suc (suc (suc (suc zero))))))) area rule h = (omega arith, omega arith)
-few (suc (suc (suc (suc (suc (suc (suc (suc l)))))))) area rule h = absurd (omega arith)
+few zero area rule number h = (omega arith, omega arith)
+few (suc zero) area rule number h = (omega arith, omega arith)
+few (suc (suc zero)) area rule number h = (omega arith, omega arith)
+few (suc (suc (suc zero))) area rule number h = (omega arith, omega arith)
+few (suc (suc (suc (suc zero)))) area rule number h = (omega arith, omega arith)
+few (suc (suc (suc (suc (suc zero))))) area rule number h = (omega arith, omega arith)
+few (suc (suc (suc (suc (suc (suc zero)))))) area rule number h = (omega arith, omega arith)
+few (suc (suc (suc (suc (suc (suc (suc zero))))))) area rule number h = (omega arith, omega arith)
+few (suc (suc (suc (suc (suc (suc (suc (suc l)))))))) area rule number h = absurd (omega arith)
 
 -- room for n pixels is enough
 enough : (z : Shape) (plane marks queue : ℕ) → lentRefusal z plane marks queue ≡ 0
@@ -174,61 +185,92 @@ enough z plane marks queue e = lent-none z (pixels z) (pixels z) (pixels z) (rec
   spare = le-refl (pixels z);
 })
 
-module _ (z : Shape) (last area : ℕ) (rule : Rule) (levels-fine : last ≤ 7) (area-fine : areaRefusal area ≡ 0)
-    (rule-fine : ruleRefusal rule ≡ 0) (plane marks queue : List ℕ)
+module _ (z : Shape) (last area : ℕ) (rule : Rule) (number : ℕ) (levels-fine : last ≤ 7)
+    (area-fine : areaRefusal area ≡ 0) (rule-fine : ruleRefusal rule ≡ 0) (plane marks queue : List ℕ)
     (lent-fine : lentRefusal z (length plane) (length marks) (length queue) ≡ 0) where
-  each-fine : (ss : List Pass) → All (Proper area rule) ss → All (λ s. numbersRefusal s ≡ 0) ss
-  each-fine ss = all-map (accepted-pass area rule area-fine rule-fine)
-
-  sections-fine : (ss : List Pass) → length ss ≤ 255 → All (Proper area rule) ss → passesRefusal ss ≡ 0
-  unfolding passesRefusal
-  sections-fine ss l p =
-      ap₂ (λ (t : Bool) (k : ℕ). when t 16 ▷ k) (le-ltb greatestCount (length ss) (omega arith))
-      (first-fine ss (each-fine ss p))
-
-  -- the model's enhancement is the run of the sections
-  enhancement-runs : chainEffect (enhanced z plane last area rule)
-      ≡ runEffect (passNeighbours z) (passes last area rule) plane
-  unfolding enhanced callOf passRefusal
-  enhancement-runs =
-      let whole = lent-fits z (length plane) (length marks) (length queue) lent-fine .whole in
-      let room = enough z (length plane) (length marks) (length queue) lent-fine in
-      let fine = each-fine (passes last area rule) (proper area rule last levels-fine) in
-      start-runs z (passes last area rule) (all-map (λ s y. ap₂ _▷_ room y) fine) plane whole
-
-  -- the enhancement's plane and count
+  -- the enhancement's plane and counts
   abbrev Enhances : Reply → List ℕ → Type 0
   Enhances reply plane' =
-      (plane' ≡ enhanced z plane last area rule .plane)
-      × (reply ≡ gives (counts (chainEffect (enhanced z plane last area rule))))
+      (plane' ≡ enhanced z plane last area rule number .plane)
+      × (reply ≡ gives (counts (chainEffect (enhanced z plane last area rule number))))
 
-  -- the sections in any order that has the same effect
-  ordered-enhances : (ss : List Pass) → length ss ≤ 255 → All (Proper area rule) ss
-      → Same (passNeighbours z) ss (passes last area rule) → (reply : Reply) (plane' marks' queue' : List ℕ)
-      → ListOutcome z (encode ss) plane marks queue reply plane' marks' queue' → Enhances reply plane'
-  ordered-enhances ss l p alike reply plane' marks' queue' out =
-      let told : length ss < 65536 = omega arith in
-      let fit = all-map (storable-pass area rule area-fine rule-fine) p in
-      let refusal : runListRefusal z (encode ss) plane marks queue ≡ 0 =
-      ap₂ _▷_ lent-fine (encoded-refusal ss told fit ∙ sections-fine ss l p) in
-      let same =
-      ap (λ (ps : List Pass). runEffect (passNeighbours z) ps plane) (passes-encode ss told fit .0)
-      ∙ alike .effects plane ∙ sym enhancement-runs in (
-        out .plane-is ∙ ap₂ (λ (k : ℕ) (e : Effect). after k plane (e .plane)) refusal same,
-        out .answer ∙ ap₂ (λ (k : ℕ) (e : Effect). replied k (counts e)) refusal same,
-      )
+  -- ## In memory
 
-  pub list-enhances : (reply : Reply) (plane' marks' queue' : List ℕ)
-      → ListOutcome z (encode (passes last area rule)) plane marks queue reply plane' marks' queue'
-      → Enhances reply plane'
-  list-enhances =
-      ordered-enhances (passes last area rule) (few last area rule levels-fine .0) (proper area rule last levels-fine)
-      (record { effects = λ p. refl })
+  module _ (number-fine : neighbourRefusal number ≡ 0) where
+    each-fine : (ss : List Pass) → All (Proper area rule number) ss → All (λ s. numbersRefusal s ≡ 0) ss
+    each-fine ss = all-map (accepted-pass area rule number area-fine rule-fine number-fine)
 
-  pub recursion-enhances : (reply : Reply) (plane' marks' queue' : List ℕ)
-      → ListOutcome z (encode (recursive last area rule)) plane marks queue reply plane' marks' queue'
-      → Enhances reply plane'
-  recursion-enhances =
-      ordered-enhances (recursive last area rule) (few last area rule levels-fine .1)
-      (proper-recursive area rule last levels-fine)
-      (recursion-listed (passNeighbours z) last area rule levels-fine)
+    sections-fine : (ss : List Pass) → length ss ≤ 255 → All (Proper area rule number) ss → passesRefusal ss ≡ 0
+    unfolding passesRefusal
+    sections-fine ss l p =
+        ap₂ (λ (t : Bool) (k : ℕ). when t 16 ▷ k) (le-ltb greatestCount (length ss) (omega arith))
+        (first-fine ss (each-fine ss p))
+
+    -- the model's enhancement is the run of the sections
+    enhancement-runs : chainEffect (enhanced z plane last area rule number)
+        ≡ runEffect (passNeighbours z) (passes last area rule number) plane
+    unfolding enhanced callOf passRefusal
+    enhancement-runs =
+        let whole = lent-fits z (length plane) (length marks) (length queue) lent-fine .whole in
+        let room = enough z (length plane) (length marks) (length queue) lent-fine in
+        let fine = each-fine (passes last area rule number) (proper area rule number last levels-fine) in
+        start-runs z (passes last area rule number) (all-map (λ s y. ap₂ _▷_ room y) fine) plane whole
+
+    -- the sections in any order that has the same effect
+    ordered-enhances : (ss : List Pass) → length ss ≤ 255 → All (Proper area rule number) ss
+        → Same (passNeighbours z) ss (passes last area rule number) → (reply : Reply) (plane' marks' queue' : List ℕ)
+        → PassesOutcome z ss plane marks queue reply plane' marks' queue' → Enhances reply plane'
+    ordered-enhances ss l p alike reply plane' marks' queue' out =
+        let refusal : runPassesRefusal z ss plane marks queue ≡ 0 = ap₂ _▷_ lent-fine (sections-fine ss l p) in
+        let same = alike .effects plane ∙ sym enhancement-runs in (
+          out .plane-is ∙ ap₂ (λ (k : ℕ) (e : Effect). after k plane (e .plane)) refusal same,
+          out .answer ∙ ap₂ (λ (k : ℕ) (e : Effect). replied k (counts e)) refusal same,
+        )
+
+    pub passes-enhances : (reply : Reply) (plane' marks' queue' : List ℕ)
+        → PassesOutcome z (passes last area rule number) plane marks queue reply plane' marks' queue'
+        → Enhances reply plane'
+    passes-enhances =
+        ordered-enhances (passes last area rule number) (few last area rule number levels-fine .0)
+        (proper area rule number last levels-fine) (record { effects = λ p. refl })
+
+    pub recursion-in-memory : (reply : Reply) (plane' marks' queue' : List ℕ)
+        → PassesOutcome z (recursive last area rule number) plane marks queue reply plane' marks' queue'
+        → Enhances reply plane'
+    recursion-in-memory =
+        ordered-enhances (recursive last area rule number) (few last area rule number levels-fine .1)
+        (proper-recursive area rule number last levels-fine)
+        (recursion-listed (passNeighbours z) last area rule number levels-fine)
+
+  -- ## As a file
+
+  module _ (four : number ≡ 4) where
+    four-fine : neighbourRefusal number ≡ 0
+    unfolding neighbourRefusal
+    four-fine = ap neighbourRefusal four
+
+    -- a file of the sections has the outcome of the list in memory
+    in-memory : (ss : List Pass) → length ss ≤ 255 → All (Proper area rule number) ss
+        → {reply : Reply} {plane' marks' queue' : List ℕ}
+        → ListOutcome z (encode ss) plane marks queue reply plane' marks' queue'
+        → PassesOutcome z ss plane marks queue reply plane' marks' queue'
+    in-memory ss l p {reply} {plane'} {marks'} {queue'} out =
+        let fit = all-map (storable-pass area rule number area-fine rule-fine four) p in
+        subst (λ (T : Type 0). T)
+        (same-outcomes ss (omega arith) fit z plane marks queue reply plane' marks' queue') out
+
+    pub list-enhances : (reply : Reply) (plane' marks' queue' : List ℕ)
+        → ListOutcome z (encode (passes last area rule number)) plane marks queue reply plane' marks' queue'
+        → Enhances reply plane'
+    list-enhances reply plane' marks' queue' out =
+        passes-enhances four-fine reply plane' marks' queue'
+        (in-memory (passes last area rule number) (few last area rule number levels-fine .0)
+        (proper area rule number last levels-fine) out)
+
+    pub recursion-enhances : (reply : Reply) (plane' marks' queue' : List ℕ)
+        → ListOutcome z (encode (recursive last area rule number)) plane marks queue reply plane' marks' queue'
+        → Enhances reply plane'
+    recursion-enhances reply plane' marks' queue' out =
+        recursion-in-memory four-fine reply plane' marks' queue'
+        (in-memory (recursive last area rule number) (few last area rule number levels-fine .1)
+        (proper-recursive area rule number last levels-fine) out)

@@ -18,7 +18,7 @@ use Rattle.listformat.proofs.First.{clear-each}
 
 -- what stands past the end of a list of passes
 abbrev pub noPass : Pass
-noPass = record { a = 0; b = 0; area = 0; rule = Limited 0 }
+noPass = record { a = 0; b = 0; area = 0; rule = Limited 0; neighbours = 4 }
 
 pub passes-at : (ss : List Pass) (i : ℕ) → i < length ss
     → at (map numbersRefusal ss) i ≡ numbersRefusal (getD ss i noPass)

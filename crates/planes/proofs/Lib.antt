@@ -7,6 +7,7 @@ pub mod Refusals
 pub mod Replies
 pub mod Links
 pub mod Neighbours
+pub mod Eight
 pub mod Stores
 pub mod Enumerations
 pub mod Order

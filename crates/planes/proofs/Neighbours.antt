@@ -37,16 +37,16 @@ pub four-at : (w y x v u : ℕ) → x < w → u < w → four w (y * w + x) (v * 
 unfolding four
 four-at w y x v u hx hu = rw (digits-div y hx, digits-mod y hx, digits-div v hu, digits-mod v hu)
 
-apart-cases : (x u : ℕ) → apart x u ≡ true → (x + 1 ≡ u) ⊎ (u + 1 ≡ x)
+pub apart-cases : (x u : ℕ) → apart x u ≡ true → (x + 1 ≡ u) ⊎ (u + 1 ≡ x)
 apart-cases x u e = elim (or-cases (eqb (x + 1) u) (eqb (u + 1) x) e) [
   | inl d ↦ inl (eqb-true _ _ d)
   | inr d ↦ inr (eqb-true _ _ d)
 ]
 
-apart-next : (x : ℕ) → apart x (x + 1) ≡ true
+pub apart-next : (x : ℕ) → apart x (x + 1) ≡ true
 apart-next x = or-inl (eqb (x + 1) (x + 1)) _ (eq-eqb (x + 1) (x + 1) refl)
 
-beside-cases : (y x v u : ℕ) → beside y x v u ≡ true
+pub beside-cases : (y x v u : ℕ) → beside y x v u ≡ true
     → ((y ≡ v) × ((x + 1 ≡ u) ⊎ (u + 1 ≡ x))) ⊎ (((y + 1 ≡ v) ⊎ (v + 1 ≡ y)) × (x ≡ u))
 beside-cases y x v u e = elim (or-cases (eqb y v && apart x u) (apart y v && eqb x u) e) [
   | inl d ↦ inl
@@ -90,7 +90,7 @@ module _ (w y x : ℕ) (hx : x < w) where
       (or-inr (eqb y (y + 1) && apart x x) _ (and-intro (apart-next y) (eq-eqb x x refl)))
 
 -- the same neighbours, seen from the other side
-apart-sym : (x u : ℕ) → apart x u ≡ apart u x
+pub apart-sym : (x u : ℕ) → apart x u ≡ apart u x
 apart-sym x u = or-comm (eqb (x + 1) u) (eqb (u + 1) x)
 
 pub four-sym : (w i j : ℕ) → four w i j ≡ four w j i

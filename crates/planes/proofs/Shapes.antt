@@ -1,15 +1,21 @@
--- Shapes: what it means that none of their refusals applies, and that a plane's neighbours are a symmetric relation by
--- which the whole plane is linked. Assumes nothing.
+-- Shapes: what it means that none of their refusals applies, and that a plane's neighbours, be it by which number of
+-- them, are a symmetric relation that has the four in it, and by which the whole plane is linked. Assumes nothing.
 use Prim.Native.Nat.{ℕ, _≤_, _<_}
-use mathlib.Core.Path.{_≡_}
+use mathlib.Core.Path.{_≡_, ap}
+use mathlib.Core.Bool.{Bool, true, false, cond}
+use native.Mathlib.Omega.{arith}
+use lib.Dec.{eqb}
 use Rattle.planes.specs.Refusals.{_▷_, lengthRefusal, roomRefusal}
 use Rattle.planes.specs.Refusals.{sizeRefusal, greatestPixels}
-use Rattle.planes.specs.Neighbours.{Chain}
-use Rattle.planes.specs.Shapes.{pixels, neighbours, SizedShape, Symmetric, shapeRefusal, lentRefusal, Lent}
+use Rattle.planes.specs.Neighbours.{Near, Chain, eight}
+use Rattle.planes.specs.Shapes.{pixels, neighbours, adjacency, SizedShape, Symmetric, Narrower}
+use Rattle.planes.specs.Shapes.{shapeRefusal, lentRefusal, Lent}
 use Rattle.planes.specs.declared.Shape.{Shape}
 use Rattle.planes.proofs.Refusals.{▷-none, ▷-both, sized, sized-none, length-fits, length-none}
 use Rattle.planes.proofs.Refusals.{room-fits, room-none}
+use Rattle.planes.proofs.Links.{chain-map}
 use Rattle.planes.proofs.Neighbours.{four-sym, plane-chain}
+use Rattle.planes.proofs.Eight.{eight-sym, four-eight}
 
 -- ## Neighbours
 
@@ -21,6 +27,38 @@ neighbours-sym z = four-sym (z .w)
 pub shape-chain : (z : Shape) (n : ℕ) → 1 ≤ z .w → (p : ℕ) → p < n → Chain (neighbours z) n 0 p
 unfolding neighbours
 shape-chain z n = plane-chain (z .w) n
+
+-- by a number of neighbours: what holds of the eight and of those of the shape
+by-number : (z : Shape) (number : ℕ) (P : Near → Type 0) → P (eight (z .w)) → P (neighbours z)
+    → P (adjacency z number)
+unfolding adjacency
+by-number z number P e f = go (eqb number 8)
+  where
+    go : (t : Bool) → P (cond t (eight (z .w)) (neighbours z))
+    go true = e
+    go false = f
+
+pub adjacency-sym : (z : Shape) (number : ℕ) → Symmetric (adjacency z number)
+adjacency-sym z number = by-number z number Symmetric (eight-sym (z .w)) (neighbours-sym z)
+
+pub adjacency-wider : (z : Shape) (number : ℕ) → Narrower (neighbours z) (adjacency z number)
+unfolding neighbours
+adjacency-wider z number = by-number z number (Narrower (neighbours z)) (four-eight (z .w)) (λ i j e. e)
+
+pub adjacency-chain : (z : Shape) (number n : ℕ) → 1 ≤ z .w → (p : ℕ) → p < n → Chain (adjacency z number) n 0 p
+adjacency-chain z number n wide p h =
+    let wider = adjacency-wider z number in
+    chain-map n (neighbours z) (adjacency z number) (λ i j hi hj e. wider i j e) (omega arith)
+    (shape-chain z n wide p h) .1
+
+-- 4 are those of the shape, and so is every number but 8
+pub adjacency-other : (z : Shape) (number : ℕ) → eqb number 8 ≡ false → adjacency z number ≡ neighbours z
+unfolding adjacency
+adjacency-other z number e = ap (λ (t : Bool). cond t (eight (z .w)) (neighbours z)) e
+
+pub adjacency-eight : (z : Shape) (number : ℕ) → eqb number 8 ≡ true → adjacency z number ≡ eight (z .w)
+unfolding adjacency
+adjacency-eight z number e = ap (λ (t : Bool). cond t (eight (z .w)) (neighbours z)) e
 
 -- ## Refusals
 

@@ -2,6 +2,7 @@
 --
 --   Near        a neighbour relation: a test of two pixels
 --   four w      neighbours in a plane of w columns: one coordinate differs by one, the other agrees
+--   eight w     neighbours in a plane of w columns: two pixels, no coordinate of which differs by more than one
 --   Chain       a chain of neighbours leads from one pixel to another
 --   linked      the same as a test that computes: it passes exactly where there is a chain (`linked-iff`)
 --   component   the pixels linked to one, in reading order
@@ -27,6 +28,18 @@ beside y x v u = (eqb y v && apart x u) || (apart y v && eqb x u)
 -- the four neighbours in a plane of w columns
 unfoldable pub four : ℕ → Near
 four w i j = beside (i / w) (i % w) (j / w) (j % w)
+
+-- two coordinates differ by at most one
+abbrev pub close : ℕ → ℕ → Bool
+close x y = eqb x y || apart x y
+
+-- rows y and v, columns x and u: two pixels that touch, be it at a corner
+abbrev pub touching : ℕ → ℕ → ℕ → ℕ → Bool
+touching y x v u = close y v && close x u && not (eqb y v && eqb x u)
+
+-- the eight neighbours in a plane of w columns
+unfoldable pub eight : ℕ → Near
+eight w i j = touching (i / w) (i % w) (j / w) (j % w)
 
 -- a chain of neighbours among the pixels below n
 pub data Chain (near : Near) (n : ℕ) : ℕ → ℕ → Type 0 where

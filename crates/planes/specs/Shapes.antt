@@ -2,7 +2,8 @@
 --
 --   shapeOf       the shape of so many columns and rows
 --   pixels        the number of pixels
---   neighbours    the neighbours that order and regional extrema are about
+--   neighbours    the neighbours that the order and the regional extrema of every chain are about: the four
+--   adjacency     the neighbours by a number of them, by which components are taken: 4 or 8
 --   SizedShape    a shape that is not refused
 --   Symmetric     a relation is the same seen from either side
 --   Narrower      a relation holds only where another does
@@ -11,10 +12,11 @@
 --   Lent          a plane that is lent whole, with room in marks and queue
 use Prim.Native.Nat.{ℕ, _*_, _≤_}
 use mathlib.Core.Path.{_≡_}
-use mathlib.Core.Bool.{true}
+use mathlib.Core.Bool.{true, cond}
+use lib.Dec.{eqb}
 use Rattle.planes.specs.Refusals.{_▷_, sideRefusal, pixelRefusal, lengthRefusal, roomRefusal, greatestPixels}
 use Rattle.planes.specs.Refusals.{Sized}
-use Rattle.planes.specs.Neighbours.{Near, four}
+use Rattle.planes.specs.Neighbours.{Near, four, eight}
 use Rattle.planes.specs.declared.Shape.{Shape}
 
 -- w columns and h rows
@@ -27,6 +29,10 @@ pixels z = z .w * z .h
 -- the four neighbours in the plane
 unfoldable pub neighbours : Shape → Near
 neighbours z = four (z .w)
+
+-- the eight neighbours where their number is 8, else those of the shape
+unfoldable pub adjacency : Shape → ℕ → Near
+adjacency z number = cond (eqb number 8) (eight (z .w)) (neighbours z)
 
 abbrev pub SizedShape : Shape → Type 0
 SizedShape z = Sized (z .w) (z .h) greatestPixels

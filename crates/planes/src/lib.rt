@@ -26,6 +26,12 @@ pub const SIDE: usize = 4096;
 // The greatest number of pixels of a plane.
 pub const PIXELS: usize = 1048576;
 
+// The numbers of neighbours by which components are taken: of the four, and of the eight, among which pixels that touch
+// at a corner only are.
+pub const FOUR: u8 = 4;
+
+pub const EIGHT: u8 = 8;
+
 // A plane of w columns and h rows.
 pub struct Shape {
     pub w: usize,

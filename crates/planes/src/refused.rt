@@ -54,3 +54,6 @@ pub const RECORD: u8 = 17;
 
 // The affine rule's segments or slopes are out of range.
 pub const SLOPES: u8 = 18;
+
+// The number of neighbours is neither 4 nor 8.
+pub const NEIGHBOURS: u8 = 19;

@@ -49,8 +49,8 @@ root-marks span {s = s} {plane} {marks} {marks'} M p l = elim (decide (within s 
 ]
 
 -- level 0 has no area test
-abbrev pub wholePass : Rule → Pass
-wholePass rule = record { a = 0; b = 255; area = 1; rule = rule }
+abbrev pub wholePass : Settings → Pass
+wholePass t = record { a = 0; b = 255; area = 1; rule = t .rule; neighbours = t .neighbours }
 
 -- ## A plane that leaves
 
@@ -82,14 +82,14 @@ left-of near s t plane n whole few rule sizes = elim (decide (ltb n (t .area))) 
 -- ## The levels
 
 module _ (z : Shape) (t : Settings) {u : Next} {plane marks₀ marks queue plane₁ marks₁ queue₁ : List ℕ} {r : Treatment}
-    (M : Marked (wholePass (t .rule)) plane marks₀ marks (pixels z))
-    (T : Treated (passNeighbours z (wholePass (t .rule))) (pixels z) 1 (wholePass (t .rule)) u
+    (M : Marked (wholePass t) plane marks₀ marks (pixels z))
+    (T : Treated (passNeighbours z (wholePass t)) (pixels z) 1 (wholePass t) u
     plane marks queue plane₁ marks₁ queue₁ r) where
   abbrev left : Counts
   left = allTold (levelsLeft (pixels z) t) r
 
-  none-gone : gone (passNeighbours z (wholePass (t .rule))) (pixels z) 1 (wholePass (t .rule)) plane marks ≡ 0
-  none-gone = marked-gone (passNeighbours z (wholePass (t .rule))) M
+  none-gone : gone (passNeighbours z (wholePass t)) (pixels z) 1 (wholePass t) plane marks ≡ 0
+  none-gone = marked-gone (passNeighbours z (wholePass t)) M
 
   marked : Rest (pixels z) marks₀ queue marks queue
   marked = record { marks-rest = M .rest; queue-rest = beyond-refl (pixels z) queue }
@@ -100,7 +100,7 @@ module _ (z : Shape) (t : Settings) {u : Next} {plane marks₀ marks queue plane
     model = effect-same refl refl (omega (arith, none-gone, no-levels (ltb (pixels z) (t .area))))
         ∙ treated-came (passNeighbours z) T
         ∙ sym (run-one (passNeighbours z) _ plane)
-        ∙ ap (λ (k : ℕ). runEffect (passNeighbours z) (recursive k (t .area) (t .rule)) plane) (sym e);
+        ∙ ap (λ (k : ℕ). runEffect (passNeighbours z) (recursive k (t .area) (t .rule) (t .neighbours)) plane) (sym e);
     rest = rest-then marked (rest-of T);
   }
     where
@@ -111,9 +111,9 @@ module _ (z : Shape) (t : Settings) {u : Next} {plane marks₀ marks queue plane
   pub root-halves : {code span : ℕ} {plane' marks' queue' : List ℕ} {r' : Counts} → 0 < t .last → t .last ≤ 7
       → length plane ≡ pixels z → 1 ≤ pixels z
       → ((p : ℕ) → p < pixels z
-      → length (componentValues (passNeighbours z (wholePass (t .rule))) (wholePass (t .rule)) plane p) ≡ pixels z)
+      → length (componentValues (passNeighbours z (wholePass t)) (wholePass t) plane p) ≡ pixels z)
       → goneBelow z t 0 255 code span plane₁ marks₁
-      ≡ componentCount (leaves (passOn t 0 255)) (passNeighbours z (wholePass (t .rule))) (wholePass (t .rule)) plane
+      ≡ componentCount (leaves (passOn t 0 255)) (passNeighbours z (wholePass t)) (wholePass t) plane
       → Halved z 0 255 code span t plane₁ marks₁ queue₁ plane' marks' queue' r'
       → RecursionOutcome z t plane marks₀ queue plane' marks' queue' (sums left r')
   unfolding recursive section
@@ -128,7 +128,7 @@ module _ (z : Shape) (t : Settings) {u : Next} {plane marks₀ marks queue plane
       -- as many have left as there are, with the least area of the levels below
       gones-are : gones ≡ cond (ltb (pixels z) (t .area)) 0 (r .left)
       gones-are = below
-          ∙ left-of (passNeighbours z (wholePass (t .rule))) (wholePass (t .rule)) (passOn t 0 255) plane (pixels z)
+          ∙ left-of (passNeighbours z (wholePass t)) (wholePass t) (passOn t 0 255) plane (pixels z)
           whole pixel refl sizes
           ∙ ap (cond (ltb (pixels z) (t .area)) 0) (omega (arith, T .left-is, none-gone))
 
@@ -138,7 +138,7 @@ module _ (z : Shape) (t : Settings) {u : Next} {plane marks₀ marks queue plane
 
       go : (x : ℕ) → t .last ≡ x
           → came plane' (sums left r')
-          ≡ runEffect (passNeighbours z) (recursive (t .last) (t .area) (t .rule)) plane
+          ≡ runEffect (passNeighbours z) (recursive (t .last) (t .area) (t .rule) (t .neighbours)) plane
       go zero e = absurd (omega arith)
       go (suc m) e =
           let s : suc m + (7 - m) ≡ 8 = omega arith in
@@ -151,4 +151,4 @@ module _ (z : Shape) (t : Settings) {u : Next} {plane marks₀ marks queue plane
           ∙ came-then (passNeighbours z) _ (told r) r' _ ((m + 1) * gones)
           (treated-came (passNeighbours z) T) (H .model m (7 - m) W)
           ∙ sym (run-more (passNeighbours z) _ _ plane)
-          ∙ ap (λ (k : ℕ). runEffect (passNeighbours z) (recursive k (t .area) (t .rule)) plane) (sym e)
+          ∙ ap (λ (k : ℕ). runEffect (passNeighbours z) (recursive k (t .area) (t .rule) (t .neighbours)) plane) (sym e)

@@ -37,6 +37,7 @@ pub fn run_levels(
 {
     let last = settings.last;
     let rule = settings.rule;
+    let neighbours = settings.neighbours;
     let span = levels::sections(last);
     let more = levels::deeper(0, 255, last);
     let next = levels::next_of(more, 127, 1, span);
@@ -45,6 +46,7 @@ pub fn run_levels(
         b: 255,
         area: 1,
         rule,
+        neighbours,
     };
     let n = shape.pixels();
     painting::mark_section(plane, marks, n, whole);

@@ -79,12 +79,13 @@ inert-alike s vs ws A = ap₂ _||_ (ap (λ (k : ℕ). ltb k (s .area)) (A .size)
 
 -- ## A part of the section
 
--- t is a pass on a part of the section of s, with the same rule and no smaller least area
+-- t is a pass on a part of the section of s, with the same rule and neighbours and no smaller least area
 pub record Part (s t : Pass) : Type 0 where
   pub low : s .a ≤ t .a
   pub high : t .b ≤ s .b
   pub area : s .area ≤ t .area
   pub rule : t .rule ≡ s .rule
+  pub neighbours : t .neighbours ≡ s .neighbours
 
 pub part-within : {s t : Pass} → Part s t → (v : ℕ) → within t v ≡ true → within s v ≡ true
 part-within {s} {t} P v e =

@@ -15,7 +15,7 @@ use lib.Seq.{ext-getD}
 use lib.Dec.{eqb, leb}
 use borrow.Author.Tests.{eq-eqb, ne-eqb}
 use Rattle.planes.specs.Lists.{at, from, keep, count, Beyond}
-use Rattle.planes.specs.Shapes.{pixels, neighbours, Symmetric}
+use Rattle.planes.specs.Shapes.{pixels, adjacency, Symmetric}
 use Rattle.planes.specs.Neighbours.{Near, first}
 use Rattle.planes.specs.declared.Shape.{Shape}
 use Rattle.planes.specs.Enumerations.{Enumerates}
@@ -513,15 +513,15 @@ treatable {z = z} {code} {s = s} {t} P = record {
     go true e = P .low e
     go false e = P .high e
 
--- a flood by the plane's neighbours takes the components of the pass
+-- a flood by the number of neighbours that the pass carries takes its components
 pub by-pass : (z : Shape) (s : Pass) {n code start m : ℕ} {marks queue marks' queue' : List ℕ}
-    → Flooded (neighbours z) n code start marks queue marks' queue' m
+    → Flooded (adjacency z (s .neighbours)) n code start marks queue marks' queue' m
     → Flooded (passNeighbours z s) n code start marks queue marks' queue' m
 unfolding passNeighbours
 by-pass z s F = F
 
 pub gauged-by-pass : (z : Shape) (s : Pass) {n code start : ℕ} {plane marks counts : List ℕ} {c : Measures}
-    → Gauged (neighbours z) n code start plane marks c counts
+    → Gauged (adjacency z (s .neighbours)) n code start plane marks c counts
     → Gauged (passNeighbours z s) n code start plane marks c counts
 unfolding passNeighbours
 gauged-by-pass z s G = G
@@ -531,4 +531,4 @@ pub whole-plane : (z : Shape) (s : Pass) (code : ℕ) (marks : List ℕ) → 1 �
     → ((p : ℕ) → p < pixels z → at marks p ≡ code) → (p : ℕ) → p < pixels z
     → region (passNeighbours z s) (pixels z) marks code 0 p ≡ true
 unfolding passNeighbours
-whole-plane z s = plane-region z
+whole-plane z s = plane-region z (s .neighbours)

@@ -3,25 +3,29 @@
 //! and both counts together with the components of sufficient area.
 
 use crate::guarded::Guarded;
+use crate::in_memory;
 use crate::inputs::{self, one_in, PassNumbers, SettingsNumbers};
 use crate::work::Work;
 use mlhe::ffi;
 use mlhe_reference as reference;
 use mlhe_reference::extrema::{keeps_shapes, reversed_channels};
 use mlhe_reference::random::Random;
-use mlhe_reference::{Counts, Pass, Refusal, Rule, Settings};
+use mlhe_reference::{Counts, Pass, Refusal, Rule, Settings, EIGHT, FOUR};
 
 /// The kinds of case, in the order of `case`.
-pub const KINDS: [&str; 9] = ["intensity", "pass", "recolour", "enhance", "list", "read", "write", "chain", "levels"];
+pub const KINDS: [&str; 10] =
+    ["intensity", "pass", "recolour", "enhance", "list", "read", "write", "chain", "levels", "passes"];
 
 /// What a call that counts answered: its counts, or the refusal.
-type Counted = Result<Counts, Refusal>;
+pub type Counted = Result<Counts, Refusal>;
 
-/// What came of a case: the answers of its calls, and the sums of what they counted.
+/// What came of a case: the answers of its calls, the sums of what they counted, and whether they changed a plane that
+/// was then held against its first one by eight neighbours too.
 #[derive(Default)]
 pub struct Outcome {
     pub answers: Vec<i64>,
     pub counts: Counts,
+    pub by_eight: bool,
 }
 
 impl Outcome {
@@ -31,7 +35,7 @@ impl Outcome {
     }
 
     /// That of one call.
-    fn counted(answer: Counted) -> Outcome {
+    pub fn counted(answer: Counted) -> Outcome {
         let mut outcome = Outcome::default();
         outcome.add(answer);
         outcome
@@ -57,7 +61,8 @@ pub fn case(kind: usize, random: &mut Random) -> Compared {
         5 => read(random),
         6 => write(random),
         7 => chain(random),
-        _ => levels(random),
+        8 => levels(random),
+        _ => in_memory::passes(random),
     }
 }
 
@@ -88,7 +93,7 @@ fn same_answer(library: i64, expected: i64) -> Result<(), String> {
 
 /// Both counts of accepted passes together are the components of sufficient area, each pass's in the plane as the pass
 /// finds it.
-fn sufficient(counts: Counts, passes: &[Pass], first: &[u8], w: usize, h: usize) -> Result<(), String> {
+pub fn sufficient(counts: Counts, passes: &[Pass], first: &[u8], w: usize, h: usize) -> Result<(), String> {
     let all = reference::sufficient_in_all(passes, first, w, h);
     require(counts.together() == all, &format!("{counts:?}, but {all} components are of sufficient area"))
 }
@@ -99,21 +104,34 @@ fn same_content(name: &str, memory: &Guarded<u8>, expected: &[u8]) -> Result<(),
     require(memory.now() == expected, &format!("the {name} differs"))
 }
 
-/// What holds of every accepted chain of passes.
-fn same_shapes(first: &[u8], last: &[u8], w: usize, h: usize) -> Result<(), String> {
-    require(keeps_shapes(first, last, w, h), "neighbours or regional maxima or minima are not kept")
+/// What holds of every accepted chain of passes by four neighbours, and by eight where all its accepted passes have
+/// eight. Answers whether a plane that has changed was held against the first by eight.
+pub fn same_shapes(first: &[u8], last: &[u8], w: usize, h: usize, all_eight: bool) -> Result<bool, String> {
+    let what = "neighbours or regional maxima or minima are not kept";
+    require(keeps_shapes(first, last, w, h, FOUR), what)?;
+    if all_eight {
+        require(keeps_shapes(first, last, w, h, EIGHT), &format!("by eight neighbours {what}"))?;
+    }
+    Ok(all_eight && first != last)
 }
 
-/// The rule that a C function makes of the numbers that it is lent; none where it answers 17.
-fn rule(lent: &Guarded<u16>) -> Option<Rule> {
-    let &[code, first, second, segments] = lent.now() else { return None };
+/// The rule and the number of neighbours that a C function makes of the numbers that it is lent, four where that number
+/// is not lent; none where it answers 17.
+fn rule(lent: &Guarded<u16>) -> Option<(Rule, u8)> {
+    let (&[code, first, second, segments], neighbours) = match lent.now() {
+        [numbers @ .., neighbours] if numbers.len() == 4 => (numbers.first_chunk()?, *neighbours),
+        numbers if numbers.len() == 4 => (numbers.first_chunk()?, FOUR.into()),
+        _ => return None,
+    };
     let [first, second, segments] = [first, second, segments].map(u32::from);
-    match (code, second, segments) {
-        (0, _, 0) => Some(Rule::Plain { low: first, high: second }),
-        (1, 0, 0) => Some(Rule::Limited { k: first }),
-        (2, ..) => Some(Rule::Affine { segments, smin: first, smax: second }),
-        _ => None,
-    }
+    let rule = match (code, second, segments) {
+        (0, _, 0) => Rule::Plain { low: first, high: second },
+        (1, 0, 0) => Rule::Limited { k: first },
+        (2, ..) => Rule::Affine { segments, smin: first, smax: second },
+        _ => return None,
+    };
+    // Beyond a byte it is refused as 0 is.
+    Some((rule, u8::try_from(neighbours).unwrap_or(0)))
 }
 
 fn intensity(random: &mut Random) -> Compared {
@@ -172,13 +190,14 @@ fn single_pass(random: &mut Random) -> Compared {
     let length = inputs::exact_length(random, w * h);
     let mut plane = Guarded::holding(&inputs::values(random, w, length), random);
     let mut work = Work::new(random, w * h);
-    let pass = inputs::pass_numbers(random, w * h);
+    let pass = inputs::pass_numbers(random, w * h, &[4, 8]);
     let (w, h) = inputs::told_sides(random, w, h);
     let answer = pass_call(&mut plane, &mut work, w, h, &pass)?;
+    let mut outcome = Outcome::counted(answer);
     if answer.is_ok() {
-        same_shapes(plane.then(), plane.now(), w, h)?;
+        outcome.by_eight = same_shapes(plane.then(), plane.now(), w, h, has_eight(&pass))?;
     }
-    Ok(Outcome::counted(answer))
+    Ok(outcome)
 }
 
 /// A pass by the second implementation.
@@ -188,18 +207,19 @@ fn pass_by_reference(plane: &mut [u8], work: &Work, w: usize, h: usize, pass: &P
         Some(pass) => run(&pass),
         // The second implementation has no rules but its own. 17 is tested right before 5, so a pass with a above b
         // tells whether anything comes before it.
-        None => run(&Pass { a: 1, b: 0, area: 1, rule: Rule::Limited { k: 0 } }).map_err(|number| {
-            if number == 5 {
-                17
-            } else {
-                number
-            }
-        }),
+        None => {
+            let telling = Pass { a: 1, b: 0, area: 1, rule: Rule::Limited { k: 0 }, neighbours: FOUR };
+            run(&telling).map_err(|number| if number == 5 { 17 } else { number })
+        }
     }
 }
 
 fn pass_of(pass: &PassNumbers) -> Option<Pass> {
-    rule(&pass.rule).map(|rule| Pass { a: pass.a, b: pass.b, area: pass.area, rule })
+    rule(&pass.rule).map(|(rule, neighbours)| Pass { a: pass.a, b: pass.b, area: pass.area, rule, neighbours })
+}
+
+fn has_eight(pass: &PassNumbers) -> bool {
+    pass_of(pass).is_some_and(|pass| pass.neighbours == EIGHT)
 }
 
 fn pass_call(
@@ -253,7 +273,7 @@ fn single_list(random: &mut Random) -> Compared {
     let (w, h) = inputs::told_sides(random, w, h);
     let answer = list_call(&list, &mut plane, &mut work, w, h)?;
     if answer.is_ok() {
-        same_shapes(plane.then(), plane.now(), w, h)?;
+        same_shapes(plane.then(), plane.now(), w, h, false)?;
     }
     Ok(Outcome::counted(answer))
 }
@@ -308,13 +328,14 @@ fn enhance(random: &mut Random) -> Compared {
     let settings = inputs::settings_numbers(random, n);
     let (w, h) = inputs::told_sides(random, w, h);
     let answer = enhance_call(&frame, w, h, &settings, &mut plane, &mut work, &mut output)?;
+    let mut outcome = Outcome::counted(answer);
     if let (Ok(counts), Some(settings)) = (answer, settings_of(&settings)) {
         let mut first = vec![0; plane.len()];
         reference::intensity(frame.now(), w, h, &mut first).map_err(|_| "the frame is refused")?;
-        same_shapes(&first, plane.now(), w, h)?;
+        outcome.by_eight = same_shapes(&first, plane.now(), w, h, settings.neighbours == EIGHT)?;
         sufficient(counts, &reference::level_by_level(&settings), &first, w, h)?;
     }
-    Ok(Outcome::counted(answer))
+    Ok(outcome)
 }
 
 /// An enhancement by the second implementation.
@@ -333,13 +354,10 @@ fn enhance_by_reference(
     match settings_of(settings) {
         Some(settings) => run(&settings),
         // As for a pass: 17 is tested right before 9.
-        None => run(&Settings { last_level: 8, area: 1, rule: Rule::Limited { k: 0 } }).map_err(|number| {
-            if number == 9 {
-                17
-            } else {
-                number
-            }
-        }),
+        None => {
+            let telling = Settings { last_level: 8, area: 1, rule: Rule::Limited { k: 0 }, neighbours: FOUR };
+            run(&telling).map_err(|number| if number == 9 { 17 } else { number })
+        }
     }
 }
 
@@ -378,7 +396,8 @@ fn enhance_by_library(
 }
 
 fn settings_of(settings: &SettingsNumbers) -> Option<Settings> {
-    rule(&settings.rule).map(|rule| Settings { last_level: settings.last.into(), area: settings.area, rule })
+    let (rule, neighbours) = rule(&settings.rule)?;
+    Some(Settings { last_level: settings.last.into(), area: settings.area, rule, neighbours })
 }
 
 fn enhance_call(
@@ -405,41 +424,59 @@ fn enhance_call(
     Ok(answer)
 }
 
-/// An enhancement of the greatest number of pixels, with the house setting.
-pub fn greatest(w: usize, h: usize, random: &mut Random) -> Compared {
+/// An enhancement of the greatest number of pixels, with the house setting but for the number of neighbours.
+pub fn greatest(w: usize, h: usize, neighbours: u16, random: &mut Random) -> Compared {
     let n = w * h;
+    let settings = inputs::house(random, neighbours);
     let frame = Guarded::holding(&inputs::frame_bytes(random, w, 3 * n), random);
     let (mut plane, mut output) = (Guarded::filled(n, random), Guarded::filled(3 * n, random));
     let mut work = Work::exact(random, n);
-    Ok(Outcome::counted(enhance_call(&frame, w, h, &inputs::house(random), &mut plane, &mut work, &mut output)?))
+    Ok(Outcome::counted(enhance_call(&frame, w, h, &settings, &mut plane, &mut work, &mut output)?))
 }
 
 /// Enhancements of a grey frame with many components of one value, at every last level. The library's own list of the
-/// same passes leaves the same plane and the same counts.
+/// same passes, in memory where they have eight neighbours, leaves the same plane and the same counts.
 fn levels(random: &mut Random) -> Compared {
     let (w, h) = (random.between(1, 12), random.between(1, 12));
     let n = w * h;
     let greys = inputs::flat_values(random, w, n);
     let frame: Vec<u8> = greys.iter().flat_map(|&grey| [grey; 3]).collect();
     let frame = Guarded::holding(&frame, random);
-    let (area, rule) = inputs::sound_numbers(random, n);
+    let (area, [code, low, high, segments]) = inputs::sound_numbers(random, n);
+    let lent = [code, low, high, segments, random.one_of(&[4, 8])];
     let mut outcome = Outcome::default();
     for last in 0..=7 {
-        let settings = SettingsNumbers { last, area, rule: Guarded::holding(&rule, random) };
+        let settings = SettingsNumbers { last, area, rule: Guarded::holding(&lent, random) };
         let (mut plane, mut output) = (Guarded::filled(n, random), Guarded::filled(3 * n, random));
         let mut work = Work::exact(random, n);
         let enhanced = enhance_call(&frame, w, h, &settings, &mut plane, &mut work, &mut output)?;
         let settings = settings_of(&settings).ok_or("there is no such rule")?;
-        let list = reference::list_bytes(&reference::level_by_level(&settings));
-        let list = Guarded::holding(&list, random);
-        let (mut listed, mut work) = (Guarded::holding(&greys, random), Work::exact(random, n));
-        let run = list_call(&list, &mut listed, &mut work, w, h)?;
+        let (listed, run) = listed_levels(&settings, &greys, w, h, random)?;
         require(enhanced == run, &format!("an enhancement answers {enhanced:?}, and its list {run:?}"))?;
-        require(plane.now() == listed.now(), "an enhancement and its list leave different planes")?;
+        require(plane.now() == listed, "an enhancement and its list leave different planes")?;
+        outcome.by_eight |= same_shapes(&greys, &listed, w, h, settings.neighbours == EIGHT)?;
         outcome.add(enhanced);
         outcome.add(run);
     }
     Ok(outcome)
+}
+
+/// The plane that the list of an enhancement's passes leaves, and its answer.
+fn listed_levels(
+    settings: &Settings,
+    greys: &[u8],
+    w: usize,
+    h: usize,
+    random: &mut Random,
+) -> Result<(Vec<u8>, Counted), String> {
+    let passes = reference::level_by_level(settings);
+    if settings.neighbours == EIGHT {
+        return in_memory::run(&passes, greys, w, h);
+    }
+    let list = Guarded::holding(&reference::list_bytes(&passes), random);
+    let (mut plane, mut work) = (Guarded::holding(greys, random), Work::exact(random, w * h));
+    let answer = list_call(&list, &mut plane, &mut work, w, h)?;
+    Ok((plane.now().to_vec(), answer))
 }
 
 fn read(random: &mut Random) -> Compared {
@@ -488,7 +525,28 @@ fn write(random: &mut Random) -> Compared {
     Ok(Outcome::of(answer))
 }
 
-/// A frame's intensity, any number of passes and lists on it, accepted or refused, and its recolouring.
+/// One call of a chain: a pass with one of these numbers of neighbours, or a list. Answers also whether all its passes
+/// have eight.
+fn link(
+    plane: &mut Guarded<u8>,
+    w: usize,
+    h: usize,
+    neighbours: inputs::Neighbours,
+    random: &mut Random,
+) -> Result<(Counted, bool), String> {
+    let n = w * h;
+    let mut work = Work::new(random, n);
+    if neighbours.contains(&4) && one_in(random, 6) {
+        let list = Guarded::holding(&inputs::list_bytes(random, 4, n), random);
+        let none = reference::list_passes(list.now()).is_ok_and(|passes| passes.is_empty());
+        return Ok((list_call(&list, plane, &mut work, w, h)?, none));
+    }
+    let pass = inputs::pass_numbers(random, n, neighbours);
+    Ok((pass_call(plane, &mut work, w, h, &pass)?, has_eight(&pass)))
+}
+
+/// A frame's intensity, any number of passes and lists on it, accepted or refused, and its recolouring. The accepted
+/// passes have four neighbours, eight, or now the one and now the other.
 fn chain(random: &mut Random) -> Compared {
     let (w, h) = inputs::sides(random);
     let n = w * h;
@@ -502,17 +560,15 @@ fn chain(random: &mut Random) -> Compared {
     same_content("plane", &plane, &first)?;
 
     let mut outcome = Outcome::of(filled);
+    let neighbours = inputs::neighbours(random);
+    let mut all_eight = true;
     for _ in 0..random.between(0, 9) {
         plane.settle();
-        let mut work = Work::new(random, n);
-        outcome.add(if one_in(random, 6) {
-            let list = Guarded::holding(&inputs::list_bytes(random, 4, n), random);
-            list_call(&list, &mut plane, &mut work, w, h)?
-        } else {
-            pass_call(&mut plane, &mut work, w, h, &inputs::pass_numbers(random, n))?
-        });
+        let (answer, with_eight) = link(&mut plane, w, h, neighbours, random)?;
+        all_eight &= answer.is_err() || with_eight;
+        outcome.add(answer);
     }
-    same_shapes(&first, plane.now(), w, h)?;
+    outcome.by_eight = same_shapes(&first, plane.now(), w, h, all_eight)?;
 
     plane.settle();
     let beyond = random.between(0, 9);

@@ -2,6 +2,7 @@
 
 use crate::guarded::Guarded;
 use mlhe_reference::random::Random;
+use mlhe_reference::{Pass, Rule};
 
 /// One time in so many.
 pub fn one_in(random: &mut Random, times: usize) -> bool {
@@ -54,13 +55,13 @@ pub fn exact_length(random: &mut Random, n: usize) -> usize {
 
 /// So many values of one of several kinds of picture, w to a row.
 pub fn values(random: &mut Random, w: usize, count: usize) -> Vec<u8> {
-    let kind = random.below(10);
+    let kind = random.below(13);
     values_of(kind, random, w, count)
 }
 
 /// The same of the kinds that have many components of one value.
 pub fn flat_values(random: &mut Random, w: usize, count: usize) -> Vec<u8> {
-    let kind = random.one_of(&[0, 2, 5, 7, 9, 9, 9]);
+    let kind = random.one_of(&[0, 2, 5, 7, 9, 9, 9, 10, 11, 12]);
     values_of(kind, random, w, count)
 }
 
@@ -85,13 +86,35 @@ fn values_of(kind: usize, random: &mut Random, w: usize, count: usize) -> Vec<u8
             7 if random.below(40) > 0 => base,
             7 => palette[random.below(few)],
             9 => blocks[(x / block + y / block * 8) % 64],
+            10 => base,
+            // A checkerboard whose pixels join by their corners, and one with wires on it.
+            11 | 12 => blocks[(x + y) % 2].saturating_add(random.below(block) as u8),
             _ => {
                 walk = walk.wrapping_add(random.one_of(&[0, 0, 0, 1, 255, 3, 40]));
                 walk
             }
         }
     };
-    (0..count).map(&mut value).collect()
+    let plane = (0..count).map(&mut value).collect();
+    if matches!(kind, 10 | 12) {
+        wired(random, w, plane)
+    } else {
+        plane
+    }
+}
+
+/// Lays thin wires over a plane of w columns, each of values close together.
+fn wired(random: &mut Random, w: usize, mut plane: Vec<u8>) -> Vec<u8> {
+    let rows = plane.len() / w;
+    for _ in 0..random.between(1, 5) {
+        if rows > 0 {
+            let (least, more) = (random.byte(), random.one_of(&[1, 1, 4, 30]));
+            for p in random.wire(w, rows) {
+                plane[p] = least.saturating_add(random.below(more) as u8);
+            }
+        }
+    }
+    plane
 }
 
 /// So many bytes of a frame: coloured, or grey as its intensity.
@@ -125,30 +148,53 @@ pub struct SettingsNumbers {
     pub rule: Guarded<u16>,
 }
 
-/// A rule's numbers in the places of `enum mlhe_rule_number`: code, first, second and segments.
+/// A rule's numbers in the places of `enum mlhe_rule_number`: code, first, second and segments. The number of
+/// neighbours follows them.
 pub type RuleNumbers = [u16; 4];
 
-/// The house setting.
-pub fn house(random: &mut Random) -> SettingsNumbers {
-    SettingsNumbers { last: 7, area: 20, rule: Guarded::holding(&[0, 80, 300, 0], random) }
+/// The numbers of neighbours that the calls of a case have, but for those that are refused: both, or one of them.
+pub type Neighbours = &'static [u16];
+
+/// Four for all calls of a case, eight for all, or both.
+pub fn neighbours(random: &mut Random) -> Neighbours {
+    random.one_of(&[&[4][..], &[8], &[8], &[4, 8]])
+}
+
+/// One of these numbers, and seldom another, which is refused.
+fn neighbours_number(random: &mut Random, numbers: Neighbours) -> u16 {
+    if one_in(random, 40) {
+        random.one_of(&[0, 1, 2, 3, 5, 6, 7, 9, 12, 16, 255, 256, 260, 264, 65_535])
+    } else {
+        random.one_of(numbers)
+    }
+}
+
+/// The house setting, with so many neighbours.
+pub fn house(random: &mut Random, neighbours: u16) -> SettingsNumbers {
+    SettingsNumbers { last: 7, area: 20, rule: Guarded::holding(&[0, 80, 300, 0, neighbours], random) }
 }
 
 /// Settings for a plane of n pixels.
 pub fn settings_numbers(random: &mut Random, n: usize) -> SettingsNumbers {
     if one_in(random, 8) {
-        return house(random);
+        return house(random, 4);
     }
     let last = if one_in(random, 20) { random.one_of(&[8, 9, 255]) } else { random.between(0, 7) as u8 };
-    SettingsNumbers { last, area: area(random, n), rule: lent_rule(random) }
+    SettingsNumbers { last, area: area(random, n), rule: lent_rule(random, &[4, 8]) }
 }
 
-/// A rule to lend, and seldom fewer or more numbers than a rule has.
-fn lent_rule(random: &mut Random) -> Guarded<u16> {
-    let mut numbers = rule_numbers(random).to_vec();
-    if one_in(random, 40) {
-        numbers.resize(random.one_of(&[0, 1, 3, 5, 9]), 0);
+/// A rule to lend with one of these numbers of neighbours. Four is sometimes not lent, and seldom there are fewer or
+/// more numbers than a call takes.
+fn lent_rule(random: &mut Random, numbers: Neighbours) -> Guarded<u16> {
+    let mut lent = rule_numbers(random).to_vec();
+    let neighbours = neighbours_number(random, numbers);
+    if neighbours != 4 || one_in(random, 2) {
+        lent.push(neighbours);
     }
-    Guarded::holding(&numbers, random)
+    if one_in(random, 40) {
+        lent.resize(random.one_of(&[0, 1, 3, 6, 9]), 4);
+    }
+    Guarded::holding(&lent, random)
 }
 
 /// A rule's numbers: mostly sound, the others around each of their limits, of no rule, or set where they have to be 0.
@@ -224,10 +270,37 @@ fn interval(random: &mut Random) -> (u8, u8) {
     }
 }
 
-/// A pass on a plane of n pixels.
-pub fn pass_numbers(random: &mut Random, n: usize) -> PassNumbers {
+/// A pass on a plane of n pixels, with one of these numbers of neighbours.
+pub fn pass_numbers(random: &mut Random, n: usize, neighbours: Neighbours) -> PassNumbers {
     let (a, b) = interval(random);
-    PassNumbers { a, b, area: area(random, n), rule: lent_rule(random) }
+    PassNumbers { a, b, area: area(random, n), rule: lent_rule(random, neighbours) }
+}
+
+/// Passes of a list in memory for a plane of n pixels, most of them sound, with these numbers of neighbours. Of
+/// segments and neighbours a pass has the low byte.
+pub fn memory_passes(random: &mut Random, greatest: usize, n: usize, neighbours: Neighbours) -> Vec<Pass> {
+    let count = random.between(0, greatest);
+    let mut passes = Vec::new();
+    for _ in 0..count {
+        let (a, b) = interval(random);
+        let area = area(random, n);
+        let [code, first, second, segments] = rule_numbers(random).map(u32::from);
+        let rule = match code {
+            0 => Rule::Plain { low: first, high: second },
+            1 => Rule::Limited { k: first },
+            _ => Rule::Affine { segments: segments % 256, smin: first, smax: second },
+        };
+        passes.push(Pass { a, b, area, rule, neighbours: neighbours_number(random, neighbours) as u8 });
+    }
+    passes
+}
+
+/// Very many passes, which come to the whole plane or to nothing, for the limit of 1,024.
+pub fn many_passes(random: &mut Random) -> Vec<Pass> {
+    let count = random.one_of(&[1_023, 1_024, 1_025]);
+    let rule = Rule::Plain { low: 0, high: 25_500 };
+    let area = random.one_of(&[1, 1_048_576]);
+    (0..count).map(|_| Pass { a: 0, b: 255, area, rule, neighbours: random.one_of(&[4, 8]) }).collect()
 }
 
 /// A pass list for a plane of n pixels, often with something wrong in it. Of codes and segments a record has the low
@@ -318,7 +391,7 @@ pub fn p6_bytes(random: &mut Random) -> Vec<u8> {
 #[cfg(test)]
 mod tests {
     use super::*;
-    use mlhe_reference::{list_passes, read, run_passes, Rule, GREATEST_PIXELS};
+    use mlhe_reference::{list_passes, read, run_passes, GREATEST_PIXELS};
 
     /// Many files have comments that are skipped, and many are malformed with number signs in them.
     #[test]
@@ -357,5 +430,25 @@ mod tests {
             }
         }
         assert!(retoned > 100 && kept > 100 && refused > 20, "{retoned}, {kept} and {refused} of 2,000");
+    }
+    /// Many lists in memory have passes whose neighbours decide, and many are refused for their number.
+    #[test]
+    fn eight_neighbours_are_common() {
+        let mut random = Random::new(3);
+        let (mut telling, mut refused) = (0, 0);
+        for _ in 0..2_000 {
+            let plane = values(&mut random, 9, 72);
+            let passes = memory_passes(&mut random, 3, 72, &[4, 8]);
+            let run = |passes: &[Pass]| {
+                let mut last = plane.clone();
+                run_passes(passes, &mut last, 72, 72, 9, 8).map(|counts| (last, counts))
+            };
+            let four: Vec<Pass> = passes.iter().map(|&pass| Pass { neighbours: 4, ..pass }).collect();
+            match run(&passes) {
+                Ok(answer) => telling += usize::from(Ok(answer) != run(&four)),
+                Err(number) => refused += usize::from(number == 19),
+            }
+        }
+        assert!(telling > 80 && refused > 30, "{telling} and {refused} of 2,000");
     }
 }

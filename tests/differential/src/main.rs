@@ -1,4 +1,4 @@
-//! The proved library's C functions against the second implementation.
+//! The proved library's C functions, and the Rust crate's lists in memory, against the second implementation.
 //!
 //!     cargo run --release                          60,000 cases
 //!     cargo run --release -- --long                5,000,000 cases
@@ -6,15 +6,17 @@
 //!     cargo run --release -- --case K --seed S     one case again
 //!
 //! Every case is random from its seed and its number: sides, frames, planes, files and lists, sound and damaged; chains
-//! of passes with refused calls among them; lengths short, exact and long; any content in marks and queue; guards
-//! around all lent memory. Compared are answers, counts, planes, outputs and every byte that has to stay; on all that
-//! is accepted the order of neighbours, the regional maxima and minima, and the components of sufficient area, each
-//! counted from its definition; and enhancements with the lists of passes that they equal. Ends with status 1 at the
-//! first difference. At the end it has to have seen every refusal, accepted calls of every kind, and components retoned
-//! and kept back by every kind that counts.
+//! of passes with four neighbours and with eight, with refused calls among them; lengths short, exact and long; any
+//! content in marks and queue; guards around all lent memory. Compared are answers, counts, planes, outputs and every
+//! byte that has to stay; on all that is accepted the order of neighbours, the regional maxima and minima, and the
+//! components of sufficient area, each counted from its definition, by four neighbours, and by eight where all accepted
+//! passes have eight; and enhancements with the lists of passes that they equal. Ends with status 1 at the first
+//! difference. At the end it has to have seen every refusal, accepted calls of every kind, components retoned and kept
+//! back by every kind that counts, and planes changed and held against the first by eight neighbours.
 
 mod calls;
 mod guarded;
+mod in_memory;
 mod inputs;
 mod work;
 
@@ -30,21 +32,27 @@ const LONG: u64 = 5_000_000;
 const SEED: u64 = 20_260;
 
 /// The kinds of case whose calls count components.
-const COUNTING: [&str; 5] = ["pass", "enhance", "list", "chain", "levels"];
+const COUNTING: [&str; 6] = ["pass", "enhance", "list", "chain", "levels", "passes"];
 
-/// How often each kind of case was tried, accepted, and refused with each number, and what its calls counted.
+/// Those whose calls may have eight neighbours.
+const BY_EIGHT: [&str; 5] = ["pass", "enhance", "chain", "levels", "passes"];
+
+/// How often each kind of case was tried, accepted, held against the first plane by eight neighbours, and refused with
+/// each number, and what its calls counted.
 #[derive(Default)]
 struct Tally {
     calls: u64,
     tried: [u64; KINDS.len()],
     accepted: [u64; KINDS.len()],
+    by_eight: [u64; KINDS.len()],
     counts: [Counts; KINDS.len()],
-    refused: [u64; 19],
+    refused: [u64; 20],
 }
 
 impl Tally {
-    fn add(&mut self, kind: usize, Outcome { answers, counts }: &Outcome) {
+    fn add(&mut self, kind: usize, Outcome { answers, counts, by_eight }: &Outcome) {
         self.tried[kind] += 1;
+        self.by_eight[kind] += u64::from(*by_eight);
         self.calls += answers.len() as u64;
         self.accepted[kind] += u64::from(answers.iter().all(|&answer| answer >= 0));
         self.counts[kind] = [self.counts[kind], *counts].into_iter().sum();
@@ -59,11 +67,16 @@ impl Tally {
         for (kind, name) in KINDS.iter().enumerate() {
             let (tried, accepted) = (self.tried[kind], self.accepted[kind]);
             let Counts { retoned, kept } = self.counts[kind];
-            let counted =
-                if COUNTING.contains(name) { format!("; {retoned} retoned, {kept} kept") } else { String::new() };
+            let mut counted = String::new();
+            if COUNTING.contains(name) {
+                counted = format!("; {retoned} retoned, {kept} kept");
+            }
+            if BY_EIGHT.contains(name) {
+                counted += &format!("; {} changed and kept by eight neighbours", self.by_eight[kind]);
+            }
             println!("{name:10} {tried:8} cases, {accepted:8} of them with no refusal{counted}");
         }
-        let refused: Vec<String> = (1..=18).map(|number| format!("{number}: {}", self.refused[number])).collect();
+        let refused: Vec<String> = (1..=19).map(|number| format!("{number}: {}", self.refused[number])).collect();
         println!("refusals   {}", refused.join(", "));
     }
 
@@ -73,6 +86,7 @@ impl Tally {
         self.accepted.iter().all(|&count| count > 0)
             && self.refused[1..].iter().all(|&count| count > 0)
             && KINDS.iter().zip(&self.counts).all(counted)
+            && KINDS.iter().zip(&self.by_eight).all(|(name, &count)| count > 0 || !BY_EIGHT.contains(name))
     }
 }
 
@@ -83,10 +97,10 @@ fn run(seed: u64, number: u64) -> (usize, calls::Compared) {
     (kind, calls::case(kind, &mut random))
 }
 
-/// Frames of the greatest number of pixels, of three shapes.
+/// Frames of the greatest number of pixels, of three shapes, and by eight neighbours.
 fn greatest_frames(seed: u64, tally: &mut Tally) -> Result<(), String> {
-    for (w, h) in [(1_024, 1_024), (4_096, 256), (256, 4_096)] {
-        let outcome = calls::greatest(w, h, &mut Random::new(seed + w as u64))?;
+    for (w, h, neighbours) in [(1_024, 1_024, 4), (4_096, 256, 4), (256, 4_096, 4), (1_024, 1_024, 8)] {
+        let outcome = calls::greatest(w, h, neighbours, &mut Random::new(seed + w as u64))?;
         tally.add(3, &outcome);
     }
     Ok(())
@@ -145,7 +159,8 @@ fn main() -> ExitCode {
     let seconds = start.elapsed().as_secs_f64();
     println!("{} cases with {} calls agree, seed {seed}, {seconds:.1} s", numbers.end - numbers.start, tally.calls);
     if case.is_none() && cases >= CASES && !tally.saw_all() {
-        println!("some refusal, some kind of accepted call, or a component retoned or kept by one never came up");
+        println!("some refusal, some kind of accepted call, or a component retoned or kept by one never came up, or");
+        println!("no plane that changed by calls of some kind was held against the first by eight neighbours");
         return ExitCode::FAILURE;
     }
     ExitCode::SUCCESS

@@ -16,7 +16,7 @@ fn line(case: &Case) -> String {
     let answer = lent::enhance(&case.bytes, w, h, &house, &mut plane, &mut marks, &mut queue, &mut output);
     let Rule::Plain { low, high } = house.rule else { panic!("the house setting is plain") };
     let [numbers, plane, output] = [numbers(answer), hex(&plane), hex(&output)];
-    format!("{numbers} {plane} {output} 0 {} {} {low} {high}", house.last, house.area)
+    format!("{numbers} {plane} {output} 0 {} {} {low} {high} {}", house.last, house.area, house.neighbours)
 }
 
 #[test]

@@ -7,10 +7,12 @@ mod methods;
 mod noise;
 mod pictures;
 mod png;
+mod wires;
 
 use methods::METHODS;
 use mlhe::{Frame, Memory, Plane, Settings};
 use mlhe_reference::extrema::{parted_neighbours, regional_maxima, regional_minima, reversed_neighbours};
+use mlhe_reference::FOUR;
 use pictures::Picture;
 use std::path::Path;
 use std::process::ExitCode;
@@ -19,7 +21,7 @@ use std::{env, fs};
 /// The document, with a place for each table.
 const DOCUMENT: &str = include_str!("document.md");
 
-/// What is counted of a plane, against the intensity of the picture.
+/// What is counted of a plane by so many neighbours, against the intensity of the picture.
 struct Counts {
     /// Regional maxima and minima.
     spots: usize,
@@ -29,14 +31,15 @@ struct Counts {
     parted: usize,
 }
 
-fn counts(first: &Plane, last: &Plane) -> Counts {
+fn counts(first: &Plane, last: &Plane, neighbours: u8) -> Counts {
     let (w, h, first, last) = (first.width(), first.height(), first.values(), last.values());
-    let (maxima, minima) = (regional_maxima(last, w, h), regional_minima(last, w, h));
+    let [maxima, first_maxima] = [last, first].map(|plane| regional_maxima(plane, w, h, neighbours));
+    let [minima, first_minima] = [last, first].map(|plane| regional_minima(plane, w, h, neighbours));
     Counts {
         spots: maxima.len() + minima.len(),
-        invented: invented(&maxima, &regional_maxima(first, w, h)) + invented(&minima, &regional_minima(first, w, h)),
-        reversed: reversed_neighbours(first, last, w, h),
-        parted: parted_neighbours(first, last, w, h),
+        invented: invented(&maxima, &first_maxima) + invented(&minima, &first_minima),
+        reversed: reversed_neighbours(first, last, w, h, neighbours),
+        parted: parted_neighbours(first, last, w, h, neighbours),
     }
 }
 
@@ -84,7 +87,7 @@ fn row(name: &str, method: &str, frame: &Frame, last: &Plane) -> String {
     let first = frame.intensity();
     let written = frame.recoloured(last).expect("the plane has the frame's sides").intensity();
     let cells = |last: &Plane| {
-        let Counts { spots, invented, reversed, parted } = counts(&first, last);
+        let Counts { spots, invented, reversed, parted } = counts(&first, last, FOUR);
         format!("{spots} | {invented} | {reversed} | {parted}")
     };
     let difference = hundredths(difference(last));
@@ -113,6 +116,12 @@ fn table() -> String {
     table
 }
 
+fn page() -> String {
+    let tables = [("SPOTS", table()), ("NOISE", noise::table()), ("WIRES", wires::table())];
+    let filled = |page: String, (name, table): &(&str, String)| page.replace(&format!("TABLE OF {name}\n"), table);
+    tables.iter().fold(DOCUMENT.to_string(), filled)
+}
+
 /// The files to write: their names, from the repository on, and their bytes.
 fn files() -> Vec<(&'static str, Vec<u8>)> {
     let before = pictures::meadow();
@@ -120,9 +129,8 @@ fn files() -> Vec<(&'static str, Vec<u8>)> {
     let picture = png::encoded(&before);
     let enhanced = frame_of(before).enhanced(&Settings::HOUSE, &mut Memory::new()).expect("the setting is sound");
     let after = Picture { w, h, bytes: enhanced.frame.into_bytes() };
-    let page = DOCUMENT.replace("TABLE OF SPOTS\n", &table()).replace("TABLE OF NOISE\n", &noise::table());
     vec![
-        ("docs/EVIDENCE.md", page.into_bytes()),
+        ("docs/EVIDENCE.md", page().into_bytes()),
         ("docs/evidence/before.png", picture),
         ("docs/evidence/after.png", png::encoded(&after)),
     ]

@@ -1,5 +1,7 @@
 //! The pictures, made here from whole numbers alone, so that they are the same everywhere.
 
+use std::collections::HashSet;
+
 /// A colour picture.
 pub struct Picture {
     pub w: usize,
@@ -109,6 +111,23 @@ pub fn sky(horizon: usize, light: i64) -> Picture {
         let grain: i64 = (41..44).map(|seed| scattered(seed, x, y) * 3 / 256 - 1).sum();
         let clean = if y < horizon { 170 + 40 * y / horizon } else { 20 + light * (fractal(44, x, y) - 40) / 160 };
         [clean + grain; 3]
+    })
+}
+
+/// The places of a wire one pixel thin, from a place on: so many pixels in each row, to the right or to the left, and
+/// each row's first touches the last of the row above at a corner. It ends where the picture of the wires does.
+pub fn wire(x: i64, y: i64, in_row: i64, right: bool) -> Vec<(i64, i64)> {
+    let place = |i: i64| (if right { x + i } else { x - i }, y + i / in_row);
+    (0..).map(place).take_while(|&(x, y)| (0..256).contains(&x) && (0..192).contains(&y)).collect()
+}
+
+/// Wires in the sun, with values from 130 to 160 that change slowly along them, before a hazy sky of at most 125.
+pub fn wires(wires: &[Vec<(i64, i64)>]) -> Picture {
+    let on_wires: HashSet<_> = wires.iter().flatten().copied().collect();
+    drawn(256, 192, |x, y| {
+        let light = 130 + 30 * smooth_noise(51, x, y, 48) / 4_080;
+        let sky = 90 + 20 * y / 192 + fractal(52, x, y) / 16;
+        [if on_wires.contains(&(x, y)) { light } else { sky }; 3]
     })
 }
 

@@ -155,7 +155,7 @@ module _ (t : ℕ) where
           still-ready ready (omega (arith, v .treat-section)) (omega (arith, v .treat-section))
               (omega (arith, v .treat-section)),
           next-halves (s .args .shape) (s .args .settings) (ready .lent .whole) (v .treat-section .ensures)
-              (due .coded) (due .marks-are) (X .middle) (X .halves e) (le-refl _) refl
+              (due .coded) (due .marks-are) (X .middle) (X .halves e) (le-refl _) refl refl
               (due .d) (D .yes e (due .d) (N .k) (N .wide)) N,
         ),
       )
@@ -207,7 +207,7 @@ module _ (t : ℕ) where
       let some = D .yes e (due .d) (N .k) (N .wide) in
       let many = numbered-many (due .d) N some in
       let left = next-gone (s .args .shape) (s .args .settings) (lent .whole) (v .treat-section .ensures) (due .coded)
-      (due .marks-are) (X .middle) (X .halves e) (le-refl _) refl (due .d) some N in
+      (due .marks-are) (X .middle) (X .halves e) (le-refl _) refl refl (due .d) some N in
       let E = node (s .args .shape) (s .args .settings) (inner .before .before .below .ensures) T D e H left
       (apart-node (numbered-order N) (lent .whole) T (N .real) many (due .marks-are) (X .halves e) (H .apart)) in
       subst (Equalised (s .args .shape) (s .args .a) (s .args .b) (s .args .code) (s .args .span) (s .args .settings)

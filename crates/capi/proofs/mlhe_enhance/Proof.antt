@@ -7,7 +7,7 @@ use Rattle.planes.specs.Shapes.{shapeOf}
 use Rattle.tones.specs.declared.RuleNumbers.{RuleNumbers}
 use Rattle.tones.specs.Numbers.{ruleOf, formRefusal}
 use Rattle.enhance.specs.Calls.{memoryRefusal}
-use Rattle.cnumbers.specs.Numbers.{numbersFor}
+use Rattle.cnumbers.specs.Numbers.{numbersFor, neighboursFor}
 use Rattle.cnumbers.proofs.Numbers.{returned}
 use Rattle.capi.proofs.Calls.{enhance-refused, enhance-short, enhance-made}
 use borrow.Author.Needs.{needs}
@@ -16,7 +16,7 @@ use Rattle.capi.proofs.mlhe_enhance.Tie as tie
 
 -- the entry, from where the form is tested
 abbrev start : tie.After-enhance-form-refusal → tie.Start
-start c = c .before .before .before .before .before .before .before .before .before
+start c = c .before .before .before .before .before .before .before .before .before .before
 
 -- the refusals before the rule's numbers, and that these are those of the lent numbers
 abbrev lent : tie.After-enhance-form-refusal → ℕ
@@ -29,15 +29,23 @@ formed : (c : tie.After-enhance-form-refusal) →
     c .enhance-form-refusal .result ≡ lent c ▷ formRefusal (numbersFor (start c .args .rule .now))
 formed c =
     c .enhance-form-refusal .ensures
-    ∙ ap (λ (n : RuleNumbers). lent c ▷ formRefusal n) (c .before .rule-numbers .ensures)
+    ∙ ap (λ (n : RuleNumbers). lent c ▷ formRefusal n) (c .before .before .rule-numbers .ensures)
 
 -- the rule is that of the lent numbers
 rule-is : (c : tie.After-rule-of) →
     c .rule-of .result ≡ ruleOf (numbersFor (start (c .before .before) .args .rule .now))
-rule-is c = c .rule-of .ensures ∙ ap ruleOf (c .before .before .before .rule-numbers .ensures)
+rule-is c = c .rule-of .ensures ∙ ap ruleOf (c .before .before .before .before .rule-numbers .ensures)
+
+-- and so is the number of neighbours
+number-is : (c : tie.After-rule-of) →
+    c .before .before .before .neighbour-number .result ≡ neighboursFor (start (c .before .before) .args .rule .now)
+number-is c = c .before .before .before .neighbour-number .ensures
 
 rule-numbers-requires : tie.Need-rule-numbers-requires
 rule-numbers-requires c κs = search needs
+
+neighbour-number-requires : tie.Need-neighbour-number-requires
+neighbour-number-requires c κs = search needs
 
 enhance-form-refusal-requires : tie.Need-enhance-form-refusal-requires
 enhance-form-refusal-requires c κs = search needs
@@ -71,7 +79,7 @@ returns-2 c =
     let args = start tested .args in
     enhance-short (args .w) (args .h) (args .last) (args .area) (args .rule .now)
     (args .frame .now) (args .plane .now) (args .marks .now) (args .queue .now) (args .output .now) (args .counts .now)
-    (sym (formed tested) ∙ ruled .before .if1 .left) (rule-is ruled)
+    (sym (formed tested) ∙ ruled .before .if1 .left) (rule-is ruled) (number-is ruled)
     (few .if2 .taken) (c .before .settings-refusal .ensures)
     (returned (c .short-counts .ok) (c .short-counts .ensures))
 
@@ -107,7 +115,7 @@ returns-3 c =
     enhance-made (args .w) (args .h) (args .last) (args .area) (args .rule .now)
     (args .frame .now) (args .plane .now) (args .marks .now) (args .queue .now) (args .output .now) (args .counts .now)
     (called .enhance .result) (sym (formed tested) ∙ ruled .before .if1 .left)
-    (enough .if2 .left) (rule-is ruled) (called .enhance .ensures)
+    (enough .if2 .left) (rule-is ruled) (number-is ruled) (called .enhance .ensures)
     (returned (put .put-counts .ok) (put .put-counts .ensures .0)) (put .put-counts .ensures .1)
 
 pub mlhe-enhance-spec : {M : Type 1} → statement M
@@ -115,6 +123,7 @@ mlhe-enhance-spec =
     tie.close
     (tie.spec
     rule-numbers-requires
+    neighbour-number-requires
     enhance-form-refusal-requires
     refused-requires
     returns

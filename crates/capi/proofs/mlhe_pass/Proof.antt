@@ -6,7 +6,7 @@ use Rattle.planes.specs.Refusals.{_▷_}
 use Rattle.planes.specs.Shapes.{shapeOf, lentRefusal}
 use Rattle.tones.specs.declared.RuleNumbers.{RuleNumbers}
 use Rattle.tones.specs.Numbers.{ruleOf, formRefusal}
-use Rattle.cnumbers.specs.Numbers.{numbersFor}
+use Rattle.cnumbers.specs.Numbers.{numbersFor, neighboursFor}
 use Rattle.cnumbers.proofs.Numbers.{returned}
 use Rattle.capi.proofs.Calls.{pass-refused, pass-short, pass-made}
 use borrow.Author.Needs.{needs}
@@ -15,7 +15,7 @@ use Rattle.capi.proofs.mlhe_pass.Tie as tie
 
 -- the entry, from where the form is tested
 abbrev start : tie.After-pass-form-refusal → tie.Start
-start c = c .before .before .before .before .before .before .before
+start c = c .before .before .before .before .before .before .before .before
 
 -- the refusals before the rule's numbers, and that these are those of the lent numbers
 abbrev lent : tie.After-pass-form-refusal → ℕ
@@ -27,15 +27,23 @@ formed : (c : tie.After-pass-form-refusal) →
     c .pass-form-refusal .result ≡ lent c ▷ formRefusal (numbersFor (start c .args .rule .now))
 formed c =
     c .pass-form-refusal .ensures
-    ∙ ap (λ (n : RuleNumbers). lent c ▷ formRefusal n) (c .before .rule-numbers .ensures)
+    ∙ ap (λ (n : RuleNumbers). lent c ▷ formRefusal n) (c .before .before .rule-numbers .ensures)
 
 -- the rule is that of the lent numbers
 rule-is : (c : tie.After-rule-of) →
     c .rule-of .result ≡ ruleOf (numbersFor (start (c .before .before) .args .rule .now))
-rule-is c = c .rule-of .ensures ∙ ap ruleOf (c .before .before .before .rule-numbers .ensures)
+rule-is c = c .rule-of .ensures ∙ ap ruleOf (c .before .before .before .before .rule-numbers .ensures)
+
+-- and so is the number of neighbours
+number-is : (c : tie.After-rule-of) →
+    c .before .before .before .neighbour-number .result ≡ neighboursFor (start (c .before .before) .args .rule .now)
+number-is c = c .before .before .before .neighbour-number .ensures
 
 rule-numbers-requires : tie.Need-rule-numbers-requires
 rule-numbers-requires c κs = search needs
+
+neighbour-number-requires : tie.Need-neighbour-number-requires
+neighbour-number-requires c κs = search needs
 
 pass-form-refusal-requires : tie.Need-pass-form-refusal-requires
 pass-form-refusal-requires c κs = search needs
@@ -68,7 +76,7 @@ returns-2 c =
     let args = start tested .args in
     pass-short (args .w) (args .h) (args .a) (args .b) (args .area) (args .rule .now)
     (args .plane .now) (args .marks .now) (args .queue .now) (args .counts .now)
-    (sym (formed tested) ∙ ruled .before .if1 .left) (rule-is ruled) (few .if2 .taken)
+    (sym (formed tested) ∙ ruled .before .if1 .left) (rule-is ruled) (number-is ruled) (few .if2 .taken)
     (c .before .pass-refusal .ensures) (returned (c .short-counts .ok) (c .short-counts .ensures))
 
 pass-requires : tie.Need-pass-requires
@@ -99,7 +107,7 @@ returns-3 c =
     let args = start tested .args in
     pass-made (args .w) (args .h) (args .a) (args .b) (args .area) (args .rule .now)
     (args .plane .now) (args .marks .now) (args .queue .now) (args .counts .now) (called .pass .result)
-    (sym (formed tested) ∙ ruled .before .if1 .left) (enough .if2 .left) (rule-is ruled)
+    (sym (formed tested) ∙ ruled .before .if1 .left) (enough .if2 .left) (rule-is ruled) (number-is ruled)
     (called .pass .ensures) (returned (put .put-counts .ok) (put .put-counts .ensures .0)) (put .put-counts .ensures .1)
 
 pub mlhe-pass-spec : {M : Type 1} → statement M
@@ -107,6 +115,7 @@ mlhe-pass-spec =
     tie.close
     (tie.spec
     rule-numbers-requires
+    neighbour-number-requires
     pass-form-refusal-requires
     refused-requires
     returns

@@ -10,28 +10,28 @@ use native.Mathlib.Omega.{arith}
 use borrow.Author.Needs.{needs}
 use lib.ListN.{length}
 use Rattle.planes.specs.Lists.{at}
-use Rattle.planes.specs.Shapes.{pixels, neighbours}
+use Rattle.planes.specs.Shapes.{pixels, adjacency}
 use Rattle.histograms.specs.Histograms.{values}
 use Rattle.histograms.proofs.Measured.{tally-le}
 use Rattle.rows.proofs.Taken.{taken-kept}
 use Rattle.components.proofs.Gauging.{Gauging, gauging-none, gauging-next, gauged}
 use Rattle.components.proofs.Flooding.{Flooding, may-begin, flood-begin, head-off, few-entries, turn, finish}
-use Rattle.components.proofs.Four.{rows-near}
+use Rattle.components.proofs.Around.{rows-near}
 use Rattle.components.proofs.flood.Statement.{statement}
 use Rattle.components.proofs.flood.Tie as tie
 
 abbrev Inv-loop : tie.InvT-loop
-Inv-loop plane marks₀ queue₀ counts₀ shape inverse code start tail₀ head₀ least₀ greatest₀
+Inv-loop plane marks₀ queue₀ counts₀ shape inverse neighbours code start tail₀ head₀ least₀ greatest₀
     marks queue counts tail head least greatest =
     (length marks ≡ length marks₀)
     × ((length queue ≡ length queue₀)
     × (Gauging (at plane start) (values plane queue head) counts least greatest
     × ((marks' queue' : List ℕ)
-    → Flooding (neighbours shape) (shape .w) (pixels shape) code start marks' queue' marks₀ queue₀ head₀ tail₀
-    → Flooding (neighbours shape) (shape .w) (pixels shape) code start marks' queue' marks queue head tail)))
+    → Flooding (adjacency shape neighbours) (shape .w) (pixels shape) code start marks' queue' marks₀ queue₀ head₀ tail₀
+    → Flooding (adjacency shape neighbours) (shape .w) (pixels shape) code start marks' queue' marks queue head tail)))
 
 abbrev μ-loop : tie.MeasureT-loop
-μ-loop plane marks₀ queue₀ counts₀ shape inverse code start tail₀ head₀ least₀ greatest₀
+μ-loop plane marks₀ queue₀ counts₀ shape inverse neighbours code start tail₀ head₀ least₀ greatest₀
     marks queue counts tail head least greatest = length queue - head
 
 -- the function's entry, and the invariant from there on
@@ -41,14 +41,14 @@ entry l = l .before .before .before .before .before .before .before .before .bef
 abbrev From-entry : tie.At-loop Inv-loop μ-loop → Type 0
 From-entry l =
     let a = entry l .args in
-    Flooding (neighbours (a .shape)) (a .shape .w) (pixels (a .shape)) (a .code) (a .start) (a .marks .now)
+    Flooding (adjacency (a .shape) (a .neighbours)) (a .shape .w) (pixels (a .shape)) (a .code) (a .start) (a .marks .now)
     (a .queue .now) (l .loop .marks) (l .loop .queue) (l .loop .head) (l .loop .tail)
 
 flooding : (l : tie.At-loop Inv-loop μ-loop) → From-entry l
 flooding l =
     let first = l .before .before .before .before .before .before in
     let F = entry l .pre .0 in
-    l .loop .inv .1 .1 .1 _ _ (flood-begin F (rows-near _ (F .size .wide)) (first .reach .ensures))
+    l .loop .inv .1 .1 .1 _ _ (flood-begin F (rows-near _ (entry l .args .neighbours) (F .size .wide)) (first .reach .ensures))
 
 -- the value of the entry at the head
 abbrev value : tie.At-loop Inv-loop μ-loop → ℕ
@@ -94,12 +94,14 @@ spread-requires c κs =
     let F = entry (i .before) .pre .0 in
     let f = flooding (i .before) in
     record {
-      size = F .size;
-      inverse-is = F .inverse-is;
-      inside = f .searched .below _ (i .loop-test .taken);
-      off = head-off f (i .loop-test .taken);
+      reachable = record {
+        size = F .size;
+        inverse-is = F .inverse-is;
+        inside = f .searched .below _ (i .loop-test .taken);
+        off = head-off f (i .loop-test .taken);
+        room = f .room;
+      };
       shut = f .rows _ (i .loop-test .taken);
-      room = f .room;
     }
 
 shared-slice-read-v : tie.Need-shared-slice-read-v Inv-loop μ-loop

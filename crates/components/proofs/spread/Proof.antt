@@ -1,30 +1,13 @@
--- `components::spread` meets its contract: the pixels above and below are reached, one after the other. s is the
--- function's entry, `first` and `second` the places after the two calls of `reach`. Assumes nothing.
+-- `components::spread` meets its contract: what is above and below the pixel is reached, and with 8 neighbours what is at
+-- its corners. s is the function's entry, `column` and `corners` are the places after the two calls. Assumes nothing.
 use borrow.Author.Needs.{needs}
-use Rattle.components.proofs.Four.{may-above, may-below, spread-over}
+use borrow.Author.Tests.{eq-eqb, ne-eqb}
+use Rattle.components.proofs.Around.{still-spreadable, spread-four, spread-eight}
 use Rattle.components.proofs.spread.Statement.{statement}
 use Rattle.components.proofs.spread.Tie as tie
 
-pixels-requires : tie.Need-pixels-requires
-pixels-requires c κs = search needs
-
-above-requires : tie.Need-above-requires
-above-requires c κs = search needs
-
-reach-requires : tie.Need-reach-requires
-reach-requires c κs =
-    let s = c .before .before .before .before .before .before in
-    may-above (s .pre) (c .above .ensures)
-
-below-requires : tie.Need-below-requires
-below-requires c κs = search needs
-
-reach-requires-2 : tie.Need-reach-requires-2
-reach-requires-2 c κs =
-    let first = c .before .before .before .before .before .before .before in
-    let s = first .before .before .before .before .before .before .before in
-    let below = rw (first .before .before .before .before .pixels .ensures) at (c .below .ensures) in
-    may-below (s .pre) (first .before .above .ensures) (first .reach .ensures) below
+reach-column-requires : tie.Need-reach-column-requires
+reach-column-requires c κs = search needs
 
 same-length : tie.Need-same-length
 same-length c = search needs
@@ -34,21 +17,40 @@ same-length-2 c = search needs
 
 returns : tie.Need-returns
 returns c =
-    let second = c .before .before .before .before in
-    let first = second .before .before .before .before .before .before .before .before in
-    let s = first .before .before .before .before .before .before .before in
-    let below = rw (first .before .before .before .before .pixels .ensures) at (second .before .below .ensures) in
-    spread-over (s .pre) (first .before .above .ensures) (first .reach .ensures) below (second .reach2 .ensures)
+    let column = c .before .before .before .before .before in
+    let s = column .before .before .before .before .before in
+    spread-four (s .pre) (s .args .neighbours) (column .reach-column .ensures) (ne-eqb _ 8 (c .if1 .taken))
+
+reach-corners-requires : tie.Need-reach-corners-requires
+reach-corners-requires c κs =
+    let column = c .before .before .before .before .before .before .before in
+    let s = column .before .before .before .before .before in
+    still-spreadable (s .pre) (column .reach-column .ensures .taken)
+
+same-length-3 : tie.Need-same-length-3
+same-length-3 c = search needs
+
+same-length-4 : tie.Need-same-length-4
+same-length-4 c = search needs
+
+returns-2 : tie.Need-returns-2
+returns-2 c =
+    let corners = c .before .before .before .before in
+    let test = corners .before .before .before in
+    let column = test .before .before .before .before .before in
+    let s = column .before .before .before .before .before in
+    spread-eight (s .pre) (s .args .neighbours) (column .reach-column .ensures) (eq-eqb _ 8 (test .if1 .left))
+    (corners .reach-corners .ensures)
 
 pub spread-spec : {M : Type 1} → statement M
 spread-spec =
     tie.close
     (tie.spec
-    pixels-requires
-    above-requires
-    reach-requires
-    below-requires
-    reach-requires-2
+    reach-column-requires
     same-length
     same-length-2
-    returns)
+    returns
+    reach-corners-requires
+    same-length-3
+    same-length-4
+    returns-2)

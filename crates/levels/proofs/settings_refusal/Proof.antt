@@ -32,11 +32,26 @@ rule-refusal-requires c κs = search needs
 returns-3 : tie.Need-returns-3
 unfolding settingsRefusal
 returns-3 c =
-    let area = c .before in
+    let area = c .before .before in
     let last = area .before .before in
-    c .rule-refusal .ensures
+    let e = c .before .rule-refusal .ensures in
+    e ∙ sym (▷-right _ _ (sym (last .before .level-refusal .ensures) ∙ last .if1 .left)
+    ∙ ▷-right _ _ (sym (area .before .area-refusal .ensures) ∙ area .if2 .left)
+    ∙ ▷-left _ _ (λ z. c .if3 .taken (e ∙ z)))
+
+neighbour-refusal-requires : tie.Need-neighbour-refusal-requires
+neighbour-refusal-requires c κs = search needs
+
+returns-4 : tie.Need-returns-4
+unfolding settingsRefusal
+returns-4 c =
+    let rule = c .before in
+    let area = rule .before .before in
+    let last = area .before .before in
+    c .neighbour-refusal .ensures
     ∙ sym (▷-right _ _ (sym (last .before .level-refusal .ensures) ∙ last .if1 .left)
-    ∙ ▷-right _ _ (sym (area .before .area-refusal .ensures) ∙ area .if2 .left))
+    ∙ ▷-right _ _ (sym (area .before .area-refusal .ensures) ∙ area .if2 .left)
+    ∙ ▷-right _ _ (sym (rule .before .rule-refusal .ensures) ∙ rule .if3 .left))
 
 pub settings-refusal-spec : {M : Type 1} → statement M
 settings-refusal-spec =
@@ -47,4 +62,6 @@ settings-refusal-spec =
     area-refusal-requires
     returns-2
     rule-refusal-requires
-    returns-3)
+    returns-3
+    neighbour-refusal-requires
+    returns-4)

@@ -26,9 +26,33 @@ rule-refusal-requires c κs = search needs
 returns-3 : tie.Need-returns-3
 unfolding numbersRefusal
 returns-3 c =
-    let e = c .before .before .area-refusal .ensures in
-    simp (le-ltb _ _ (c .before .before .before .if1 .left))
-    (c .rule-refusal .ensures ∙ sym (▷-right _ _ (sym e ∙ c .before .if2 .left)))
+    let area = c .before .before .before .area-refusal .ensures in
+    let rule = c .before .rule-refusal .ensures in
+    simp (le-ltb _ _ (c .before .before .before .before .if1 .left))
+    (rule ∙ sym (▷-right _ _ (sym area ∙ c .before .before .if2 .left)
+    ∙ ▷-left _ _ (λ z. c .if3 .taken (rule ∙ z))))
+
+neighbour-refusal-requires : tie.Need-neighbour-refusal-requires
+neighbour-refusal-requires c κs = search needs
+
+returns-4 : tie.Need-returns-4
+unfolding numbersRefusal
+returns-4 c =
+    let area = c .before .before .before .before .area-refusal .ensures in
+    let rule = c .before .before .rule-refusal .ensures in
+    simp (le-ltb _ _ (c .before .before .before .before .before .if1 .left))
+    (c .neighbour-refusal .ensures
+    ∙ sym (▷-right _ _ (sym area ∙ c .before .before .before .if2 .left)
+    ∙ ▷-right _ _ (sym rule ∙ c .before .if3 .left)))
 
 pub pass-refusal-spec : {M : Type 1} → statement M
-pass-refusal-spec = tie.close (tie.spec returns area-refusal-requires returns-2 rule-refusal-requires returns-3)
+pass-refusal-spec =
+    tie.close
+    (tie.spec
+    returns
+    area-refusal-requires
+    returns-2
+    rule-refusal-requires
+    returns-3
+    neighbour-refusal-requires
+    returns-4)

@@ -95,7 +95,7 @@ levels-left-requires c κs = search needs
 marking : (v : tie.After-treat-plane) → (
     let m = marked-in v in
     let s = start m .args in
-    Marked (wholePass (s .settings .rule)) (s .plane .now) (s .marks .now) (m .mark-section .last .1 .0)
+    Marked (wholePass (s .settings)) (s .plane .now) (s .marks .now) (m .mark-section .last .1 .0)
     (pixels (s .shape)))
 marking v =
     let m = marked-in v in
@@ -135,7 +135,7 @@ split-requires c κs =
       still-ready (s .pre) (omega (arith, v .treat-plane)) (omega (arith, v .treat-plane, m .mark-section))
           (omega (arith, v .treat-plane)),
       next-halves (s .args .shape) (s .args .settings) (s .pre .lent .whole) (v .treat-plane .ensures)
-          (marked-coded M) (root-marks _ M) (X .middle) (X .halves e) (s .pre .area) refl
+          (marked-coded M) (root-marks _ M) (X .middle) (X .halves e) (s .pre .area) refl refl
           _ (counted m .deeper .ensures .yes e _ (N .k) (N .wide)) N,
     )
 
@@ -188,7 +188,7 @@ returns c =
     let m = marked-in v in
     let s = start m in
     let z = s .args .shape in
-    let whole = wholePass (s .args .settings .rule) in
+    let whole = wholePass (s .args .settings) in
     let M = marking v in
     let N = numbered (counted m) in
     let X = m .before .before .before .before .next-of .ensures in
@@ -200,7 +200,7 @@ returns c =
     let sizes = whole-size (pass-sym z whole) (lent .whole) (marked-coded M) pixel (ones 0 pixel)
     (whole-plane z whole 1 _ (lent .size .wide) ones) in
     let left = next-gone z (s .args .settings) (lent .whole) (v .treat-plane .ensures)
-    (marked-coded M) (root-marks _ M) (X .middle) (X .halves e) (s .pre .area) refl _ some N in
+    (marked-coded M) (root-marks _ M) (X .middle) (X .halves e) (s .pre .area) refl refl _ some N in
     let R = root-halves z (s .args .settings) M (v .treat-plane .ensures .treated) some (s .pre .last) (lent .whole)
     pixel sizes left (divided .split .ensures) in
     subst (RecursionOutcome z (s .args .settings) (s .args .plane .now) (s .args .marks .now) (s .args .queue .now)

@@ -50,7 +50,8 @@ flooded c =
     let s = start c in
     let lent = s .pre .0 .lent in
     by-pass (s .args .shape) (s .args .pass)
-    (plane-flooded (s .args .shape) 1 (lent .size .wide) (c .take-plane .ensures .0) (lent .spare) (s .pre .1) (size c))
+    (plane-flooded (s .args .shape) (s .args .pass .neighbours) 1 (lent .size .wide) (c .take-plane .ensures .0)
+    (lent .spare) (s .pre .1) (size c))
 
 values-are : (c : tie.After-take-plane) →
     values (start c .args .plane .now) (c .take-plane .last .1 .1 .0) (c .take-plane .result .size)

@@ -81,7 +81,7 @@ pub fn cases() -> Vec<Case> {
         cases.push(ruled(case, random_affine(&mut random)));
     }
     cases.extend(enhanced(&mut random));
-    cases.extend(chains(&mut random, 6, 1, random_any));
+    cases.extend(chains(&mut random, 6, 1, random_any, |_| 4));
     cases.extend(listed(&mut random));
     cases.extend(slopes::cases());
     cases
@@ -144,7 +144,7 @@ fn enhanced(random: &mut Random) -> Vec<Case> {
 /// Lists and passes in memory of all three rules.
 fn listed(random: &mut Random) -> Vec<Case> {
     let limited = Rule::Limited { k: 500 };
-    let over = |a, b, area, rule| Pass { a, b, area, rule };
+    let over = |a, b, area, rule| Pass { a, b, area, rule, neighbours: 4 };
     let mixed = [
         over(0, 127, 1, affine([3, 0, 10_000])),
         EXAMPLE,
@@ -154,7 +154,7 @@ fn listed(random: &mut Random) -> Vec<Case> {
         over(64, 255, 2, affine([16, 10_000, 10_000])),
         over(200, 200, 1, affine([1, 0, 10_000])),
     ];
-    let settings = Settings { last_level: 7, area: 2, rule: affine([2, 100, 10_000]) };
+    let settings = Settings { last_level: 7, area: 2, rule: affine([2, 100, 10_000]), neighbours: 4 };
     let mut cases = Vec::new();
     for run in [list::list, passes] {
         cases.push(run(5, 1, &[over(0, 127, 1, affine([2, 100, 10_000]))], &PARTS));

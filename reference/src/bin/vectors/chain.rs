@@ -7,12 +7,18 @@ use mlhe_reference::random::Random;
 use mlhe_reference::{intensity, Rule};
 
 pub fn cases() -> Vec<Case> {
-    chains(&mut Random::new(30), 95, 15, random_rule)
+    chains(&mut Random::new(30), 95, 15, random_rule, |_| 4)
 }
 
-/// So many chains on small planes, then so many on larger ones, with rules that are drawn so. Chains: the first plane
-/// by intensity, passes on it with refused ones among them, and the colours of the last plane.
-pub fn chains(random: &mut Random, small: usize, large: usize, draw: fn(&mut Random) -> Rule) -> Vec<Case> {
+/// So many chains on small planes, then so many on larger ones, with rules and numbers of neighbours that are drawn so.
+/// Chains: the first plane by intensity, passes on it with refused ones among them, and the colours of the last plane.
+pub fn chains(
+    random: &mut Random,
+    small: usize,
+    large: usize,
+    draw: fn(&mut Random) -> Rule,
+    neighbours: fn(&mut Random) -> u8,
+) -> Vec<Case> {
     let mut cases = Vec::new();
     for chain in 0..small + large {
         let (w, h) = if chain < small { random_sides(random, 5, 3) } else { random_sides(random, 16, 16) };
@@ -27,6 +33,7 @@ pub fn chains(random: &mut Random, small: usize, large: usize, draw: fn(&mut Ran
             (case.a, case.b) = (a, b);
             case.area = random.one_of(&[1, 1, 1, 2, 3]);
             case.same_plane = true;
+            case.neighbours = neighbours(random);
             match random.below(20) {
                 0 => (case.a, case.b) = (b, a),
                 1 => case.area = 0,

@@ -20,6 +20,23 @@ pub fn random_plane(random: &mut Random, w: usize, n: usize) -> Vec<u8> {
     (0..n).map(pixel).collect()
 }
 
+/// A random plane of w columns with thin wires, on one value, on a checkerboard of two, or on any random plane.
+pub fn random_wires(random: &mut Random, w: usize, n: usize) -> Vec<u8> {
+    let two = [random.byte(), random.byte()];
+    let mut plane = match random.below(3) {
+        0 => random_plane(random, w, n),
+        1 => vec![two[0]; n],
+        _ => (0..n).map(|p| two[(p % w + p / w) % 2]).collect(),
+    };
+    for _ in 0..random.between(1, 4) {
+        let least = random.byte();
+        for p in random.wire(w, n / w) {
+            plane[p] = least.saturating_add(random.below(9) as u8);
+        }
+    }
+    plane
+}
+
 /// A random plain or limited rule, which is sound.
 pub fn random_rule(random: &mut Random) -> Rule {
     if random.below(5) < 3 {
@@ -71,13 +88,25 @@ pub fn random_sides(random: &mut Random, w: usize, h: usize) -> (usize, usize) {
 pub fn random_pass(random: &mut Random, w: usize, h: usize) -> Case {
     let (w, h) = random_sides(random, w, h);
     let plane = random_plane(random, w, w * h);
-    let rule = random_rule(random);
-    let section = random_section(random, &plane);
-    let components = Components::new(w, h).of_section(&plane, section[0], section[1]);
+    random_pass_over(random, &plane, w, random_rule, 4)
+}
+
+/// The same on this plane of w columns, with a rule that is drawn so and with so many neighbours.
+pub fn random_pass_over(
+    random: &mut Random,
+    plane: &[u8],
+    w: usize,
+    draw: fn(&mut Random) -> Rule,
+    neighbours: u8,
+) -> Case {
+    let rule = draw(random);
+    let section = random_section(random, plane);
+    let components = Components::new(w, plane.len() / w, neighbours).of_section(plane, section[0], section[1]);
     let mut areas = vec![1, 1, 1];
     areas.extend(components.iter().map(|component| component.len() as u32));
     let area = random.one_of(&areas) + random.one_of(&[0, 0, 0, 1]);
-    let mut case = ruled(pass_on(&plane, w, section, area, 0, FREE), rule);
+    let mut case = ruled(pass_on(plane, w, section, area, 0, FREE), rule);
+    case.neighbours = neighbours;
     case.marks += random.one_of(&[0, 0, 1, 9]);
     case.queue += random.one_of(&[0, 0, 1, 9]);
     case
@@ -101,13 +130,14 @@ pub fn random_enhance(random: &mut Random, w: usize, h: usize) -> Case {
     case
 }
 
-/// Enhancements and passes by all three rules, on planes of up to 20 by 14 pixels.
+/// Enhancements and passes by all three rules and with both numbers of neighbours, on planes of up to 20 by 14 pixels.
 pub fn random_cases(number: usize, seed: u64) -> Vec<Case> {
     let mut random = Random::new(seed);
     let mut cases = Vec::new();
     for _ in 0..number {
         for case in [random_enhance(&mut random, 20, 14), random_pass(&mut random, 20, 14)] {
-            cases.push(if random.below(3) == 0 { ruled(case, random_affine(&mut random)) } else { case });
+            let case = if random.below(3) == 0 { ruled(case, random_affine(&mut random)) } else { case };
+            cases.push(Case { neighbours: random.one_of(&[4, 4, 8]), ..case });
         }
     }
     cases

@@ -8,10 +8,10 @@ use mlhe_reference::random::Random;
 use mlhe_reference::{level_by_level, list_bytes, Pass, Rule, Settings};
 
 /// Example E as a pass.
-pub const EXAMPLE: Pass = Pass { a: 0, b: 127, area: 1, rule: Rule::Plain { low: 0, high: 25_500 } };
+pub const EXAMPLE: Pass = Pass { a: 0, b: 127, area: 1, rule: Rule::Plain { low: 0, high: 25_500 }, neighbours: 4 };
 
 /// A pass that changes no plane.
-pub const STILL: Pass = Pass { a: 7, b: 7, area: 1, rule: Rule::Plain { low: 0, high: 25_500 } };
+pub const STILL: Pass = Pass { a: 7, b: 7, ..EXAMPLE };
 
 /// Example E's plane.
 pub const PARTS: [u8; 5] = [10, 20, 200, 10, 10];
@@ -19,7 +19,7 @@ pub const PARTS: [u8; 5] = [10, 20, 200, 10, 10];
 /// Passes over [0, 127], [40, 60] and [200, 200] by each rule, and a pass that finds nothing.
 pub fn counted() -> Vec<Pass> {
     let plain = |low, high| Rule::Plain { low, high };
-    let over = |a, b, area, rule| Pass { a, b, area, rule };
+    let over = |a, b, area, rule| Pass { a, b, area, rule, neighbours: 4 };
     vec![
         over(0, 127, 4, plain(0, 100)),
         over(0, 127, 1, plain(80, 25_500)),
@@ -35,7 +35,7 @@ pub fn counted() -> Vec<Pass> {
 fn random_record(random: &mut Random, plane: &[u8], draw: fn(&mut Random) -> Rule) -> Pass {
     let rule = draw(random);
     let [a, b] = random_section(random, plane);
-    Pass { a, b, area: random.one_of(&[1, 1, 1, 2, 3]), rule }
+    Pass { a, b, area: random.one_of(&[1, 1, 1, 2, 3]), rule, neighbours: 4 }
 }
 
 /// The sides of a plane, the plane, and passes to run on it.
@@ -71,7 +71,7 @@ pub fn cases() -> Vec<Case> {
 }
 
 fn written() -> Vec<Case> {
-    let free = Settings { last_level: 7, area: 1, rule: EXAMPLE.rule };
+    let free = Settings { last_level: 7, area: 1, rule: EXAMPLE.rule, neighbours: 4 };
     let short = |bytes: &[u8]| sound(Kind::List, 5, 1, bytes.to_vec(), PARTS.to_vec());
     vec![
         list(5, 1, &[EXAMPLE], &PARTS),

@@ -16,11 +16,13 @@
 mod affine;
 mod chain;
 mod chance;
+mod eight;
 mod enhance;
 mod faults;
 mod house;
 mod intensity;
 mod list;
+mod neighbours;
 mod pass;
 mod passes;
 mod program;
@@ -35,8 +37,9 @@ use std::io::{self, Read, Write};
 use std::path::Path;
 use std::{env, fs, process};
 
-/// What makes the cases of each call. A chain mixes calls, and so do the cases of the affine rule, which come last.
-const CALLS: [fn() -> Vec<Case>; 11] = [
+/// What makes the cases of each call. A chain mixes calls, and so do the cases of the affine rule and of eight
+/// neighbours, which come last.
+const CALLS: [fn() -> Vec<Case>; 12] = [
     intensity::cases,
     pass::cases,
     chain::cases,
@@ -48,6 +51,7 @@ const CALLS: [fn() -> Vec<Case>; 11] = [
     read::cases,
     write::cases,
     affine::cases,
+    eight::cases,
 ];
 
 fn main() -> io::Result<()> {

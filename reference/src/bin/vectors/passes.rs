@@ -4,17 +4,17 @@ use crate::chance::random_rule;
 use crate::faults::{faulty, faulty_records, memory_test, plane_test, size_tests, Test};
 use crate::list::{counted, random_lists, EXAMPLE, PARTS, STILL};
 use crate::sound::{sound, ISLANDS};
-use mlhe_reference::cases::{Case, Kind};
+use mlhe_reference::cases::{passes_bytes, Case, Kind};
 use mlhe_reference::random::Random;
-use mlhe_reference::{level_by_level, list_bytes, Pass, Settings};
+use mlhe_reference::{level_by_level, Pass, Settings};
 
 /// A sound call that runs these passes in memory.
 pub fn passes(w: usize, h: usize, passes: &[Pass], plane: &[u8]) -> Case {
-    sound(Kind::Passes, w, h, list_bytes(passes).split_off(7), plane.to_vec())
+    sound(Kind::Passes, w, h, passes_bytes(passes), plane.to_vec())
 }
 
 pub fn cases() -> Vec<Case> {
-    let free = Settings { last_level: 7, area: 1, rule: EXAMPLE.rule };
+    let free = Settings { last_level: 7, area: 1, rule: EXAMPLE.rule, neighbours: 4 };
     let mut cases = vec![
         passes(5, 1, &[EXAMPLE], &PARTS),
         passes(5, 1, &[], &PARTS),
@@ -51,12 +51,12 @@ fn first_tests() -> Vec<Test> {
     ]
 }
 
-/// The second pass starts at byte 12.
+/// The second pass starts at byte 13.
 fn second_tests() -> Vec<Test> {
     vec![
-        (5, vec![|case| (case.bytes[12], case.bytes[12 + 1]) = (255, 0)]),
-        (6, vec![|case| case.bytes[12 + 4] = 0]),
-        (7, vec![|case| case.bytes[12 + 11] = 255]),
-        (8, vec![|case| case.bytes[12 + 2..12 + 12].copy_from_slice(&[1, 0, 1, 0, 0, 0, 0xFF, 0xFF, 0, 0])]),
+        (5, vec![|case| (case.bytes[13], case.bytes[13 + 1]) = (255, 0)]),
+        (6, vec![|case| case.bytes[13 + 4] = 0]),
+        (7, vec![|case| case.bytes[13 + 11] = 255]),
+        (8, vec![|case| case.bytes[13 + 2..13 + 12].copy_from_slice(&[1, 0, 1, 0, 0, 0, 0xFF, 0xFF, 0, 0])]),
     ]
 }

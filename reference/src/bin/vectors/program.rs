@@ -40,13 +40,24 @@ pub fn cases() -> Vec<Case> {
     }
     let mut random = Random::new(101);
     cases.extend((0..80).map(|_| run(random_frame(&mut random, true))));
-    // Pictures that the house setting changes, behind comments.
-    for _ in 0..2 {
-        let (w, h, raster) = picture_telling(&mut random, &house, &Settings { last_level: 0, ..house });
-        let commented = format!("P6# {w} {h}\n{w}#\r\n#\n{h} # 255\r255\n").into_bytes();
-        cases.push(run([commented, raster].concat()));
-    }
+    cases.extend(last_pictures(&mut random).into_iter().map(run));
     cases
+}
+
+/// Pictures that the house setting changes, behind comments, and such as tell its four neighbours from eight.
+fn last_pictures(random: &mut Random) -> Vec<Vec<u8>> {
+    let house = Settings::HOUSE;
+    let mut inputs = Vec::new();
+    for _ in 0..2 {
+        let (w, h, raster) = picture_telling(random, &house, &Settings { last_level: 0, ..house });
+        let commented = format!("P6# {w} {h}\n{w}#\r\n#\n{h} # 255\r255\n").into_bytes();
+        inputs.push([commented, raster].concat());
+    }
+    for _ in 0..2 {
+        let (w, h, raster) = picture_telling(random, &house, &Settings { neighbours: 8, ..house });
+        inputs.push([header(w, h), raster].concat());
+    }
+    inputs
 }
 
 /// The output of an enhancement.

@@ -7,7 +7,7 @@ use crate::list::{list, list_head_tests, EXAMPLE, PARTS};
 use crate::pass::ROW;
 use crate::passes::passes;
 use crate::sound::{enhance_grey, pass_on, ruled, FREE};
-use mlhe_reference::cases::Case;
+use mlhe_reference::cases::{Case, PASS};
 use mlhe_reference::Pass;
 
 /// N, smin and smax of the sound calls.
@@ -43,8 +43,8 @@ fn slopes_test() -> Test {
     (18, faults)
 }
 
-/// The same in a record of 12 bytes from this place on.
-fn record_slopes_test<const AT: usize>() -> Test {
+/// The same in a record, or in a pass in memory, from this place on.
+pub fn record_slopes_test<const AT: usize>() -> Test {
     let faults: Vec<fn(&mut Case)> = vec![
         |case| case.bytes[AT + 3] = 0,
         |case| case.bytes[AT + 3] = 17,
@@ -56,7 +56,7 @@ fn record_slopes_test<const AT: usize>() -> Test {
 }
 
 /// 5 and 6 in a record with the affine rule, which are tested before 18.
-fn record_tests<const AT: usize>() -> Vec<Test> {
+pub fn record_tests<const AT: usize>() -> Vec<Test> {
     vec![
         (5, vec![|case| (case.bytes[AT], case.bytes[AT + 1]) = (9, 8)]),
         (6, vec![|case| case.bytes[AT + 4..AT + 8].fill(0), |case| case.bytes[AT + 6] = 16]),
@@ -64,7 +64,7 @@ fn record_tests<const AT: usize>() -> Vec<Test> {
 }
 
 /// 7 and 8 in a record, which gets another rule.
-fn other_rules_tests<const AT: usize>() -> Vec<Test> {
+pub fn other_rules_tests<const AT: usize>() -> Vec<Test> {
     vec![
         (7, vec![|case| case.bytes[AT + 2..AT + 12].copy_from_slice(&[0, 0, 1, 0, 0, 0, 81, 0, 80, 0])]),
         (8, vec![|case| case.bytes[AT + 2..AT + 12].copy_from_slice(&[1, 0, 1, 0, 0, 0, 0xE9, 0x03, 0, 0])]),
@@ -98,18 +98,18 @@ fn in_lists() -> Vec<Case> {
     cases
 }
 
-/// The second pass starts at byte 12.
+/// The second pass starts at byte 13.
 fn in_memory() -> Vec<Case> {
     let sound = passes(2, 2, &two(), &[10, 20, 200, 10]);
     let mut earlier = size_tests();
     earlier.extend([plane_test(), memory_test()]);
-    earlier.push((16, vec![|case| case.bytes = case.bytes.repeat(513)[..12 * 1_025].to_vec()]));
+    earlier.push((16, vec![|case| case.bytes = case.bytes.repeat(513)[..PASS * 1_025].to_vec()]));
     earlier.extend(record_tests::<0>());
     let mut cases = faulty_last(&sound, &earlier, &record_slopes_test::<0>());
-    cases.extend(faulty_last(&sound, &record_tests::<12>(), &record_slopes_test::<12>()));
+    cases.extend(faulty_last(&sound, &record_tests::<PASS>(), &record_slopes_test::<PASS>()));
     let first = [record_tests::<0>(), other_rules_tests::<0>()].concat();
-    let second = [record_tests::<12>(), other_rules_tests::<12>()].concat();
-    cases.extend(faulty_records(&sound, &first, &[record_slopes_test::<12>()]));
+    let second = [record_tests::<PASS>(), other_rules_tests::<PASS>()].concat();
+    cases.extend(faulty_records(&sound, &first, &[record_slopes_test::<PASS>()]));
     cases.extend(faulty_records(&sound, &[record_slopes_test::<0>()], &second));
     cases
 }

@@ -29,6 +29,7 @@ pub fn sound(kind: Kind, w: usize, h: usize, bytes: Vec<u8>, plane: Vec<u8>) -> 
         rule: 0,
         segments: 0,
         numbers: FREE,
+        neighbours: 4,
         area: 1,
         last_level: 7,
         same_plane: false,
@@ -70,5 +71,5 @@ pub fn enhance_grey(greys: &[u8], w: usize, last_level: u8, area: u32, rule: u8,
 /// The same enhancement with the house setting. The settings of the head are not its own, and every one of them would
 /// be refused.
 pub fn house_grey(greys: &[u8], w: usize) -> Case {
-    Case { kind: Kind::House, ..enhance_grey(greys, w, 8, 0, 0, [81, 80]) }
+    Case { kind: Kind::House, neighbours: 0, ..enhance_grey(greys, w, 8, 0, 0, [81, 80]) }
 }
