@@ -24,7 +24,7 @@ fn shape_of(case: Case) -> Shape {
 // The settings of a case.
 fn settings_of(case: Case) -> Settings {
     let rule = records::case_rule(case);
-    Settings::new(case.last, case.area, rule)
+    Settings::new(case.last, case.area, rule, case.neighbours)
 }
 
 // How many entries of marks and queue had to stay and did not.
@@ -179,6 +179,7 @@ pub fn house(case: Case, frame: &[u8], plane: &mut [u8]) {
     lines::count(Settings::HOUSE_AREA as usize);
     lines::count(Settings::HOUSE_LOW as usize);
     lines::count(Settings::HOUSE_HIGH as usize);
+    lines::count(Settings::HOUSE_NEIGHBOURS as usize);
     lines::end();
 }
 

@@ -17,7 +17,7 @@ use head::Case;
 use head::HEAD;
 
 // Room for a case's bytes and for its plane.
-const BYTES: usize = 12320;
+const BYTES: usize = 13344;
 
 const PLANE: usize = 288;
 

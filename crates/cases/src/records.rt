@@ -1,4 +1,4 @@
-// Passes by value: of a case, and of the records of 12 bytes that stand for a list in memory.
+// Passes by value: of a case, and of the records of 13 bytes that stand for a list in memory.
 ghost use Prim.Native.Nat.{_<_};
 use crate::head;
 use crate::head::Case;
@@ -8,7 +8,7 @@ use tones::Rule;
 use tones::RuleNumbers;
 
 // The length of a record.
-pub const RECORD: usize = 12;
+pub const RECORD: usize = 13;
 
 // The tone rule of a case.
 pub fn case_rule(case: Case) -> Rule {
@@ -28,6 +28,7 @@ pub fn case_pass(case: Case) -> Pass {
         b: case.b,
         area: case.area,
         rule,
+        neighbours: case.neighbours,
     }
 }
 
@@ -65,6 +66,7 @@ fn pass_at(bytes: &[u8], i: usize) -> Pass
         b: byte_at(bytes, i + 1),
         area: long_at(bytes, i + 4),
         rule,
+        neighbours: byte_at(bytes, i + 12),
     }
 }
 

@@ -40,7 +40,7 @@ in-library size = record {
 }
 
 house-accepted : settingsRefusal house ≡ 0
-unfolding settingsRefusal levelRefusal areaRefusal ruleRefusal
+unfolding settingsRefusal levelRefusal areaRefusal ruleRefusal neighbourRefusal
 house-accepted = refl
 
 -- the heading has at most 21 bytes

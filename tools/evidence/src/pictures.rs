@@ -103,8 +103,8 @@ pub fn night() -> Picture {
     landscape(256, 192, true, 1)
 }
 
-/// A sky down to the horizon's row, in 40 grey levels from above downward, over land from 20 to about 20 + light. Before
-/// the grain, which is of up to three grey levels, each row of the sky has one value.
+/// A sky down to the horizon's row, in 40 grey levels from above downward, over land from 20 to about 20 + light.
+/// Before the grain, which is of up to three grey levels, each row of the sky has one value.
 pub fn sky(horizon: usize, light: i64) -> Picture {
     let horizon = horizon as i64;
     drawn(256, 192, |x, y| {

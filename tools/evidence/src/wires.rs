@@ -29,13 +29,21 @@ struct Along {
     difference: usize,
 }
 
+fn value_at(plane: &Plane, (x, y): (i64, i64)) -> u8 {
+    plane.values()[y as usize * plane.width() + x as usize]
+}
+
+fn values_on(wires: &[Wire], plane: &Plane) -> Vec<u8> {
+    wires.iter().flatten().map(|&place| value_at(plane, place)).collect()
+}
+
 fn along(wires: &[Wire], plane: &Plane) -> Along {
-    let at = |&(x, y): &(i64, i64)| plane.values()[y as usize * plane.width() + x as usize];
-    let mut tones: Vec<u8> = wires.iter().flatten().map(at).collect();
+    let mut tones = values_on(wires, plane);
     tones.sort_unstable();
     tones.dedup();
     let pairs = || wires.iter().flat_map(|wire| wire.windows(2));
-    let sum: usize = pairs().map(|pair| usize::from(at(&pair[0]).abs_diff(at(&pair[1])))).sum();
+    let differing = |pair: &[(i64, i64)]| value_at(plane, pair[0]).abs_diff(value_at(plane, pair[1]));
+    let sum: usize = pairs().map(differing).map(usize::from).sum();
     let (range, number) = (tones[tones.len() - 1] - tones[0], pairs().count());
     Along { tones: tones.len(), range, difference: (100 * sum + number / 2) / number }
 }
@@ -92,11 +100,7 @@ mod tests {
         let frame = frame_of(pictures::wires(wires));
         let settings = Settings::HOUSE.with_neighbours(neighbours).with_last(last);
         let done = frame.enhanced(&settings, &mut Memory::new()).expect("the settings are sound");
-        let at = |plane: &Plane| {
-            let place = |&(x, y): &(i64, i64)| plane.values()[y as usize * plane.width() + x as usize];
-            wires.iter().flatten().map(place).collect()
-        };
-        [at(&frame.intensity()), at(&done.plane)]
+        [frame.intensity(), done.plane].map(|plane| values_on(wires, &plane))
     }
 
     #[test]
@@ -133,12 +137,10 @@ mod tests {
             let frame = frame_of(pictures::wires(&wires));
             let first = frame.intensity();
             let (w, h, values) = (first.width(), first.height(), first.values());
-            let skies = [FOUR, EIGHT].map(|number| Components::new(w, h, number).of_section(values, 0, LEAST - 1).len());
-            assert!(skies[0] > 1 && skies[1] == 1, "{name}");
-            let on_wires = values.iter().filter(|&&value| value >= LEAST);
-            assert!(on_wires.clone().all(|value| (130..=160).contains(value)), "{name}");
+            let skies = |number| Components::new(w, h, number).of_section(values, 0, LEAST - 1).len();
+            assert!(skies(FOUR) > 1 && skies(EIGHT) == 1, "{name}");
+            assert!(values_on(&wires, &first).iter().all(|value| (130..=160).contains(value)), "{name}");
             assert!(values.iter().filter(|&&value| value < LEAST).all(|&value| value <= 125), "{name}");
-            assert!(on_wires.count() <= wires.iter().flatten().count());
         }
     }
 
