@@ -42,7 +42,7 @@ use Rattle.netpbm.proofs.Replies.{refused-answer, framed-answer, refused-some}
 use Rattle.cnumbers.specs.Numbers.{encoded, numberReply, doneReply, statusNumber, writtenNumber}
 use Rattle.cnumbers.specs.Numbers.{countsRefusal, countsReply}
 use Rattle.cnumbers.specs.Numbers.{numbersFor, passOf, settingsOf}
-use Rattle.cnumbers.proofs.Numbers.{rule-lent, no-rule-lent}
+use Rattle.cnumbers.proofs.Numbers.{rule-lent, pass-lent, no-rule-lent, number-lent}
 use Rattle.cnumbers.specs.Numbers.{readNumber, numbersAfter}
 use Rattle.capi.specs.Calls.{CountsOutcome, CountsOutputOutcome, passRefusalOf, enhanceRefusalOf, ReadNumber}
 use Rattle.claims.specs.CFunctions.{Stands, StandsCounted, CFunctions}
@@ -260,7 +260,13 @@ c-functions = record {
       (recolourRefusal w h (length frame) (length plane) (length output)) r (O .answer) O;
   of-rule = λ r fits.
       let is = rule-lent r fits in
-      (ap ruleOf is ∙ read-rule r, ap formRefusal is ∙ ap (λ (t : Bool). when t 17) (formed-rule r));
+      (ap ruleOf is ∙ read-rule r, (ap formRefusal is ∙ ap (λ (t : Bool). when t 17) (formed-rule r), refl));
+  of-five = λ r fits number.
+      let is = pass-lent r fits number in (
+        ap ruleOf is ∙ read-rule r,
+        (ap formRefusal is ∙ ap (λ (t : Bool). when t 17) (formed-rule r), number-lent r number),
+      );
+  of-four = λ r. (refl, refl);
   of-no-rule = no-rule-lent;
   of-pass = λ w h a b area rule {plane} {marks} {queue} {plane'} {marks'} {queue'} numbers {numbers'} r
       fine room O.

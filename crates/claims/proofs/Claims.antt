@@ -7,9 +7,9 @@ use native.Mathlib.Nat.{le-of-lt, zero-add}
 use lib.ListN.{length, take, drop}
 use lib.Seq.{take-at}
 use Rattle.planes.specs.Lists.{at}
-use Rattle.planes.specs.Shapes.{pixels, neighbours}
+use Rattle.planes.specs.Shapes.{pixels, neighbours, adjacency}
 use Rattle.planes.specs.declared.Shape.{Shape}
-use Rattle.planes.proofs.Shapes.{neighbours-sym}
+use Rattle.planes.proofs.Shapes.{neighbours-sym, adjacency-sym}
 use Rattle.planes.specs.Replies.{Reply, refuses, gives, replied, after, overwritten}
 use Rattle.planes.proofs.Replies.{refuses-not-gives, gives-same, replied-refuses, replied-gives}
 use Rattle.colours.specs.Frames.{intensity, recolour}
@@ -21,11 +21,15 @@ use Rattle.model.specs.Effects.{Effect, counts}
 use Rattle.model.specs.Outcomes.{Outcome, OutputOutcome}
 use Rattle.model.specs.Neighbourhoods.{passNeighbours}
 use Rattle.model.specs.Calls.{retonedIn, keptIn, total, AllAccepted, State, start, chain, chainEffect, chainSufficient}
-use Rattle.model.specs.Enhancement.{enhanced}
+use Rattle.model.specs.Runs.{All, Carries}
+use Rattle.model.specs.Enhancement.{passes, callOf, enhanced}
 use Rattle.model.proofs.Outcomes.{outcome-given, outcome-stays, output-given}
-use Rattle.model.proofs.Chains.{Fine, chain-fine}
+use Rattle.model.proofs.Chains.{Fine, chain-fine, chain-keeps, all-carry-within}
+use Rattle.model.proofs.Recursion.{all-map}
+use Rattle.model.proofs.Connected.{passes-carry}
 use Rattle.model.proofs.Sufficient.{pass-sufficient, run-sufficient, chain-sufficient, enhanced-sufficient}
-use Rattle.passes.proofs.Calls.{sequence-is}
+use Rattle.passes.specs.Calls.{callOn}
+use Rattle.passes.proofs.Calls.{sequence-is, sequence-within}
 use Rattle.levels.specs.declared.Settings.{Settings}
 use Rattle.enhance.specs.Calls.{chainOf, sufficientOf, EnhanceOutcome}
 use Rattle.enhance.proofs.Calls.{fine, chain-accepted}
@@ -41,7 +45,9 @@ use Rattle.frames.specs.Program.{programOutput}
 use Rattle.frames.proofs.Program.{long-output, frame-output, refused-output}
 use Rattle.claims.specs.Claims.{AsListed, ReadAsListed, Writes, Demand1, Had, Demand2, ShapePreserving, Coloured}
 use Rattle.claims.specs.Claims.{Demand3Holds, passesChain, Chained, ListsAreChains, AsBefore}
-use Rattle.claims.proofs.ShapePreserving.{fine-shapes, grey-file}
+use Rattle.claims.proofs.ShapePreserving.{fine-shapes, shapes-fine, grey-file}
+use Rattle.claims.proofs.Before.{pass-before, numbers-before, list-before, record-before}
+use Rattle.claims.proofs.Before.{enhance-before, settings-before}
 
 -- ## Demand 1
 
@@ -133,7 +139,7 @@ had together O =
 both-sums : (z : Shape) (t : Settings) (frame : List ℕ) → (
     let e = chainEffect (chainOf z t frame) in
     e .retoned + e .kept ≡ sufficientOf z t frame)
-both-sums z t frame = enhanced-sufficient z (intensity frame) (t .last) (t .area) (t .rule)
+both-sums z t frame = enhanced-sufficient z (intensity frame) (t .last) (t .area) (t .rule) (t .neighbours)
 
 pub demand-2 : Demand2
 demand-2 = record {
@@ -180,6 +186,9 @@ coloured {z} {frame} {plane} output {output'} size keeps e =
       grey-file = λ grey.
           subst (λ (f : List ℕ). ShapePreserving (neighbours z) (intensity frame) (intensity f)) (sym exact)
           (grey-file (neighbours z) (neighbours-sym z) frame plane grey keeps);
+      grey-file-eight = λ grey shapes.
+          subst (λ (f : List ℕ). ShapePreserving (adjacency z 8) (intensity frame) (intensity f)) (sym exact)
+          (grey-file (adjacency z 8) (adjacency-sym z 8) frame plane grey (shapes-fine shapes));
     }
 
 -- the chain of an enhancement keeps the order of the frame's intensity
@@ -187,6 +196,15 @@ enhanced-fine : (z : Shape) (t : Settings) (frame : List ℕ)
     → Fine (neighbours z) (intensity frame) (chainOf z t frame .plane)
 unfolding enhanced
 enhanced-fine z t frame = chain-fine z (start (intensity frame)) _
+
+-- and by the eight neighbours, where the settings have 8
+enhanced-fine-eight : (z : Shape) (t : Settings) (frame : List ℕ) → t .neighbours ≡ 8
+    → Fine (adjacency z 8) (intensity frame) (chainOf z t frame .plane)
+unfolding enhanced callOf
+enhanced-fine-eight z t frame e =
+    let all = all-map (λ s c. c ∙ e) (passes-carry (t .area) (t .rule) (t .neighbours) (t .last)) in
+    chain-keeps (adjacency z 8) z (start (intensity frame)) _
+    (all-carry-within z (length (intensity frame)) 8 (callOf (pixels z)) (λ s. refl) all)
 
 module _ {z : Shape} {frame lent values first : List ℕ}
     (I : IntensityOutcome (z .w) (z .h) frame lent (gives values) first) where
@@ -216,14 +234,28 @@ module _ {z : Shape} {frame lent values first : List ℕ}
   enhances : (t : Settings) {plane marks queue output values plane' marks' queue' output' : List ℕ}
       → EnhanceOutcome z t frame plane marks queue output (gives values) plane' marks' queue' output'
       → (plane' ≡ chainOf z t frame .plane) × ((values ≡ counts (chainEffect (chainOf z t frame)))
-      × (ShapePreserving (neighbours z) first plane' × Coloured z frame plane' output'))
+      × ((ShapePreserving (neighbours z) first plane' × Coloured z frame plane' output')
+      × (All (Carries (t .neighbours)) (passes (t .last) (t .area) (t .rule) (t .neighbours))
+      × (t .neighbours ≡ 8 → ShapePreserving (adjacency z 8) first plane'))))
   enhances t {output = output} {plane' = plane'} O =
       let H = had (both-sums z t frame) (O .retoned) in
       let keeps = subst (Fine (neighbours z) (intensity frame)) (sym (H .plane-is)) (enhanced-fine z t frame) in
       let written = output-given O ∙ ap (λ (p : List ℕ). overwritten output (recolour frame p)) (sym (H .plane-is)) in
       let shapes = subst (λ (p : List ℕ). ShapePreserving (neighbours z) p plane') (sym filled)
       (fine-shapes (neighbours-sym z) keeps) in
-      (H .plane-is, (H .values-are, (shapes, coloured output channels keeps written)))
+      let eight : t .neighbours ≡ 8 → ShapePreserving (adjacency z 8) first plane' = λ e.
+      subst (λ (p : List ℕ). ShapePreserving (adjacency z 8) p plane') (sym filled)
+      (fine-shapes (adjacency-sym z 8) (subst (Fine (adjacency z 8) (intensity frame)) (sym (H .plane-is))
+      (enhanced-fine-eight z t frame e))) in (
+        H .plane-is,
+        (
+          H .values-are,
+          (
+            (shapes, coloured output channels keeps written),
+            (passes-carry (t .area) (t .rule) (t .neighbours) (t .last), eight),
+          ),
+        ),
+      )
 
 pub demand-3 : Demand3Holds
 demand-3 z frame lent values first last calls replies I S =
@@ -238,6 +270,8 @@ demand-3 z frame lent values first last calls replies I S =
           ∙ chain-sufficient z (start first) calls
           ∙ zero-add (chainSufficient z first calls);
       shapes = fine-shapes (neighbours-sym z) keeps;
+      shapes-eight = λ carry. fine-shapes (adjacency-sym z 8) (subst (Fine (adjacency z 8) first) last-is
+          (chain-keeps (adjacency z 8) z (start first) calls (sequence-within 8 S carry)));
       recoloured = λ room O. recolours I keeps room O;
       enhanced = λ t O. enhances I t O;
     }
@@ -249,12 +283,15 @@ chained : {z : Shape} {marks queue : ℕ} {ss : List Pass} {plane values plane' 
     → (plane' ≡ passesChain z marks queue ss plane .plane)
     × (gives values ≡ gives (counts (chainEffect (passesChain z marks queue ss plane))))
     → Chained z marks queue ss plane values plane'
-chained {z} {plane = plane} accepted e = record {
+chained {z} {marks} {queue} {plane = plane} accepted e = record {
   accepted = accepted;
   plane-is = e .0;
   values-are = gives-same (e .1);
   shapes = subst (ShapePreserving (neighbours z) plane) (sym (e .0))
       (fine-shapes (neighbours-sym z) (chain-fine z (start plane) _));
+  shapes-eight = λ all. subst (ShapePreserving (adjacency z 8) plane) (sym (e .0))
+      (fine-shapes (adjacency-sym z 8) (chain-keeps (adjacency z 8) z (start plane) _
+      (all-carry-within z (length plane) 8 (callOn marks queue) (λ s. refl) all)));
 }
 
 pub lists-are-chains : ListsAreChains
@@ -276,4 +313,7 @@ as-before = record {
   of-form = form-before;
   of-rule = rule-before;
   affine = two-refused;
+  of-pass = λ z s plane e. (pass-before z s plane e, numbers-before s e);
+  of-list = λ z list plane. (list-before z list plane, record-before list);
+  of-enhance = λ z t frame e. (enhance-before z t frame e, settings-before t e);
 }

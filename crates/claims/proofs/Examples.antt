@@ -5,8 +5,8 @@ use mathlib.Core.Path.{_≡_, refl}
 use mathlib.Core.List.{List, [], _∷_}
 use native.Mathlib.Omega.{arith}
 use Rattle.planes.specs.Refusals.{sizeRefusal, sideRefusal, pixelRefusal, lengthRefusal, roomRefusal}
-use Rattle.planes.specs.Shapes.{neighbours, shapeRefusal, lentRefusal}
-use Rattle.planes.specs.Neighbours.{four, linked, component, first}
+use Rattle.planes.specs.Shapes.{neighbours, adjacency, shapeRefusal, lentRefusal}
+use Rattle.planes.specs.Neighbours.{four, eight, linked, component, first}
 use Rattle.planes.specs.Extrema.{flat, extreme, extremes}
 use Rattle.planes.proofs.Lists.{beyond-refl}
 use Rattle.plain.specs.Plain.{plainTone, plainKept}
@@ -21,7 +21,8 @@ use Rattle.model.specs.Passes.{inside, componentValues, changes, keptBack, reto
 use Rattle.model.specs.Neighbourhoods.{passNeighbours}
 use Rattle.model.specs.Effects.{runEffect}
 use Rattle.tones.specs.Refusals.{ruleRefusal}
-use Rattle.model.specs.Calls.{areaRefusal, numbersRefusal, passRefusal, call, chain}
+use Rattle.model.specs.Calls.{areaRefusal, neighbourRefusal, numbersRefusal, passRefusal, call, chain}
+use Rattle.model.specs.Calls.{empty, refused, given}
 use Rattle.model.specs.Enhancement.{section, level, levels, passes, callOf, enhanced}
 use Rattle.tones.specs.Examples.{anyRatio}
 use Rattle.tones.proofs.Examples.{tone-examples}
@@ -39,11 +40,12 @@ use Rattle.headers.specs.Grammar.{mark, numeral, field, headerWith, header}
 use Rattle.netpbm.specs.Reading.{maxvalRefusal, rasterRefusal, trailingRefusal, frameRefusal, readAnswer}
 use Rattle.printing.specs.Printing.{enhancedFrame}
 use Rattle.frames.specs.Program.{programOutput}
-use Rattle.claims.specs.Examples.{on, PassExamples, ExtremaExamples, Starred, Demand3Met}
+use Rattle.claims.specs.Examples.{on, onEight, PassExamples, Eight, ExtremaExamples, Starred}
+use Rattle.claims.specs.Examples.{Demand3Met}
 
 pass-examples : PassExamples
-unfolding passNeighbours neighbours four linked component first plainTone plainKept clipped limitedTone tone kept
-    affineTone affineTop affineKept leastFrom nextPoint pointsAfter joined
+unfolding passNeighbours adjacency neighbours four linked component first plainTone plainKept clipped limitedTone tone
+    kept affineTone affineTop affineKept leastFrom nextPoint pointsAfter joined
     inside componentValues changes keptBack retone newTone passed componentCount
 pass-examples = record {
   A = refl;
@@ -64,6 +66,26 @@ pass-examples = record {
   joined = refl;
 }
 
+eight-examples : Eight
+unfolding passNeighbours adjacency neighbours four eight linked component first plainTone plainKept clipped limitedTone
+    tone kept inside componentValues changes keptBack retone newTone passed componentCount flat extreme extremes
+    areaRefusal ruleRefusal neighbourRefusal numbersRefusal
+eight-examples = record {
+  J = refl;
+  down = refl;
+  up = refl;
+  row-ends = refl;
+  one-row = refl;
+  one-column = refl;
+  parted = refl;
+  touch = refl;
+  together = refl;
+  tops = refl;
+  pits = refl;
+  neither = refl;
+  after-slopes = refl;
+}
+
 extrema-examples : ExtremaExamples
 unfolding neighbours four linked first flat extreme extremes
 extrema-examples = record {
@@ -78,12 +100,12 @@ extrema-examples = record {
 }
 
 pub starred : Starred
-unfolding shapeRefusal sizeRefusal sideRefusal pixelRefusal lengthRefusal passNeighbours neighbours four linked
-    component first plainTone plainKept clipped limitedTone tone kept
+unfolding shapeRefusal sizeRefusal sideRefusal pixelRefusal lengthRefusal passNeighbours adjacency neighbours four eight
+    linked component first plainTone plainKept clipped limitedTone tone kept
     affineTone affineTop affineKept leastFrom nextPoint pointsAfter joined
     third pixelIntensity intensity greatestChannel newChannel recolour
     inside componentValues changes keptBack retone newTone passed componentCount runEffect
-    roomRefusal areaRefusal ruleRefusal numbersRefusal lentRefusal passRefusal call chain
+    roomRefusal areaRefusal ruleRefusal neighbourRefusal numbersRefusal lentRefusal passRefusal call chain
     section level levels passes callOf enhanced
     passAt passesOf malformed misnamed miscounted headRefusal encodePass encodePasses encode
     recordRefusal recordRefusals listRefusal
@@ -92,12 +114,15 @@ unfolding shapeRefusal sizeRefusal sideRefusal pixelRefusal lengthRefusal passNe
 starred = record {
   tones = tone-examples;
   passes = pass-examples;
+  eight = eight-examples;
   extrema = extrema-examples;
   K = refl;
   L = refl;
   flat = refl;
   flat-small = refl;
   flat-affine = refl;
+  J-four = refl;
+  J-eight = refl;
   published = published-examples;
   N = refl;
   N′ = refl;
@@ -121,14 +146,14 @@ taken : (k : ℕ) → 0 ≡ suc k → ⊥
 taken k e = omega (arith, e)
 
 pub demand-3-met : Demand3Met
-unfolding shapeRefusal sizeRefusal sideRefusal pixelRefusal lengthRefusal passNeighbours neighbours four linked
-    component first plainTone plainKept tone kept
+unfolding shapeRefusal sizeRefusal sideRefusal pixelRefusal lengthRefusal passNeighbours adjacency neighbours four eight
+    linked component first plainTone plainKept tone kept
     third pixelIntensity intensity intensityRefusal
     inside componentValues changes keptBack retone newTone passed componentCount
-    roomRefusal areaRefusal ruleRefusal numbersRefusal lentRefusal passRefusal
+    roomRefusal areaRefusal ruleRefusal neighbourRefusal numbersRefusal lentRefusal passRefusal
 demand-3-met = record {
   filled = record { answer = refl; plane-is = refl };
-  calls = more {s = on 0 255 1 anyRatio} {marks = two} {queue = two} {plane' = 128 ∷ 255 ∷ []}
+  calls = more {s = onEight 0 255 1 anyRatio} {marks = two} {queue = two} {plane' = 128 ∷ 255 ∷ []}
       (record {
         answer = refl;
         plane-is = refl;
@@ -153,4 +178,5 @@ demand-3-met = record {
         queue-rest = beyond-refl 2 two;
       })
       none));
+  carry = given refl (refused (refused empty));
 }

@@ -1,4 +1,5 @@
 pub mod ShapePreserving
+pub mod Before
 pub mod Claims
 pub mod CFunctions
 pub mod Contracts

@@ -2,11 +2,14 @@
 -- recoloured from such a plane. Assumes nothing.
 --
 --   fine-shapes   from the order of neighbours to all of `ShapePreserving`, for any symmetric relation
+--   shapes-fine   and back
 --   grey-file     the intensity of a grey frame, recoloured from a plane that keeps the order of its own intensity
 use Prim.Native.Nat.{ℕ, _/_, _≤_, _<_}
 use mathlib.Core.Path.{_≡_, sym, ap, _∙_}
+use mathlib.Core.Logic.{inl, inr}
 use mathlib.Core.Bool.{true}
 use mathlib.Core.List.{List}
+use native.Mathlib.Nat.{eq-or-lt-of-le}
 use native.Mathlib.Omega.{arith}
 use lib.ListN.{length}
 use lib.Dec.{leb, ltb}
@@ -39,6 +42,18 @@ fine-shapes {near} {p} {q} symm F =
       fewer-tops = no-more-maxima near symm p q (F .size) keeps;
       fewer-pits = no-more-minima near symm p q (F .size) keeps;
     }
+
+-- and back
+pub shapes-fine : {near : Near} {p q : List ℕ} → ShapePreserving near p q → Fine near p q
+shapes-fine {near} {p} {q} S = record {
+  size = S .size;
+  keeps = record {
+    ordered = λ i j hi hj e h. elim (eq-or-lt-of-le h) [
+      | inl d ↦ (let same = S .equal i j hi hj e d in omega (arith, same))
+      | inr d ↦ S .ordered i j hi hj e d
+    ];
+  };
+}
 
 grey-fine : (near : Near) (frame last : List ℕ) → Grey frame → Fine near (intensity frame) last
     → Fine near (intensity frame) (intensity (recolour frame last))

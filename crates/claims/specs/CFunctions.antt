@@ -3,8 +3,8 @@
 --
 --   Stands          an answer of some kind that the number stands for, with what holds of it
 --   StandsCounted   the same of a call that tells both counts, which stand in two lent numbers
---   CFunctions      one claim for each function; a rule is four numbers, and a pass and an enhancement by numbers that
---                   stand for no rule get 17; a call that tells both counts gets 14, last of all, where fewer than two
+--   CFunctions      one claim for each function; a rule is four numbers, a fifth is the number of neighbours, and a
+--                   pass and an enhancement by numbers that stand for no rule get 17; a call that tells both counts gets 14, last of all, where fewer than two
 --                   numbers are lent
 use Prim.Native.Nat.{ℕ, _≤_, _<_}
 use mathlib.Core.Path.{_≡_}
@@ -18,6 +18,7 @@ use Rattle.tones.specs.declared.Rule.{Rule}
 use Rattle.tones.specs.Numbers.{ruleOf, formRefusal, RuleFits}
 use Rattle.colours.specs.Calls.{statusReply, IntensityOutcome, RecolourOutcome}
 use Rattle.model.specs.declared.Answer.{Answer}
+use Rattle.model.specs.Calls.{neighbourRefusal}
 use Rattle.model.specs.Outcomes.{answerReply}
 use Rattle.passes.specs.Calls.{passCallRefusal, PassOutcome}
 use Rattle.enhance.specs.Calls.{memoryRefusal, enhanceCallRefusal, EnhanceOutcome}
@@ -25,7 +26,7 @@ use Rattle.passlists.specs.Outcomes.{runListRefusal, ListOutcome}
 use Rattle.netpbm.specs.Reading.{readReply}
 use Rattle.netpbm.specs.Writing.{writtenReply, WriteOutcome}
 use Rattle.cnumbers.specs.Numbers.{numberReply, doneReply, statusNumber, answerNumber, countsAfter, writtenNumber}
-use Rattle.cnumbers.specs.Numbers.{numbersFor, ruleLent, passOf, settingsOf}
+use Rattle.cnumbers.specs.Numbers.{numbersFor, neighboursFor, ruleLent, passLent, passOf, settingsOf}
 use Rattle.capi.specs.Calls.{PassNumber, ListNumber, EnhanceNumber, ReadNumber}
 
 -- r is the number of an answer a of which P holds
@@ -48,10 +49,16 @@ pub record CFunctions : Type 0 where
   pub of-recolour : (w h : ℕ) {frame plane output output' : List ℕ} (r : ℤ)
       → RecolourOutcome w h frame plane output (doneReply r) output'
       → Stands statusNumber (λ s. RecolourOutcome w h frame plane output (statusReply s) output') r
-  -- every rule has four numbers that stand for it; no other number of them stands for a rule
+  -- every rule has four numbers that stand for it, by four neighbours; a fifth is the number of neighbours: 4 and 8 stand
+  -- for themselves, and every other gets 19; no other number of them stands for a rule
   pub of-rule : (r : Rule) → RuleFits r → (ruleOf (numbersFor (ruleLent r)) ≡ r)
-      × (formRefusal (numbersFor (ruleLent r)) ≡ 0)
-  pub of-no-rule : (rule : List ℕ) → (length rule ≡ 4 → ⊥) → formRefusal (numbersFor rule) ≡ 17
+      × ((formRefusal (numbersFor (ruleLent r)) ≡ 0) × (neighboursFor (ruleLent r) ≡ 4))
+  pub of-five : (r : Rule) → RuleFits r → (number : ℕ) → (ruleOf (numbersFor (passLent r number)) ≡ r)
+      × ((formRefusal (numbersFor (passLent r number)) ≡ 0)
+      × (neighbourRefusal (neighboursFor (passLent r number)) ≡ neighbourRefusal number))
+  pub of-four : (r : Rule) → (neighboursFor (passLent r 4) ≡ 4) × (neighboursFor (passLent r 8) ≡ 8)
+  pub of-no-rule : (rule : List ℕ) → (length rule ≡ 4 → ⊥) → (length rule ≡ 5 → ⊥)
+      → formRefusal (numbersFor rule) ≡ 17
   pub of-pass : (w h a b area : ℕ) (rule : List ℕ) {plane marks queue plane' marks' queue' : List ℕ}
       (numbers : List ℕ) {numbers' : List ℕ} (r : ℤ)
       → formRefusal (numbersFor rule) ≡ 0 → 2 ≤ length numbers

@@ -7,7 +7,11 @@
 --   plane              the list of its pixels' values in reading order; a pixel is its index (planes/specs/Lists)
 --   Shape              the columns w and rows h of a plane; pixels z is their product (planes/specs/Shapes)
 --   neighbours z       the four-neighbours in a plane of the shape z (planes/specs/Shapes, Neighbours)
---   passNeighbours z   the neighbours by which a pass takes its components (model/specs/Neighbourhoods)
+--   adjacency z k      its neighbours by a number k of them: the eight for 8, the four for 4
+--   passNeighbours z   the neighbours by which a pass takes its components: by the number that it carries
+--                      (model/specs/Neighbourhoods)
+--   Carries, AcceptedCarry   a pass, and every accepted call of a chain, carries a number of neighbours
+--                      (model/specs/Runs, Calls)
 --   extreme ltb, gtb   a pixel's flat zone is a regional maximum, minimum (planes/specs/Extrema)
 --   Contains           the flat zone of a pixel of one plane contains a whole regional extremum of another
 --   maxima, minima     how many regional maxima and minima there are
@@ -37,6 +41,7 @@
 --   RuleNumbers        the numbers that stand for a tone rule, in a record of a pass list and from C (tones/src)
 --   ruleOf, malformed  their rule, and that they stand for none (tones/specs/Numbers)
 --   ruleBefore, malformedBefore   the same before the affine rule was there (tones/specs/Before)
+--   numbersBefore, settingsBefore   the refusals of a pass and of settings before they had neighbours (specs/Before)
 --   Bytes              every member is a byte (listformat/specs/Format)
 --   Emitted            what the program's function ensures: some bytes at the beginning of the output (printing)
 use Prim.Native.Nat.{ℕ, suc, _+_, _-_, _*_, _/_, _≤_, _<_}
@@ -49,7 +54,8 @@ use lib.Dec.{ltb}
 use Rattle.planes.specs.Lists.{at, Beyond}
 use Rattle.planes.specs.Replies.{Reply, refuses, gives, replied, overwritten}
 use Rattle.planes.specs.Neighbours.{Near}
-use Rattle.planes.specs.Shapes.{pixels, neighbours}
+use Rattle.planes.specs.Refusals.{_▷_}
+use Rattle.planes.specs.Shapes.{pixels, neighbours, adjacency}
 use Rattle.planes.specs.declared.Shape.{Shape}
 use Rattle.planes.specs.Extrema.{extreme, gtb, maxima, minima, Contains}
 use Rattle.colours.specs.Frames.{intensity, newChannelAt, recolour, Grey}
@@ -57,27 +63,31 @@ use Rattle.colours.specs.Calls.{intensityRefusal, recolourRefusal, IntensityOut
 use Rattle.model.specs.declared.Pass.{Pass}
 use Rattle.model.specs.Neighbourhoods.{passNeighbours}
 use Rattle.model.specs.Passes.{passSufficient}
-use Rattle.model.specs.Effects.{Effect, counts, passEffect, runEffect}
-use Rattle.model.specs.Runs.{runSufficient}
+use Rattle.model.specs.Effects.{Effect, counts, passEffect, runEffect, always}
+use Rattle.model.specs.Runs.{All, Carries, runSufficient}
+use Rattle.model.specs.Enhancement.{passes}
+use Rattle.model.specs.Published.{published}
 use Rattle.model.specs.Calls.{Call, retonedIn, keptIn, total, AllAccepted, State, start, chain, chainEffect}
-use Rattle.model.specs.Calls.{chainSufficient}
+use Rattle.model.specs.Calls.{chainSufficient, AcceptedCarry, numbersRefusal}
 use Rattle.passes.specs.Calls.{callOn, passCallRefusal, PassOutcome, Sequence}
 use Rattle.levels.specs.declared.Settings.{Settings}
-use Rattle.enhance.specs.Calls.{chainOf, sufficientOf, enhanceCallRefusal, EnhanceOutcome}
+use Rattle.enhance.specs.Calls.{settingsRefusal, chainOf, sufficientOf, enhanceCallRefusal, EnhanceOutcome}
 use Rattle.enhance.specs.Published.{publishedOf}
 use Rattle.headers.specs.Headers.{IsHeader}
 use Rattle.headers.specs.Uncommented.{signless, Uncommented}
 use Rattle.tones.specs.declared.RuleNumbers.{RuleNumbers}
-use Rattle.tones.specs.Numbers.{ruleOf, malformed}
+use Rattle.tones.specs.Numbers.{ruleOf, malformed, formRefusal}
 use Rattle.tones.specs.Before.{ruleBefore, malformedBefore}
 use Rattle.netpbm.specs.Reading.{frameRefusal, readReply}
 use Rattle.netpbm.specs.Uncommented.{uncommentedReply}
 use Rattle.netpbm.specs.Frames.{IsFrame}
 use Rattle.netpbm.specs.Writing.{encoding, writeRefusal, WriteOutcome}
-use Rattle.listformat.specs.Format.{Bytes, passesOf}
+use Rattle.listformat.specs.Format.{Bytes, numbersAt, passAt, passesOf}
+use Rattle.listformat.specs.Refusals.{recordRefusal}
 use Rattle.passlists.specs.Outcomes.{runListRefusal, runPassesRefusal, ListOutcome, PassesOutcome}
 use Rattle.printing.specs.Printing.{greatestFrame, refusalLine, enhancedFrame, Emitted}
 use Rattle.frames.specs.Program.{greatestInput, programOutput}
+use Rattle.claims.specs.Before.{numbersBefore, settingsBefore}
 
 -- ## Demand 1: exactly what is listed is refused, by its number, and a refusal leaves all lent memory as it was
 
@@ -213,9 +223,12 @@ pub record Coloured (z : Shape) (frame plane output' : List ℕ) : Type 0 where
   pub byte : (k : ℕ) → k < length frame → newChannelAt frame plane k ≤ 255
   pub channels : (k l : ℕ) → k < length frame → l < length frame → k / 3 ≡ l / 3
       → at frame k < at frame l → at (recolour frame plane) k ≤ at (recolour frame plane) l
-  -- the written frame's own intensity is another plane; for a grey frame it keeps shapes too
+  -- the written frame's own intensity is another plane; for a grey frame it keeps shapes too, by the eight neighbours
+  -- where the plane does
   pub grey-file : Grey frame
       → ShapePreserving (neighbours z) (intensity frame) (intensity (take (3 * pixels z) output'))
+  pub grey-file-eight : Grey frame → ShapePreserving (adjacency z 8) (intensity frame) plane
+      → ShapePreserving (adjacency z 8) (intensity frame) (intensity (take (3 * pixels z) output'))
 
 pub record Demand3 (z : Shape) (frame first : List ℕ) (calls : List Call) (replies : List Reply) (last : List ℕ)
     : Type 0 where
@@ -226,17 +239,21 @@ pub record Demand3 (z : Shape) (frame first : List ℕ) (calls : List Call) (rep
   pub last-is : last ≡ chain z (start first) calls .plane
   -- both counts of all replies are together the components of sufficient area, in the plane as each call finds it
   pub together : total retonedIn replies + total keptIn replies ≡ chainSufficient z first calls
+  -- by the four neighbours whatever the calls carry, and by the eight where every accepted call carries 8
   pub shapes : ShapePreserving (neighbours z) first last
+  pub shapes-eight : AcceptedCarry 8 calls replies → ShapePreserving (adjacency z 8) first last
   -- recolouring from the last plane, with an output that is long enough
   pub recoloured : {output output' : List ℕ} {reply : Reply} → 3 * pixels z ≤ length output
       → RecolourOutcome (z .w) (z .h) frame last output reply output'
       → (reply ≡ gives []) × Coloured z frame last output'
   -- every accepted enhancement of the frame leaves the plane and the output of its chain, and answers the sums of both
-  -- counts
+  -- counts; all passes of that chain carry its own number of neighbours
   pub enhanced : (t : Settings) {plane marks queue output values plane' marks' queue' output' : List ℕ}
       → EnhanceOutcome z t frame plane marks queue output (gives values) plane' marks' queue' output'
       → (plane' ≡ chainOf z t frame .plane) × ((values ≡ counts (chainEffect (chainOf z t frame)))
-      × (ShapePreserving (neighbours z) first plane' × Coloured z frame plane' output'))
+      × ((ShapePreserving (neighbours z) first plane' × Coloured z frame plane' output')
+      × (All (Carries (t .neighbours)) (passes (t .last) (t .area) (t .rule) (t .neighbours))
+      × (t .neighbours ≡ 8 → ShapePreserving (adjacency z 8) first plane'))))
 
 -- every frame that intensity accepts, and every sequence of calls from the plane that it fills, refused ones included
 abbrev pub Demand3Holds : Type 0
@@ -256,6 +273,7 @@ pub record Chained (z : Shape) (marks queue : ℕ) (ss : List Pass) (plane value
   pub plane-is : plane' ≡ passesChain z marks queue ss plane .plane
   pub values-are : values ≡ counts (chainEffect (passesChain z marks queue ss plane))
   pub shapes : ShapePreserving (neighbours z) plane plane'
+  pub shapes-eight : All (Carries 8) ss → ShapePreserving (adjacency z 8) plane plane'
 
 pub record ListsAreChains : Type 0 where
   pub of-list : (z : Shape) (list : List ℕ) {plane marks queue values plane' marks' queue' : List ℕ}
@@ -269,7 +287,8 @@ pub record ListsAreChains : Type 0 where
 
 -- frames without comments are read as before comments were read; a header with a number sign was refused with 10. The
 -- numbers of a rule, in lists and from C, are read as before the affine rule was there, unless their code is 2; these
--- got 17
+-- got 17. A pass, a list in a file and an enhancement by 4 neighbours have the effects and the refusals that they had
+-- before there was a choice: those by the four neighbours
 pub record AsBefore : Type 0 where
   pub of-read : (bytes : List ℕ) (limit : ℕ) → Uncommented bytes
       → readReply bytes limit ≡ uncommentedReply bytes limit
@@ -278,3 +297,12 @@ pub record AsBefore : Type 0 where
   pub of-form : (n : RuleNumbers) → (n .code ≡ 2 → ⊥) → malformed n ≡ malformedBefore n
   pub of-rule : (n : RuleNumbers) → (n .code ≡ 2 → ⊥) → malformed n ≡ false → ruleOf n ≡ ruleBefore n
   pub affine : (n : RuleNumbers) → n .code ≡ 2 → malformedBefore n ≡ true
+  pub of-pass : (z : Shape) (s : Pass) (plane : List ℕ) → Carries 4 s
+      → (passEffect (passNeighbours z) s plane ≡ passEffect (always (neighbours z)) s plane)
+      × (numbersRefusal s ≡ numbersBefore s)
+  pub of-list : (z : Shape) (list plane : List ℕ)
+      → (runEffect (passNeighbours z) (passesOf list) plane ≡ runEffect (always (neighbours z)) (passesOf list) plane)
+      × ((i : ℕ) → recordRefusal list i ≡ formRefusal (numbersAt list i) ▷ numbersBefore (passAt list i))
+  pub of-enhance : (z : Shape) (t : Settings) (frame : List ℕ) → t .neighbours ≡ 4
+      → (publishedOf z t frame ≡ published (neighbours z) (t .last) (t .area) (t .rule) (intensity frame))
+      × (settingsRefusal t ≡ settingsBefore t)

@@ -2,6 +2,7 @@
 -- that meets the hypotheses of demand 3. Definitions only.
 --
 --   After, PassExamples       a pass leaves a plane and both counts: examples A to J, and others
+--   Eight                     passes by eight neighbours: J, wires, row ends, and why every accepted call has to carry 8
 --   Extrema, ExtremaExamples  how many regional maxima and minima a plane has
 --   Enhancing                 an enhancement leaves a plane and both counts: examples K and L, and planes of one value
 --   Starred                   all of them, with the published recursion on K, L and M, recolouring (N, O), the program
@@ -9,9 +10,10 @@
 --   Demand3Met                an accepted frame, and calls from its plane of which one is accepted and two are refused
 use Prim.Native.Nat.{ℕ}
 use mathlib.Core.Path.{_≡_}
+use mathlib.Core.Bool.{true}
 use mathlib.Core.List.{List, [], _∷_, _++_}
 use Rattle.planes.specs.Replies.{refuses, gives}
-use Rattle.planes.specs.Shapes.{shapeOf, neighbours}
+use Rattle.planes.specs.Shapes.{shapeOf, neighbours, adjacency}
 use Rattle.planes.specs.declared.Shape.{Shape}
 use Rattle.planes.specs.Extrema.{maxima, minima}
 use Rattle.tones.specs.declared.Rule.{Rule}
@@ -21,7 +23,7 @@ use Rattle.colours.specs.Calls.{IntensityOutcome}
 use Rattle.model.specs.declared.Pass.{Pass}
 use Rattle.model.specs.Neighbourhoods.{passNeighbours}
 use Rattle.model.specs.Effects.{passEffect, runEffect}
-use Rattle.model.specs.Calls.{chainEffect}
+use Rattle.model.specs.Calls.{numbersRefusal, chainEffect, AcceptedCarry}
 use Rattle.model.specs.Enhancement.{enhanced}
 use Rattle.tones.specs.Examples.{anyRatio, rowA, ToneExamples}
 use Rattle.model.specs.PublishedExamples.{PublishedExamples}
@@ -41,9 +43,12 @@ After z p s q k j = passEffect (passNeighbours z) s p ≡ record { plane = q; re
 abbrev pub row : ℕ → Shape
 row w = shapeOf w 1
 
--- a pass on [a, b]
+-- a pass on [a, b], by four neighbours, and by eight
 abbrev pub on : ℕ → ℕ → ℕ → Rule → Pass
-on a b area rule = record { a = a; b = b; area = area; rule = rule }
+on a b area rule = record { a = a; b = b; area = area; rule = rule; neighbours = 4 }
+
+abbrev pub onEight : ℕ → ℕ → ℕ → Rule → Pass
+onEight a b area rule = record { a = a; b = b; area = area; rule = rule; neighbours = 8 }
 
 abbrev pub rowC : List ℕ
 rowC = 0 ∷ 1 ∷ []
@@ -82,6 +87,42 @@ pub record PassExamples : Type 0 where
   -- neighbours may become one
   pub joined : After (row 3) (0 ∷ 1 ∷ 0 ∷ []) (on 0 1 1 anyRatio) (1 ∷ 1 ∷ 1 ∷ []) 1 0
 
+-- ## Eight neighbours
+
+-- rows 0 1 1 and 1 0 0
+abbrev pub cornerPair : List ℕ
+cornerPair = 0 ∷ 1 ∷ 1 ∷ 1 ∷ 0 ∷ 0 ∷ []
+
+-- a diagonal wire of three pixels
+abbrev pub wire : List ℕ
+wire = 10 ∷ 200 ∷ 200 ∷ 200 ∷ 20 ∷ 200 ∷ 200 ∷ 200 ∷ 30 ∷ []
+
+pub record Eight : Type 0 where
+  -- 10 and 20 are one component
+  pub J : After (shapeOf 2 2) planeJ (onEight 0 127 1 anyRatio) (64 ∷ 200 ∷ 200 ∷ 127 ∷ []) 1 0
+  -- a wire of single pixels is one component, in either direction
+  pub down : After (shapeOf 3 3) wire (onEight 0 127 3 anyRatio)
+      (42 ∷ 200 ∷ 200 ∷ 200 ∷ 85 ∷ 200 ∷ 200 ∷ 200 ∷ 127 ∷ []) 1 0
+  pub up : After (shapeOf 2 2) (200 ∷ 10 ∷ 20 ∷ 200 ∷ []) (onEight 0 127 2 anyRatio)
+      (200 ∷ 64 ∷ 127 ∷ 200 ∷ []) 1 0
+  -- no corner is taken across a row's end: the three pixels are in the first and in the last column
+  pub row-ends : After (shapeOf 3 3) (10 ∷ 200 ∷ 20 ∷ 200 ∷ 200 ∷ 200 ∷ 30 ∷ 200 ∷ 200 ∷ []) (onEight 0 127 1 anyRatio)
+      (10 ∷ 200 ∷ 20 ∷ 200 ∷ 200 ∷ 200 ∷ 30 ∷ 200 ∷ 200 ∷ []) 0 3
+  -- in one row, and in one column, there are no corners
+  pub one-row : After (row 3) (10 ∷ 200 ∷ 20 ∷ []) (onEight 0 127 1 anyRatio) (10 ∷ 200 ∷ 20 ∷ []) 0 2
+  pub one-column : After (shapeOf 1 3) (10 ∷ 200 ∷ 20 ∷ []) (onEight 0 127 1 anyRatio) (10 ∷ 200 ∷ 20 ∷ []) 0 2
+  -- a pass by four neighbours may part two pixels that touch at a corner: those of index 1 and 3, which are equal before
+  pub parted : After (shapeOf 3 2) cornerPair (on 1 3 2 (Limited 0)) (0 ∷ 2 ∷ 2 ∷ 1 ∷ 0 ∷ 0 ∷ []) 1 0
+  pub touch : adjacency (shapeOf 3 2) 8 1 3 ≡ true
+  -- and by eight it does not
+  pub together : After (shapeOf 3 2) cornerPair (onEight 1 3 2 (Limited 0)) (0 ∷ 2 ∷ 2 ∷ 2 ∷ 0 ∷ 0 ∷ []) 1 0
+  -- by eight neighbours the corners of J are one minimum and one maximum
+  pub tops : maxima (adjacency (shapeOf 2 2) 8) planeJ ≡ 1
+  pub pits : minima (adjacency (shapeOf 2 2) 8) planeJ ≡ 1
+  -- 19, after all other refusals of a pass
+  pub neither : numbersRefusal (record { a = 0; b = 1; area = 1; rule = Limited 0; neighbours = 6 }) ≡ 19
+  pub after-slopes : numbersRefusal (record { a = 0; b = 1; area = 1; rule = Affine 0 0 0; neighbours = 6 }) ≡ 18
+
 -- ## Regional extrema
 
 -- a plane p has that many regional maxima and minima
@@ -106,10 +147,20 @@ pub record ExtremaExamples : Type 0 where
 
 -- ## All of them
 
--- an enhancement of a frame leaves the plane q, retones k components and keeps j back
+-- an enhancement of a frame by so many neighbours leaves the plane q, retones k components and keeps j back
+abbrev pub EnhancingBy : ℕ → List ℕ → Shape → ℕ → ℕ → Rule → List ℕ → ℕ → ℕ → Type 0
+EnhancingBy number frame z last area rule q k j =
+    chainEffect (enhanced z (intensity frame) last area rule number) ≡ record { plane = q; retoned = k; kept = j }
+
 abbrev pub Enhancing : List ℕ → Shape → ℕ → ℕ → Rule → List ℕ → ℕ → ℕ → Type 0
-Enhancing frame z last area rule q k j =
-    chainEffect (enhanced z (intensity frame) last area rule) ≡ record { plane = q; retoned = k; kept = j }
+Enhancing = EnhancingBy 4
+
+-- the grey frame of the rows 10 200, 200 20 and 200 200
+abbrev pub greyJ : List ℕ
+greyJ =
+    10 ∷ 10 ∷ 10 ∷ 200 ∷ 200 ∷ 200
+    ∷ 200 ∷ 200 ∷ 200 ∷ 20 ∷ 20 ∷ 20
+    ∷ 200 ∷ 200 ∷ 200 ∷ 200 ∷ 200 ∷ 200 ∷ []
 
 -- the grey frame 10 20
 abbrev pub greyK : List ℕ
@@ -146,6 +197,7 @@ pub record Starred : Type 0 where
   -- every rule on its own, with its boundaries
   pub tones : ToneExamples
   pub passes : PassExamples
+  pub eight : Eight
   pub extrema : ExtremaExamples
   pub K : Enhancing greyK (row 2) 0 20 anyRatio (128 ∷ 255 ∷ []) 1 0
   pub L : Enhancing greyK (row 2) 1 1 anyRatio (192 ∷ 255 ∷ []) 2 0
@@ -154,6 +206,9 @@ pub record Starred : Type 0 where
   pub flat-small : Enhancing greyFlat (row 2) 1 3 (Plain 80 300) (7 ∷ 7 ∷ []) 0 1
   -- the affine rule may retone one value, on both levels
   pub flat-affine : Enhancing greyFlat (row 2) 1 2 (Affine 1 0 10000) (255 ∷ 255 ∷ []) 2 0
+  -- by eight neighbours 43 and 85, which level 0 leaves of 10 and 20, are one component of level 1
+  pub J-four : Enhancing greyJ (shapeOf 2 3) 1 2 anyRatio (43 ∷ 255 ∷ 255 ∷ 85 ∷ 255 ∷ 255 ∷ []) 1 1
+  pub J-eight : EnhancingBy 8 greyJ (shapeOf 2 3) 1 2 anyRatio (64 ∷ 255 ∷ 255 ∷ 127 ∷ 255 ∷ 255 ∷ []) 2 1
   -- K, L and M by components
   pub published : PublishedExamples
   pub N : recolour (200 ∷ 100 ∷ 0 ∷ []) (120 ∷ []) ≡ 240 ∷ 120 ∷ 0 ∷ []
@@ -177,9 +232,15 @@ pub record Starred : Type 0 where
 -- ## The hypotheses of demand 3 can be met
 
 -- the plane of the grey frame, over which example A's pass is called three times: with room, with a queue that is too
--- short, and with the ends of its interval exchanged
+-- short, and with the ends of its interval exchanged; the first by eight neighbours, so that every accepted call carries
+-- 8
 pub record Demand3Met : Type 0 where
   pub filled : IntensityOutcome 2 1 greyK (0 ∷ 0 ∷ []) (gives []) (10 ∷ 20 ∷ [])
   pub calls : Sequence (row 2) (10 ∷ 20 ∷ [])
-      (callOn 2 2 (on 0 255 1 anyRatio) ∷ callOn 2 1 (on 0 255 1 anyRatio) ∷ callOn 2 2 (on 255 0 1 anyRatio) ∷ [])
+      (callOn 2 2 (onEight 0 255 1 anyRatio) ∷ callOn 2 1 (on 0 255 1 anyRatio) ∷ callOn 2 2 (on 255 0 1 anyRatio)
+      ∷ [])
       (gives (1 ∷ 0 ∷ []) ∷ refuses 4 ∷ refuses 5 ∷ []) (128 ∷ 255 ∷ [])
+  pub carry : AcceptedCarry 8
+      (callOn 2 2 (onEight 0 255 1 anyRatio) ∷ callOn 2 1 (on 0 255 1 anyRatio) ∷ callOn 2 2 (on 255 0 1 anyRatio)
+      ∷ [])
+      (gives (1 ∷ 0 ∷ []) ∷ refuses 4 ∷ refuses 5 ∷ [])

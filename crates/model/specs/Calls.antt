@@ -76,7 +76,7 @@ total f (x ∷ xs) = f x + total f xs
 
 -- every call that was accepted carries the number of neighbours
 pub data AcceptedCarry (number : ℕ) : List Call → List Reply → Type 0 where
-  none : AcceptedCarry number [] []
+  empty : AcceptedCarry number [] []
   refused : {c : Call} {cs : List Call} {k : ℕ} {replies : List Reply} → AcceptedCarry number cs replies
       → AcceptedCarry number (c ∷ cs) (refuses k ∷ replies)
   given : {c : Call} {cs : List Call} {values : List ℕ} {replies : List Reply} → c .pass .neighbours ≡ number

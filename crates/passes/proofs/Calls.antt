@@ -1,25 +1,33 @@
 -- What an accepted call does, and that each call is a step of the model; so any sequence of calls gives the model's
--- replies and state. Assumes nothing.
-use Prim.Native.Nat.{ℕ}
-use mathlib.Core.Path.{_≡_, sym, ap, ap₂, _∙_}
+-- replies and state, and where its accepted calls all carry a number of neighbours, no accepted call of the model's
+-- chain takes its components by fewer. Assumes nothing.
+use Prim.Native.Nat.{ℕ, zero, suc}
+use mathlib.Core.Path.{_≡_, refl, sym, ap, ap₂, subst, _∙_}
 use mathlib.Core.List.{List, [], _∷_, _++_, append-assoc, append-nil}
 use native.Mathlib.Omega.{arith}
 use lib.ListN.{length}
 use Rattle.planes.specs.Lists.{at}
 use Rattle.planes.specs.Neighbours.{Near}
 use Rattle.planes.specs.declared.Shape.{Shape}
-use Rattle.planes.specs.Replies.{Reply}
+use Rattle.planes.specs.Shapes.{adjacency}
+use Rattle.planes.specs.Replies.{Reply, after}
+use Rattle.planes.proofs.Replies.{replied-refuses}
 use Rattle.planes.proofs.Lists.{beyond-trans}
 use Rattle.model.specs.declared.Pass.{Pass}
-use Rattle.model.specs.Effects.{passEffect}
+use Rattle.model.specs.Neighbourhoods.{passNeighbours}
+use Rattle.model.specs.Passes.{passed}
+use Rattle.model.specs.Effects.{counts, passEffect}
 use Rattle.model.specs.Outcomes.{Over}
-use Rattle.model.specs.Calls.{Call, State, start, call, chain}
+use Rattle.model.specs.Calls.{Call, State, start, call, chain, AcceptedCarry}
+use Rattle.model.specs.Calls.{empty as no-calls, refused, given}
 use Rattle.painting.specs.Painting.{Marked}
 use Rattle.sections.specs.Sections.{Treated}
 use Rattle.retoning.specs.declared.Treatment.{Treatment}
 use Rattle.sections.proofs.Marked.{marked-gone}
+use Rattle.model.proofs.Order.{length-passed}
+use Rattle.model.proofs.Chains.{Within, empty, next, carries-within}
 use Rattle.model.proofs.Recursion.{effect-same}
-use Rattle.passes.specs.Calls.{callOn, PassOutcome, Sequence, none, more}
+use Rattle.passes.specs.Calls.{callOn, passCallRefusal, PassOutcome, Sequence, none, more}
 use Rattle.painting.specs.declared.Next.{Next}
 
 -- ## An accepted call
@@ -60,3 +68,26 @@ sequence-from {z} {last = last} (more {s = s} {reply = reply} {cs = cs} {rs = rs
 pub sequence-is : {z : Shape} {plane last : List ℕ} {cs : List Call} {rs : List Reply} → Sequence z plane cs rs last
     → chain z (start plane) cs ≡ record { plane = last; answers = rs }
 sequence-is S = sequence-from S []
+
+-- ## Accepted calls that all carry one number
+
+-- a call leaves a plane of the same length
+call-length : (z : Shape) (s : Pass) {plane marks queue plane' marks' queue' : List ℕ} {reply : Reply}
+    → PassOutcome z s plane marks queue reply plane' marks' queue' → length plane' ≡ length plane
+call-length z s {plane} {marks} {queue} O =
+    ap length (O .plane-is) ∙ go (passCallRefusal z s plane marks queue)
+  where
+    go : (k : ℕ) → length (after k plane (passed (passNeighbours z s) s plane)) ≡ length plane
+    go zero = length-passed (passNeighbours z s) s plane
+    go (suc k) = refl
+
+pub sequence-within : {z : Shape} {plane last : List ℕ} {cs : List Call} {rs : List Reply} (number : ℕ)
+    → Sequence z plane cs rs last → AcceptedCarry number cs rs → Within (adjacency z number) z (length plane) cs
+sequence-within number none no-calls = empty
+sequence-within {z} number (more {s = s} {plane = plane} {marks = marks} {queue = queue} {cs = cs} O S) (refused a) =
+    let later = subst (λ (n : ℕ). Within (adjacency z number) z n cs) (call-length z s O) (sequence-within number S a) in
+    let number-is = replied-refuses _ (counts (passEffect (passNeighbours z) s plane)) (sym (O .answer)) in
+    next {c = callOn (length marks) (length queue) s} (λ e. absurd (omega (arith, e, number-is .1 .0))) later
+sequence-within {z} number (more {s = s} {marks = marks} {queue = queue} {cs = cs} O S) (given e a) =
+    let later = subst (λ (n : ℕ). Within (adjacency z number) z n cs) (call-length z s O) (sequence-within number S a) in
+    next {c = callOn (length marks) (length queue) s} (λ _. carries-within z s e) later

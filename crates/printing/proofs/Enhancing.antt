@@ -15,7 +15,7 @@ use Rattle.planes.proofs.Replies.{refuses-not-gives, replied-none}
 use Rattle.colours.specs.Frames.{recolour}
 use Rattle.colours.proofs.Frames.{length-recolour}
 use Rattle.tones.specs.Refusals.{ruleRefusal}
-use Rattle.model.specs.Calls.{areaRefusal}
+use Rattle.model.specs.Calls.{areaRefusal, neighbourRefusal}
 use Rattle.levels.specs.declared.Settings.{Settings}
 use Rattle.enhance.specs.Calls.{house, levelRefusal, settingsRefusal, memoryRefusal, enhanceRefusal, chainOf}
 use Rattle.enhance.specs.Calls.{EnhanceOutcome}
