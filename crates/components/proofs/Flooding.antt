@@ -32,7 +32,8 @@ use Rattle.rows.proofs.Rows.{row-end-le, width-of}
 use Rattle.rows.proofs.Codes.{alike-of, alike-to, alike-near, alike-on}
 use Rattle.rows.proofs.Taken.{room-for, room-less, room-whole, taken-kept, taken-room, taken-was, taken-map}
 use Rattle.components.specs.Regions.{region}
-use Rattle.components.specs.Floods.{JoinedBeyond, Spread, Floodable, Flooded}
+use Rattle.spreading.specs.Spreads.{JoinedBeyond, Spread, Spreadable}
+use Rattle.components.specs.Floods.{Floodable, Flooded}
 use Rattle.components.proofs.Regions.{region-below, region-linked}
 
 -- the first `tail` entries are pixels of the component of `start`, each once; they lost their marks, and nothing else
@@ -213,7 +214,7 @@ module _ {near : Near} {w n code start head tail : ℕ} {marks₀ queue₀ marks
       F .searched .marks-are (at queue k)
       ∙ ap (λ (t : Bool). cond t 0 (at marks₀ (at queue k))) (among-at queue tail k h)
 
-  -- what `spread` requires of the entry at the head
+  -- the one at the head has not the code
   pub head-off : at marks (at queue head) ≡ code → ⊥
   head-off e = absurd (omega (arith, F .room .real, sym (entry-off head l) ∙ e))
 
@@ -242,16 +243,16 @@ module _ {near : Near} {w n code start head tail : ℕ} {marks₀ queue₀ marks
       → Spread near near w n code (at queue head) marks queue tail marks' queue' tail'
       → Flooding near w n code start marks₀ queue₀ marks' queue' (head + 1) tail'
   turn S =
-      let kept = taken-kept (S .taken) in
-      let was = taken-was (F .room) (S .taken) in
+      let kept = taken-kept (S .reaches .taken) in
+      let was = taken-was (F .room) (S .reaches .taken) in
       record {
-        searched = take-all (F .searched) (F .room) (taken-map (omega arith) from-start (S .taken));
-        room = taken-room (F .room) (S .taken);
+        searched = take-all (F .searched) (F .room) (taken-map (omega arith) from-start (S .reaches .taken));
+        room = taken-room (F .room) (S .reaches .taken);
         begun = λ e. F .begun (was start e);
         order = omega (arith, kept .0);
         rows = λ k h x. elim (less-or-not k tail) [
           | inl d ↦ λ e c. F .rows k d x (subst (λ (y : ℕ). inRow w y x ≡ true) (kept .1 k d) e) (was x c)
-          | inr d ↦ S .rows k d h x
+          | inr d ↦ S .reaches .rows k d h x
         ];
         closed = λ k q m hq b d.
             let m' : k ≤ head = omega arith in

@@ -1,7 +1,5 @@
 pub mod Regions
-pub mod Spreading
 pub mod Gauging
 pub mod Flooding
-pub mod Columns
-pub mod Around
+pub mod Turns
 pub mod Whole

@@ -1,24 +1,17 @@
--- The flood of a component: its steps, and what it does as a whole. Marks, queue and the queue's tail (how many entries
--- are in use) are named before and, with a prime, after. Definitions only.
+-- The flood of a component. Marks and queue are named before and, with a prime, after. Definitions only.
 --
---   Above, Below   the pixel above or below, or the pixel itself where the plane ends there
---   Left, Right    a neighbour in the row, or the pixel itself where the row ends there
---   column         pixels one of which is below the other
---   JoinedBeyond   a chain of pixels that have the code leads to a pixel from a neighbour of another
---   Spread         what is next to a pixel was taken until no neighbour was left
---   Corners        what is above and below the neighbours in a row was taken
---   Reachable      what `reach_column` requires
---   Spreadable     what `spread` requires
---   Floodable      what `flood` requires
---   Flooded        what `flood` takes
+--   Seen           one value more was counted and measured
+--   Floodable      what a flood requires of marks and queue
+--   Flooded        what a flood takes
 --   regionValues   the values of a component
---   Gauged         what `flood` tells of them
-use Prim.Native.Nat.{ℕ, _+_, _*_, _/_, _≤_, _<_}
+--   Gauged         what a flood tells of them
+--   FloodAsks      what `flood` requires
+--   FloodGives     what `flood` does, by some neighbours
+use Prim.Native.Nat.{ℕ, _+_, _≤_, _<_, min, max}
 use mathlib.Core.Path.{_≡_}
-use mathlib.Core.Bool.{true, _||_, cond}
-use mathlib.Core.List.{List, map}
-use lib.ListN.{length}
-use lib.Dec.{eqb}
+use mathlib.Core.Bool.{cond}
+use mathlib.Core.List.{List, [], map}
+use lib.ListN.{length, set}
 use Rattle.planes.specs.Lists.{at, from, keep, count}
 use Rattle.planes.specs.Neighbours.{Near}
 use Rattle.planes.specs.Enumerations.{Enumerates}
@@ -26,80 +19,15 @@ use Rattle.planes.specs.Shapes.{pixels, SizedShape}
 use Rattle.planes.specs.declared.Shape.{Shape}
 use Rattle.histograms.specs.Histograms.{Measured, Tally}
 use Rattle.histograms.specs.declared.Measures.{Measures}
-use Rattle.rows.specs.Rows.{inRow, rowEnd, inverseOf}
-use Rattle.rows.specs.Codes.{Joined, Shut}
-use Rattle.rows.specs.Runs.{Room, Taken}
+use Rattle.rows.specs.Rows.{inverseOf}
 use Rattle.components.specs.Regions.{region}
 
--- ## Steps
-
--- r is the pixel above p, of n pixels in rows of w
-abbrev pub Above : ℕ → ℕ → ℕ → Type 0
-Above w p r = (p < w → r ≡ p) × (w ≤ p → r + w ≡ p)
-
-abbrev pub Below : ℕ → ℕ → ℕ → ℕ → Type 0
-Below w n p r = (n ≤ p + w → r ≡ p) × (p + w < n → r ≡ p + w)
-
--- r is the pixel left of p in the row that starts at `row`
-abbrev pub Left : ℕ → ℕ → ℕ → Type 0
-Left row p r = (p ≤ row → r ≡ p) × (row < p → r + 1 ≡ p)
-
--- r is the pixel right of p in the row that ends before `end`
-abbrev pub Right : ℕ → ℕ → ℕ → Type 0
-Right end p r = (end ≤ p + 1 → r ≡ p) × (p + 1 < end → r ≡ p + 1)
-
--- one pixel is below the other, in rows of w
-unfoldable pub column : ℕ → Near
-column w i j = eqb (i + w) j || eqb (j + w) i
-
--- a chain of pixels that have the code leads to q, by `near`, from a pixel that is next to p, by `beside`
-pub record JoinedBeyond (beside near : Near) (n : ℕ) (marks : List ℕ) (code p q : ℕ) : Type 0 where
-  pub next : ℕ
-  pub below : next < n
-  pub nearby : beside p next ≡ true
-  pub joined : Joined near n marks code next q
-
--- pixels beyond p were taken, no pixel next to p, by `beside`, is left that has the code, and none is left beside those
--- taken in their rows, of w pixels
-pub record Spread (beside near : Near) (w n code p : ℕ) (marks queue : List ℕ) (tail : ℕ) (marks' queue' : List ℕ)
-    (tail' : ℕ) : Type 0 where
-  pub taken : Taken (JoinedBeyond beside near n marks code p) n code marks queue tail marks' queue' tail'
-  pub closed : (q : ℕ) → q < n → beside p q ≡ true → at marks' q ≡ code → ⊥
-  pub rows : (k : ℕ) → tail ≤ k → k < tail' → Shut (inRow w) code marks' (at queue' k)
-
--- the pixels above and below q were taken with their runs
-abbrev pub ColumnReached : (w n code q : ℕ) (marks queue : List ℕ) (tail : ℕ) (marks' queue' : List ℕ) (tail' : ℕ)
-    → Type 0
-ColumnReached w = Spread (column w) (inRow w) w
-
--- those above and below the pixel left of p were, and then those above and below the pixel right of p
-pub record Corners (w n code p : ℕ) (marks queue : List ℕ) (tail : ℕ) (marks' queue' : List ℕ) (tail' : ℕ) : Type 0
-  where
-    pub left : ℕ
-    pub right : ℕ
-    pub left-is : Left (p / w * w) p left
-    pub right-is : Right (rowEnd w p) p right
-    pub marks₁ : List ℕ
-    pub queue₁ : List ℕ
-    pub tail₁ : ℕ
-    pub lefts : ColumnReached w n code left marks queue tail marks₁ queue₁ tail₁
-    pub rights : ColumnReached w n code right marks₁ queue₁ tail₁ marks' queue' tail'
-
--- a plane whose shape is not refused, the inverse of its width, a pixel q of it that has not the code, and room for all
--- that have it
-pub record Reachable (marks queue : List ℕ) (z : Shape) (inverse code q tail : ℕ) : Type 0 where
-  pub size : SizedShape z
-  pub inverse-is : inverse ≡ inverseOf (z .w)
-  pub inside : q < pixels z
-  pub off : at marks q ≡ code → ⊥
-  pub room : Room marks queue (pixels z) code tail
-
--- the same of a taken pixel p, beside which none of its row has the code
-pub record Spreadable (marks queue : List ℕ) (z : Shape) (inverse code p tail : ℕ) : Type 0 where
-  pub reachable : Reachable marks queue z inverse code p tail
-  pub shut : Shut (inRow (z .w)) code marks p
-
--- ## A flood
+-- the value v was counted, and taken into the measures
+pub record Seen (v : ℕ) (c : Measures) (counts : List ℕ) (c' : Measures) (counts' : List ℕ) : Type 0 where
+  pub size : c' .size ≡ c .size + 1
+  pub least-is : c' .least ≡ min (c .least) v
+  pub greatest-is : c' .greatest ≡ max (c .greatest) v
+  pub counts-are : counts' ≡ set counts v (at counts v + 1)
 
 -- a plane whose shape is not refused, the inverse of its width, marks and a queue for it, and a pixel that has the code
 pub record Floodable (marks queue : List ℕ) (z : Shape) (inverse code start : ℕ) : Type 0 where
@@ -125,9 +53,20 @@ pub record Flooded (near : Near) (n code start : ℕ) (marks queue marks' queue'
 unfoldable pub regionValues : Near → ℕ → List ℕ → ℕ → ℕ → List ℕ → List ℕ
 regionValues near n marks code start plane = map (at plane) (keep (region near n marks code start) (from 0 n))
 
--- what the flood tells of the component of `start`: its number of pixels, its least and greatest value, and the counts
+-- what a flood tells of the component of `start`: its number of pixels, its least and greatest value, and the counts
 -- of its values
 pub record Gauged (near : Near) (n code start : ℕ) (plane marks : List ℕ) (c : Measures) (counts' : List ℕ) : Type 0
   where
     pub measured : Measured (regionValues near n marks code start plane) c
     pub tally : Tally (regionValues near n marks code start plane) counts'
+
+-- the plane is whole, and nothing was counted yet
+abbrev pub FloodAsks : (plane marks queue counts : List ℕ) (z : Shape) (inverse code start : ℕ) → Type 0
+FloodAsks plane marks queue counts z inverse code start =
+    Floodable marks queue z inverse code start × ((length plane ≡ pixels z) × Tally [] counts)
+
+-- by these neighbours the component of `start` was taken, measured and counted
+abbrev pub FloodGives : (near : Near) (n code start : ℕ) (plane marks queue marks' queue' counts' : List ℕ) (r : Measures)
+    → Type 0
+FloodGives near n code start plane marks queue marks' queue' counts' r =
+    Flooded near n code start marks queue marks' queue' (r .size) × Gauged near n code start plane marks r counts'

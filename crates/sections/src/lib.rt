@@ -55,7 +55,17 @@ pub fn treat_section(
         let found = components::next_pixel(marks, shape, inverse, code, from);
         match found {
             Found::At(p) => {
-                let c = flood(plane, marks, queue, &mut counts, shape, inverse, pass.neighbours, code, p);
+                let c = flood(
+                    plane,
+                    marks,
+                    queue,
+                    &mut counts,
+                    shape,
+                    inverse,
+                    pass.neighbours,
+                    code,
+                    p,
+                );
                 let t = treat_found(plane, marks, queue, c, pass, next, &mut counts, &mut table);
                 histograms::clear(&mut counts, c);
                 retoned += t.retoned;

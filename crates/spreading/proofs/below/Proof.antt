@@ -1,7 +1,7 @@
--- `components::below` meets its contract. Assumes nothing.
+-- `spreading::below` meets its contract. Assumes nothing.
 use borrow.Author.Needs.{needs}
-use Rattle.components.proofs.below.Statement.{statement}
-use Rattle.components.proofs.below.Tie as tie
+use Rattle.spreading.proofs.below.Statement.{statement}
+use Rattle.spreading.proofs.below.Tie as tie
 
 add-if1 : tie.Need-add-if1
 add-if1 c = search needs

@@ -1,9 +1,9 @@
--- `components::reach_column` meets its contract: the pixels above and below are reached, one after the other. s is the
+-- `spreading::reach_column` meets its contract: the pixels above and below are reached, one after the other. s is the
 -- function's entry, `first` and `second` the places after the two calls of `reach`. Assumes nothing.
 use borrow.Author.Needs.{needs}
-use Rattle.components.proofs.Columns.{may-above, may-below, column-reached}
-use Rattle.components.proofs.reach_column.Statement.{statement}
-use Rattle.components.proofs.reach_column.Tie as tie
+use Rattle.spreading.proofs.Columns.{may-above, may-below, column-reached}
+use Rattle.spreading.proofs.reach_column.Statement.{statement}
+use Rattle.spreading.proofs.reach_column.Tie as tie
 
 pixels-requires : tie.Need-pixels-requires
 pixels-requires c κs = search needs

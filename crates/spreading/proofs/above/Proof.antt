@@ -1,7 +1,7 @@
--- `components::above` meets its contract. Assumes nothing.
+-- `spreading::above` meets its contract. Assumes nothing.
 use borrow.Author.Needs.{needs}
-use Rattle.components.proofs.above.Statement.{statement}
-use Rattle.components.proofs.above.Tie as tie
+use Rattle.spreading.proofs.above.Statement.{statement}
+use Rattle.spreading.proofs.above.Tie as tie
 
 returns : tie.Need-returns
 returns c = search needs

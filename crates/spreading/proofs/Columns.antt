@@ -15,8 +15,8 @@ use Rattle.planes.specs.declared.Shape.{Shape}
 use Rattle.planes.proofs.Tests.{or-cases, less-or-not}
 use Rattle.rows.specs.Rows.{inRow, rowEnd, Width}
 use Rattle.rows.specs.Runs.{Room, Reached}
-use Rattle.components.specs.Floods.{Above, Below, column, ColumnReached, Reachable}
-use Rattle.components.proofs.Spreading.{Side, Reaches, none-yet, may-reach, next-reach, now-was}
+use Rattle.spreading.specs.Spreads.{Above, Below, column, Reaches, ColumnReached, Reachable}
+use Rattle.spreading.proofs.Spreading.{Side, none-yet, may-reach, next-reach, now-was}
 
 -- ## One pixel below the other
 
@@ -91,8 +91,4 @@ module _ {marks queue : List ℕ} {z : Shape} {inverse code q tail : ℕ}
           above-is f = omega (arith, A .1 (omega arith))
 
       pub column-reached : ColumnReached (z .w) n code q marks queue tail m₂ q₂ t₂
-      column-reached = record {
-        taken = after-below .taken;
-        closed = closed;
-        rows = after-below .rows;
-      }
+      column-reached = record { reaches = after-below; closed = closed }

@@ -20,18 +20,12 @@ use Rattle.rows.specs.Runs.{Room, Taken, none, Reached}
 use Rattle.rows.proofs.Rows.{row-end-le, width-of}
 use Rattle.rows.proofs.Codes.{alike-on}
 use Rattle.rows.proofs.Taken.{room-less, taken-kept, taken-room, taken-was, taken-map, taken-join}
-use Rattle.components.specs.Floods.{column, JoinedBeyond, ColumnReached, Reachable}
+use Rattle.spreading.specs.Spreads.{column, JoinedBeyond, Reaches, ColumnReached, Reachable}
 
 -- q is next to p, or p itself
 pub record Side (beside : Near) (n p q : ℕ) : Type 0 where
   pub below : q < n
   pub at-side : (q ≡ p) ⊎ (beside p q ≡ true)
-
--- after some pixels were reached from p
-pub record Reaches (beside near : Near) (w n code p : ℕ) (marks queue : List ℕ) (tail : ℕ) (marks' queue' : List ℕ)
-    (tail' : ℕ) : Type 0 where
-  pub taken : Taken (JoinedBeyond beside near n marks code p) n code marks queue tail marks' queue' tail'
-  pub rows : (k : ℕ) → tail ≤ k → k < tail' → Shut (inRow w) code marks' (at queue' k)
 
 pub none-yet : {beside near : Near} {w n code p tail : ℕ} {marks queue : List ℕ}
     → Reaches beside near w n code p marks queue tail marks queue tail
@@ -72,7 +66,8 @@ module _ {beside near : Near} {z : Shape} {inverse code p tail : ℕ} {marks que
   -- ## A pixel was reached
 
   module _ {q tail' tail'' : ℕ} {marks' queue' marks'' queue'' : List ℕ}
-      (K : Reaches beside near (z .w) (pixels z) code p marks queue tail marks' queue' tail') (S : Side beside (pixels z) p q)
+      (K : Reaches beside near (z .w) (pixels z) code p marks queue tail marks' queue' tail')
+      (S : Side beside (pixels z) p q)
       (T : Reached (z .w) code q marks' queue' tail' marks'' queue'' tail'') where
     was : (x : ℕ) → at marks' x ≡ code → at marks x ≡ code
     was = taken-was (P .room) (K .taken)
@@ -92,12 +87,13 @@ module _ {beside near : Near} {z : Shape} {inverse code p tail : ℕ} {marks que
       nearby = nearby (j .has);
       joined = record {
         has = was q (j .has);
-        chain = alike-on (inRow (z .w)) near (rowEnd (z .w) q) (pixels z) code marks' marks (row-ends z (P .size) q (S .below)) rows-near was
-            here (j .chain);
+        chain = alike-on (inRow (z .w)) near (rowEnd (z .w) q) (pixels z) code marks' marks
+            (row-ends z (P .size) q (S .below)) rows-near was here (j .chain);
       };
     }
 
-    now-taken : Taken (JoinedBeyond beside near (pixels z) marks code p) (pixels z) code marks' queue' tail' marks'' queue'' tail''
+    now-taken : Taken (JoinedBeyond beside near (pixels z) marks code p) (pixels z) code marks' queue' tail'
+        marks'' queue'' tail''
     now-taken = taken-map (row-ends z (P .size) q (S .below)) beyond (T .taken)
 
     pub now-was : (x : ℕ) → at marks'' x ≡ code → at marks' x ≡ code
@@ -131,8 +127,9 @@ module _ {near : Near} {z : Shape} {inverse code p tail : ℕ} {marks queue : Li
     };
   }
 
-  more-taken : Taken (JoinedBeyond near near (pixels z) marks code p) (pixels z) code marks' queue' tail' marks'' queue'' tail''
-  more-taken = taken-map (omega arith) from-p (C .taken)
+  more-taken : Taken (JoinedBeyond near near (pixels z) marks code p) (pixels z) code marks' queue' tail'
+      marks'' queue'' tail''
+  more-taken = taken-map (omega arith) from-p (C .reaches .taken)
 
   pub next-column : Reaches near near (z .w) (pixels z) code p marks queue tail marks'' queue'' tail''
-  next-column = further (P .room) K more-taken (C .rows)
+  next-column = further (P .room) K more-taken (C .reaches .rows)
