@@ -12,8 +12,7 @@
  * every accepted pass has eight neighbours, and in an enhancement with eight, the same holds by eight neighbours too.
  * This is said of the plane, not of a recoloured frame: recolouring holds a channel at 255 and rounds, so that the
  * frame's own intensity is another plane, in which neighbours may be reversed and spots be new. Match spots on the
- * plane. Where all pixels of the frame are grey, the same holds by four neighbours of the recoloured frame's own
- * intensity too.
+ * plane. Where all pixels of the frame are grey, the same holds of the recoloured frame's own intensity too.
  *
  * Planes and frames. A plane has w columns and h rows, each 1 to 4,096, and n = w * h pixels, at most 1,048,576: one
  * byte each, row by row, left to right. A frame has the bytes red, green, blue for each pixel: 3 * n bytes.

@@ -13,8 +13,8 @@
 //!
 //! Not of the recoloured frame, [`Enhanced::frame`]: recolouring holds a channel at 255 and rounds, so that its own
 //! intensity is another plane, in which neighbours may be reversed and spots be new. **Match spots on the plane, not on
-//! the recoloured frame.** Where all pixels of the frame are grey, the same holds by four neighbours of the recoloured
-//! frame's own intensity too.
+//! the recoloured frame.** Where all pixels of the frame are grey, the same holds of the recoloured frame's own
+//! intensity too.
 //!
 //! # What there is
 //!

@@ -115,7 +115,7 @@ pub record Halved (z : Shape) (a b code span : ℕ) (t : Settings) (plane marks 
     (r : Counts) : Type 0 where
   pub model : (d k : ℕ) → Wide (t .last) a b (suc d) k
       → owing ((d + 1) * goneBelow z t a b code span plane marks) (came plane' r)
-      ≡ runEffect (passNeighbours z)
-      (deep k (t .area) (t .rule) (t .neighbours) d a ++ deep k (t .area) (t .rule) (t .neighbours) d (a + 2 ^ (d + k))) plane
+      ≡ (let half = deep k (t .area) (t .rule) (t .neighbours) d in
+      runEffect (passNeighbours z) (half a ++ half (a + 2 ^ (d + k))) plane)
   pub apart : Apart (pixels z) a b code span plane marks plane' marks'
   pub rest : Rest (pixels z) marks queue marks' queue'

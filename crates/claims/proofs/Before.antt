@@ -1,7 +1,7 @@
 -- By 4 neighbours passes, lists in files and enhancements are what they were before there was a choice: their effects
 -- are those by the four neighbours, and 19 does not apply. Assumes nothing.
 use Prim.Native.Nat.{ℕ, zero, suc}
-use mathlib.Core.Path.{_≡_, refl, sym, ap, _∙_}
+use mathlib.Core.Path.{_≡_, refl, ap, _∙_}
 use mathlib.Core.List.{List, [], _∷_, map}
 use Rattle.planes.specs.Refusals.{_▷_}
 use Rattle.planes.specs.Lists.{from}

@@ -4,8 +4,8 @@
 --   Stands          an answer of some kind that the number stands for, with what holds of it
 --   StandsCounted   the same of a call that tells both counts, which stand in two lent numbers
 --   CFunctions      one claim for each function; a rule is four numbers, a fifth is the number of neighbours, and a
---                   pass and an enhancement by numbers that stand for no rule get 17; a call that tells both counts gets 14, last of all, where fewer than two
---                   numbers are lent
+--                   pass and an enhancement by numbers that stand for no rule get 17; a call that tells both counts
+--                   gets 14, last of all, where fewer than two numbers are lent
 use Prim.Native.Nat.{ℕ, _≤_, _<_}
 use mathlib.Core.Path.{_≡_}
 use mathlib.Core.List.{List, [], _∷_}
@@ -49,8 +49,8 @@ pub record CFunctions : Type 0 where
   pub of-recolour : (w h : ℕ) {frame plane output output' : List ℕ} (r : ℤ)
       → RecolourOutcome w h frame plane output (doneReply r) output'
       → Stands statusNumber (λ s. RecolourOutcome w h frame plane output (statusReply s) output') r
-  -- every rule has four numbers that stand for it, by four neighbours; a fifth is the number of neighbours: 4 and 8 stand
-  -- for themselves, and every other gets 19; no other number of them stands for a rule
+  -- every rule has four numbers that stand for it, by four neighbours; a fifth is the number of neighbours: 4 and 8
+  -- stand for themselves, and every other gets 19; no other number of them stands for a rule
   pub of-rule : (r : Rule) → RuleFits r → (ruleOf (numbersFor (ruleLent r)) ≡ r)
       × ((formRefusal (numbersFor (ruleLent r)) ≡ 0) × (neighboursFor (ruleLent r) ≡ 4))
   pub of-five : (r : Rule) → RuleFits r → (number : ℕ) → (ruleOf (numbersFor (passLent r number)) ≡ r)

@@ -2,7 +2,7 @@
 -- that meets the hypotheses of demand 3. Definitions only.
 --
 --   After, PassExamples       a pass leaves a plane and both counts: examples A to J, and others
---   Eight                     passes by eight neighbours: J, wires, row ends, and why every accepted call has to carry 8
+--   Eight                     passes by eight neighbours: J, wires, row ends, and why every accepted call is to carry 8
 --   Extrema, ExtremaExamples  how many regional maxima and minima a plane has
 --   Enhancing                 an enhancement leaves a plane and both counts: examples K and L, and planes of one value
 --   Starred                   all of them, with the published recursion on K, L and M, recolouring (N, O), the program
@@ -111,7 +111,7 @@ pub record Eight : Type 0 where
   -- in one row, and in one column, there are no corners
   pub one-row : After (row 3) (10 ∷ 200 ∷ 20 ∷ []) (onEight 0 127 1 anyRatio) (10 ∷ 200 ∷ 20 ∷ []) 0 2
   pub one-column : After (shapeOf 1 3) (10 ∷ 200 ∷ 20 ∷ []) (onEight 0 127 1 anyRatio) (10 ∷ 200 ∷ 20 ∷ []) 0 2
-  -- a pass by four neighbours may part two pixels that touch at a corner: those of index 1 and 3, which are equal before
+  -- a pass by four neighbours may part two pixels that touch at a corner: those of index 1 and 3, which were equal
   pub parted : After (shapeOf 3 2) cornerPair (on 1 3 2 (Limited 0)) (0 ∷ 2 ∷ 2 ∷ 1 ∷ 0 ∷ 0 ∷ []) 1 0
   pub touch : adjacency (shapeOf 3 2) 8 1 3 ≡ true
   -- and by eight it does not
@@ -231,9 +231,8 @@ pub record Starred : Type 0 where
 
 -- ## The hypotheses of demand 3 can be met
 
--- the plane of the grey frame, over which example A's pass is called three times: with room, with a queue that is too
--- short, and with the ends of its interval exchanged; the first by eight neighbours, so that every accepted call carries
--- 8
+-- the plane of the grey frame, over which example A's pass is called three times: with room and by eight neighbours,
+-- with a queue that is too short, and with the ends of its interval exchanged; so every accepted call carries 8
 pub record Demand3Met : Type 0 where
   pub filled : IntensityOutcome 2 1 greyK (0 ∷ 0 ∷ []) (gives []) (10 ∷ 20 ∷ [])
   pub calls : Sequence (row 2) (10 ∷ 20 ∷ [])

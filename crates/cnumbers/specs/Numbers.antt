@@ -91,7 +91,7 @@ abbrev pub ruled : ℕ → Bool
 ruled count = eqb count 4 || eqb count 5
 
 -- a rule by its code, first and second number, and segments. Code and segments are bytes of a record: what is above 255
--- stands for 255, which is no code and too many segments. Fewer numbers than four, or more than five, stand for no rule.
+-- stands for 255, which is no code and too many segments. Fewer numbers than four, or more than five, are no rule's.
 abbrev pub numbersFor : List ℕ → RuleNumbers
 numbersFor rule =
     cond (ruled (length rule))

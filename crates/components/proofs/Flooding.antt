@@ -32,7 +32,7 @@ use Rattle.rows.proofs.Rows.{row-end-le, width-of}
 use Rattle.rows.proofs.Codes.{alike-of, alike-to, alike-near, alike-on}
 use Rattle.rows.proofs.Taken.{room-for, room-less, room-whole, taken-kept, taken-room, taken-was, taken-map}
 use Rattle.components.specs.Regions.{region}
-use Rattle.spreading.specs.Spreads.{JoinedBeyond, Spread, Spreadable}
+use Rattle.spreading.specs.Spreads.{JoinedBeyond, Spread}
 use Rattle.components.specs.Floods.{Floodable, Flooded}
 use Rattle.components.proofs.Regions.{region-below, region-linked}
 
@@ -231,7 +231,8 @@ module _ {near : Near} {w n code start head tail : ℕ} {marks₀ queue₀ marks
       go false d = sym (F .searched .marks-are x ∙ ap (λ (t : Bool). cond t 0 (at marks₀ x)) d) ∙ e
 
   -- a chain leads to what is beyond the entry at the head
-  from-start : (x : ℕ) → JoinedBeyond near near n marks code (at queue head) x → Chain (alike near marks₀ code) n start x
+  from-start : (x : ℕ) → JoinedBeyond near near n marks code (at queue head) x
+      → Chain (alike near marks₀ code) n start x
   from-start x b =
       let had = F .searched .had head l in
       let first = first-had (b .next) (b .joined .has) in

@@ -2,7 +2,7 @@
 -- (`Gauging`). What a turn requires, that it goes on to the next, and that after the last turn the component was taken,
 -- measured and counted. Both loops go by this, each by its own neighbours; they differ in how a turn takes what is next
 -- to a pixel. Assumes nothing.
-use Prim.Native.Nat.{ℕ, _+_, _*_, _≤_, _<_}
+use Prim.Native.Nat.{ℕ, _*_, _≤_, _<_}
 use mathlib.Core.Path.{_≡_, refl, sym, subst}
 use mathlib.Core.List.{List, []}
 use native.Mathlib.Omega.{arith}
@@ -74,7 +74,8 @@ module _ {near : Near} {w n code start head tail : ℕ} {marks₀ queue₀ marks
   -- what `see` requires
   pub may-see : (plane counts : List ℕ) (low high : ℕ) → length plane ≡ n
       → Gauging (at plane start) (values plane queue head) counts low high
-      → (at queue head < length plane) × ((head < greatestPixels) × (at counts (at plane (at queue head)) < greatestPixels))
+      → (at queue head < length plane)
+      × ((head < greatestPixels) × (at counts (at plane (at queue head)) < greatestPixels))
   may-see plane counts low high whole G =
       let few = few-entries K in
       let counted = tally-le plane queue head (at plane (at queue head)) (G .tally) in

@@ -1,33 +1,31 @@
 -- A plane whose pixels all have one code is one component, by 4 and by 8 neighbours: the chain of neighbours from its
--- first pixel to any other has that code all along. So the pixels taken in reading order, one after the other, are that component, and their
--- values are the plane itself. Assumes nothing.
-use Prim.Native.Nat.{ℕ, _+_, _≤_, _<_}
-use mathlib.Core.Path.{_≡_, refl, sym, ap, _∙_}
+-- first pixel to any other has that code all along. So the pixels taken in reading order, one after the other, are that
+-- component, and their values are the plane itself. Assumes nothing.
+use Prim.Native.Nat.{ℕ, _≤_, _<_}
+use mathlib.Core.Path.{_≡_, sym, ap, _∙_}
 use mathlib.Core.Logic.{inl, inr}
 use mathlib.Core.Bool.{Bool, true, false, cond, _&&_}
 use mathlib.Core.List.{List}
 use native.Mathlib.Omega.{arith}
-use lib.ListN.{length, set, length-set}
+use lib.ListN.{length}
 use lib.Seq.{ext-getD}
 use borrow.Author.Tests.{le-ltb}
-use Rattle.planes.specs.Lists.{at, Beyond}
+use Rattle.planes.specs.Lists.{at}
 use Rattle.planes.specs.Neighbours.{Near, linked}
 use Rattle.planes.specs.Enumerations.{Enumerates}
 use Rattle.planes.specs.Shapes.{pixels, adjacency}
 use Rattle.planes.specs.declared.Shape.{Shape}
 use Rattle.planes.proofs.Tests.{less-or-not}
-use Rattle.planes.proofs.Lists.{beyond-refl}
-use Rattle.planes.proofs.Stores.{at-set}
 use Rattle.planes.proofs.Links.{chain-map}
 use Rattle.planes.proofs.Enumerations.{entries-size}
 use Rattle.planes.proofs.Shapes.{adjacency-chain}
 use Rattle.histograms.specs.Histograms.{values}
 use Rattle.histograms.proofs.Components.{values-size, values-at}
+use Rattle.scans.specs.Taking.{PlaneTaken}
 use Rattle.rows.specs.Codes.{alike}
 use Rattle.rows.proofs.Codes.{alike-of}
 use Rattle.components.specs.Regions.{region}
 use Rattle.components.specs.Floods.{Flooded}
-use Rattle.components.specs.Whole.{PlaneTaken}
 use Rattle.components.proofs.Regions.{region-of}
 
 -- ## All pixels are one component
@@ -50,33 +48,6 @@ module _ (z : Shape) (number code : ℕ) (marks : List ℕ) (wide : 1 ≤ z .w)
 region-past : (near : Near) (n code : ℕ) (marks : List ℕ) (s p : ℕ) → n ≤ p → region near n marks code s p ≡ false
 unfolding region
 region-past near n code marks s p h = ap (_&& linked (alike near marks code) n s p) (le-ltb p n h)
-
--- ## Pixels taken in reading order
-
-pub taking-none : (marks queue : List ℕ) → PlaneTaken 0 marks queue marks queue
-taking-none marks queue = record {
-  off = λ p h. absurd (omega arith);
-  listed = λ p h. absurd (omega arith);
-  marks-rest = beyond-refl 0 marks;
-  queue-rest = beyond-refl 0 queue;
-}
-
--- a store to entry k leaves those after it
-beyond-more : {k : ℕ} {xs xs' : List ℕ} (v : ℕ) → Beyond k xs xs' → k < length xs' → Beyond (k + 1) xs (set xs' k v)
-beyond-more {k} {xs} {xs'} v b h = record {
-  size = rw length-set (b .size);
-  rest = λ p l. at-set (λ (x : ℕ). x ≡ at xs p) xs' k p v h
-      (λ q. absurd (omega arith)) (λ q. b .rest p (omega arith));
-}
-
-pub taking-more : {k : ℕ} {marks queue marks' queue' : List ℕ} → PlaneTaken k marks queue marks' queue'
-    → k < length marks' → k < length queue' → PlaneTaken (k + 1) marks queue (set marks' k 0) (set queue' k k)
-taking-more {k} {marks' = marks'} {queue' = queue'} T h l = record {
-  off = λ p b. at-set (_≡ 0) marks' k p 0 h (λ q. refl) (λ q. T .off p (omega (arith, q)));
-  listed = λ p b. at-set (_≡ p) queue' k p k l sym (λ q. T .listed p (omega (arith, q)));
-  marks-rest = beyond-more 0 (T .marks-rest) h;
-  queue-rest = beyond-more k (T .queue-rest) l;
-}
 
 -- ## All pixels taken
 

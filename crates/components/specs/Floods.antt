@@ -66,7 +66,7 @@ FloodAsks plane marks queue counts z inverse code start =
     Floodable marks queue z inverse code start × ((length plane ≡ pixels z) × Tally [] counts)
 
 -- by these neighbours the component of `start` was taken, measured and counted
-abbrev pub FloodGives : (near : Near) (n code start : ℕ) (plane marks queue marks' queue' counts' : List ℕ) (r : Measures)
-    → Type 0
+abbrev pub FloodGives : (near : Near) (n code start : ℕ) (plane marks queue marks' queue' counts' : List ℕ)
+    (r : Measures) → Type 0
 FloodGives near n code start plane marks queue marks' queue' counts' r =
     Flooded near n code start marks queue marks' queue' (r .size) × Gauged near n code start plane marks r counts'

@@ -1,4 +1,2 @@
 pub mod Regions
-pub mod Search
 pub mod Floods
-pub mod Whole

@@ -128,7 +128,8 @@ pub fine-passes : {z : Shape} {frame plane marks queue output : ℕ} {t : Settin
     → Fine z frame plane marks queue output t
     → All (model.Accepted z) (passes (t .last) (t .area) (t .rule) (t .neighbours))
 fine-passes {z} {t = t} F =
-    all-passes z (F .ready .lent .size) (t .rule) (F .rule) (t .neighbours) (F .neighbours) (t .last) (t .area) (F .area)
+    all-passes z (F .ready .lent .size) (t .rule) (F .rule) (t .neighbours) (F .neighbours) (t .last) (t .area)
+    (F .area)
 
 -- the recursion comes to what the chain of passes comes to
 as-listed : {z : Shape} {r : Counts} {frame plane marks queue output : ℕ} {t : Settings}

@@ -18,8 +18,8 @@ use tones::Rule;
 // The greatest last level.
 pub const LAST: u8 = 7;
 
-// The levels 0 to `last` run; components from level 1 on have at least `area` pixels. On all levels they are taken by the
-// number of neighbours, 4 or 8.
+// The levels 0 to `last` run; components from level 1 on have at least `area` pixels. On all levels they are taken by
+// the number of neighbours, 4 or 8.
 pub struct Settings {
     pub last: u8,
     pub area: u32,

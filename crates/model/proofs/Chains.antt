@@ -59,7 +59,7 @@ module _ (near : Near) where
   }
 
   module _ (z : Shape) where
-    -- every call that is not refused, of a plane of n pixels, takes its components by a relation that has this one in it
+    -- every call of a plane of n pixels that is not refused takes its components by a relation that has this one in it
     pub data Within (n : ℕ) : List Call → Type 0 where
       empty : Within n []
       next : {c : Call} {cs : List Call} → (passRefusal z n c ≡ 0 → Narrower near (passNeighbours z (c .pass)))

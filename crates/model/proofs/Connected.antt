@@ -1,6 +1,6 @@
 -- A plane of bytes is connected under the neighbours of its shape, by 4 and by 8; and all passes of an enhancement
--- carry its own number of neighbours. So the model's enhancement is the published recursion by these neighbours. Assumes
--- nothing.
+-- carry its own number of neighbours. So the model's enhancement is the published recursion by these neighbours.
+-- Assumes nothing.
 use Prim.Native.Nat.{ℕ, zero, suc, _+_, _-_, _*_, _^_, _≤_, _<_}
 use mathlib.Core.Path.{_≡_, refl, sym, ap, _∙_}
 use mathlib.Core.List.{List, [], _∷_, map}

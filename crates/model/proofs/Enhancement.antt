@@ -109,7 +109,8 @@ module _ (z : Shape) where
   -- its effect is the recursion's
   pub enhanced-recursion : (last area : ℕ) (rule : Rule) (number : ℕ) (p : List ℕ) → last ≤ 7 → length p ≡ pixels z
       → All Accepted (passes last area rule number)
-      → chainEffect (enhanced z p last area rule number) ≡ runEffect (passNeighbours z) (recursive last area rule number) p
+      → chainEffect (enhanced z p last area rule number)
+      ≡ runEffect (passNeighbours z) (recursive last area rule number) p
   unfolding enhanced
   enhanced-recursion last area rule number p l size a =
       start-runs (passes last area rule number) a p size

@@ -1,9 +1,8 @@
 -- The neighbours by which a pass takes its components: a symmetric relation that has the plane's neighbours in it, and
 -- by which the whole plane is linked. Passes that carry one number run by one relation. Assumes nothing.
 use Prim.Native.Nat.{ℕ, _≤_, _<_}
-use mathlib.Core.Path.{_≡_, refl, ap, _∙_}
-use mathlib.Core.List.{List, [], _∷_}
-use Rattle.planes.specs.Neighbours.{Near, Chain}
+use mathlib.Core.Path.{_≡_, ap}
+use Rattle.planes.specs.Neighbours.{Chain}
 use Rattle.planes.specs.Shapes.{neighbours, adjacency, Symmetric, Narrower}
 use Rattle.planes.specs.declared.Shape.{Shape}
 use Rattle.planes.proofs.Shapes.{adjacency-sym, adjacency-wider, adjacency-chain}

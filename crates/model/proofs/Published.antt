@@ -176,7 +176,8 @@ module _ (arrange : Arrangement) (reorders : Reorders arrange) (near : Near) (sy
     unfolding recursiveHistogramEqualization deep section
     recursive-does zero a = record {
       fits = deep-fits area rule number k zero a;
-      does = λ n A t m S P large. equalization-does near symm n A (section area rule number a (2 ^ (0 + k))) t m S P large;
+      does = λ n A t m S P large.
+          equalization-does near symm n A (section area rule number a (2 ^ (0 + k))) t m S P large;
     }
     recursive-does (suc d) a =
         let f : Procedure = recursiveHistogramEqualization arrange near area rule d in

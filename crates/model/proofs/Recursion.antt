@@ -201,7 +201,9 @@ module _ (by : Pass → Near) where
     halves : (d a m : ℕ)
         → Same by (joined (λ l. wide k area rule number d a l ++ wide k area rule number d (a + 2 ^ (d + k)) l) 0 m)
         (joined (wide k area rule number d a) 0 m ++ joined (wide k area rule number d (a + 2 ^ (d + k))) 0 m)
-    halves d a m = interleave (wide k area rule number d a) (wide k area rule number d (a + 2 ^ (d + k))) (apart-halves d a) 0 m
+    halves d a m =
+        let half = wide k area rule number d in
+        interleave (half a) (half (a + 2 ^ (d + k))) (apart-halves d a) 0 m
 
     pub deep-wide : (d a : ℕ) → Same by (deep k area rule number d a) (joined (wide k area rule number d a) 0 (suc d))
     unfolding deep wide joined
@@ -218,7 +220,8 @@ module _ (by : Pass → Near) where
 
 -- the levels below the two halves are the levels 1 to m + 1, section by section
 listed : (m area : ℕ) (rule : Rule) (number : ℕ) → m < 7
-    → joined (λ l. wide (7 - m) area rule number m 0 l ++ wide (7 - m) area rule number m (0 + 2 ^ (m + (7 - m))) l) 0 (suc m)
+    → (let half = wide (7 - m) area rule number m in
+    joined (λ l. half 0 l ++ half (0 + 2 ^ (m + (7 - m))) l) 0 (suc m))
     ≡ levels (from 1 (suc m)) area rule number
 unfolding joined wide levels level section
 listed zero area rule number h = refl

@@ -108,7 +108,7 @@ module _ (z : Shape) where
   -- ## An enhancement
 
   pub enhanced-sufficient : (p : List ℕ) (last area : ℕ) (rule : Rule) (number : ℕ)
-      → total retonedIn (enhanced z p last area rule number .answers) + total keptIn (enhanced z p last area rule number .answers)
+      → (let replies = enhanced z p last area rule number .answers in total retonedIn replies + total keptIn replies)
       ≡ chainSufficient z p (map (callOf (pixels z)) (passes last area rule number))
   unfolding enhanced
   enhanced-sufficient p last area rule number =

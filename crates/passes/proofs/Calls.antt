@@ -85,10 +85,12 @@ pub sequence-within : {z : Shape} {plane last : List ℕ} {cs : List Call} {rs :
     → Sequence z plane cs rs last → AcceptedCarry number cs rs → Within (adjacency z number) z (length plane) cs
 sequence-within number none no-calls = empty
 sequence-within {z} number (more {s = s} {plane = plane} {marks = marks} {queue = queue} {cs = cs} O S) (refused a) =
-    let later = subst (λ (n : ℕ). Within (adjacency z number) z n cs) (call-length z s O) (sequence-within number S a) in
-    let number-is = replied-refuses (passCallRefusal z s plane marks queue) (counts (passEffect (passNeighbours z) s plane))
-    (sym (O .answer)) in
-    next {c = callOn (length marks) (length queue) s} (λ e. absurd (omega (arith, e, number-is .1 .0))) later
+    let later = sequence-within number S a in
+    let refusal = passCallRefusal z s plane marks queue in
+    let number-is = replied-refuses refusal (counts (passEffect (passNeighbours z) s plane)) (sym (O .answer)) in
+    next {c = callOn (length marks) (length queue) s} (λ e. absurd (omega (arith, e, number-is .1 .0)))
+    (subst (λ (n : ℕ). Within (adjacency z number) z n cs) (call-length z s O) later)
 sequence-within {z} number (more {s = s} {marks = marks} {queue = queue} {cs = cs} O S) (given e a) =
-    let later = subst (λ (n : ℕ). Within (adjacency z number) z n cs) (call-length z s O) (sequence-within number S a) in
-    next {c = callOn (length marks) (length queue) s} (λ _. carries-within z s e) later
+    let later = sequence-within number S a in
+    next {c = callOn (length marks) (length queue) s} (λ _. carries-within z s e)
+    (subst (λ (n : ℕ). Within (adjacency z number) z n cs) (call-length z s O) later)

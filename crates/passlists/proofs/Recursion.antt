@@ -86,12 +86,14 @@ module _ (area : ℕ) (rule : Rule) (number : ℕ) where
       let end = subst (_≤ 256) (suc-mul j (2 ^ (8 - l))) (ends l (suc j) deep h) in
       proper-at used (j * 2 ^ (8 - l)) (2 ^ (8 - l)) is (pow-pos (8 - l)) end
 
-  proper-level : (used l : ℕ) → (used ≡ 1) ⊎ (used ≡ area) → l ≤ 8 → All (Proper area rule number) (level l used rule number)
+  proper-level : (used l : ℕ) → (used ≡ 1) ⊎ (used ≡ area) → l ≤ 8
+      → All (Proper area rule number) (level l used rule number)
   unfolding level
   proper-level used l is deep = go 0 (2 ^ l) (omega arith)
     where
       go : (j m : ℕ) → j + m ≤ 2 ^ l
-          → All (Proper area rule number) (map (λ i. section used rule number (i * 2 ^ (8 - l)) (2 ^ (8 - l))) (from j m))
+          → All (Proper area rule number)
+          (map (λ i. section used rule number (i * 2 ^ (8 - l)) (2 ^ (8 - l))) (from j m))
       go j zero h = none
       go j (suc m) h = more (proper-section used l j is deep (omega arith)) (go (suc j) m (omega arith))
 

@@ -4,7 +4,7 @@
 use Prim.Native.Nat.{ℕ, zero, suc, _+_, _-_, _*_, _/_, _%_, _≤_, _<_}
 use mathlib.Core.Path.{_≡_, refl, sym, ap, ap₂, subst, _∙_}
 use mathlib.Core.Logic.{_⊎_, inl, inr}
-use mathlib.Core.Bool.{Bool, true, false, not, _&&_, _||_, or-comm, true≢false}
+use mathlib.Core.Bool.{true, false, not, _&&_, _||_, true≢false}
 use mathlib.Mathlib.Data.Bool.Basic.{or-inl, or-inr, and-elim-left, and-elim-right, and-intro}
 use native.Mathlib.Nat.{div-add-mod', mod-lt, add-mul, one-mul, zero-mul}
 use native.Mathlib.Omega.{arith}
@@ -53,12 +53,14 @@ eight-sym w i j =
 -- the four are among the eight
 pub four-eight : (w : ℕ) → Narrower (four w) (eight w)
 unfolding four eight
-four-eight w i j e = let touch = touching-of (i / w) (i % w) (j / w) (j % w) in elim (beside-cases (i / w) (i % w) (j / w) (j % w) e) [
-  | inl (r, inl c) ↦ touch (close-same r) (close-next (i % w) c) (λ a b. omega arith)
-  | inl (r, inr c) ↦ touch (close-same r) (close-before (j % w) c) (λ a b. omega arith)
-  | inr (inl r, c) ↦ touch (close-next (i / w) r) (close-same c) (λ a b. omega arith)
-  | inr (inr r, c) ↦ touch (close-before (j / w) r) (close-same c) (λ a b. omega arith)
-]
+four-eight w i j e =
+    let touch = touching-of (i / w) (i % w) (j / w) (j % w) in
+    elim (beside-cases (i / w) (i % w) (j / w) (j % w) e) [
+      | inl (r, inl c) ↦ touch (close-same r) (close-next (i % w) c) (λ a b. omega arith)
+      | inl (r, inr c) ↦ touch (close-same r) (close-before (j % w) c) (λ a b. omega arith)
+      | inr (inl r, c) ↦ touch (close-next (i / w) r) (close-same c) (λ a b. omega arith)
+      | inr (inr r, c) ↦ touch (close-before (j / w) r) (close-same c) (λ a b. omega arith)
+    ]
 
 -- ## Neighbours by index
 

@@ -24,5 +24,6 @@ levelsLeft n t = cond (ltb n (t .area)) 0 (t .last)
 -- it comes to what the model's recursion comes to; marks and queue keep their lengths and all entries from n on
 pub record RecursionOutcome (z : Shape) (t : Settings) (plane marks queue plane' marks' queue' : List ℕ)
     (r : Counts) : Type 0 where
-  pub model : came plane' r ≡ runEffect (passNeighbours z) (recursive (t .last) (t .area) (t .rule) (t .neighbours)) plane
+  pub model : came plane' r
+      ≡ runEffect (passNeighbours z) (recursive (t .last) (t .area) (t .rule) (t .neighbours)) plane
   pub rest : Rest (pixels z) marks queue marks' queue'

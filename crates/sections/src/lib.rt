@@ -10,13 +10,13 @@ ghost use Rattle.planes.specs.Lists.{at};
 ghost use Rattle.planes.specs.Shapes.{pixels};
 ghost use Rattle.model.specs.Neighbourhoods.{passNeighbours};
 ghost use Rattle.sections.specs.Sections.{Section, Treats};
-use components::Found;
 use components::flood;
 use model::Pass;
 use painting::Next;
 use planes::Shape;
 use retoning::Treatment;
 use retoning::treat_found;
+use scans::Found;
 
 // The first pixel that may have the code: 0 where the section is due, else n.
 fn first_due(due: bool, n: usize) -> usize
@@ -52,7 +52,7 @@ pub fn treat_section(
     let mut high = false;
     let mut from = first_due(due, n);
     while from < n {
-        let found = components::next_pixel(marks, shape, inverse, code, from);
+        let found = scans::next_pixel(marks, shape, inverse, code, from);
         match found {
             Found::At(p) => {
                 let c = flood(
@@ -105,7 +105,7 @@ pub fn treat_plane(
         (now (plane .entry)) (now (marks .entry)) (now (queue .entry))
         (now (plane .exit)) (now (marks .exit)) (now (queue .exit)) r ⌝ }
 {
-    let c = components::take_plane(plane, marks, queue, shape);
+    let c = scans::take_plane(plane, marks, queue, shape);
     if retoning::is_inert(c, pass) {
         return retoning::left_alone(c, pass);
     }

@@ -1,8 +1,8 @@
 -- The neighbours of a pixel by rows, for four and for eight neighbours: those in a row are `inRow`; in other rows they
 -- are the pixels above and below the pixel itself, and with eight also those above and below the two beside it in its
--- row. So for four what `reach_column` takes is all that is next to a taken pixel; for eight three columns are, of which
--- a pixel that follows another of its run needs only the last, for the others are clear already. Of the four and the
--- eight by their coordinates the crates that flood know in this file alone. Assumes nothing.
+-- row. So for four neighbours what `reach_column` takes is all that is next to a taken pixel. For eight it is three
+-- columns; where the pixel follows another of its run, the first two are clear already. The crates that flood see `four`
+-- and `eight` by their coordinates in this file alone. Assumes nothing.
 use Prim.Native.Nat.{ℕ, _+_, _*_, _/_, _%_, _≤_, _<_}
 use mathlib.Core.Path.{_≡_, refl, sym, ap, subst, _∙_}
 use mathlib.Core.Logic.{_⊎_, inl, inr}

@@ -1,5 +1,5 @@
--- What is next to a pixel is taken: the steps, and what they come to. Marks, queue and the queue's tail (how many entries
--- are in use) are named before and, with a prime, after. Definitions only.
+-- What is next to a pixel is taken: the steps, and what they come to. Marks, queue and the queue's tail (how many
+-- entries are in use) are named before and, with a prime, after. Definitions only.
 --
 --   Above, Below    the pixel above or below, or the pixel itself where the plane ends there
 --   Left, Right     a neighbour in the row, or the pixel itself where the row ends there

@@ -213,7 +213,8 @@ module _ (t : ℕ) where
       subst (Equalised (s .args .shape) (s .args .a) (s .args .b) (s .args .code) (s .args .span) (s .args .settings)
       (s .args .plane .now) (s .args .marks .now) (s .args .queue .now)
       (divided .split .last .0) (divided .split .last .1 .0) (divided .split .last .1 .1 .0))
-      (sym (c .plus .ensures ∙ ap (λ (x : Counts). sums x (divided .split .result)) (inner .before .counts-of .ensures)))
+      (sym (c .plus .ensures
+      ∙ ap (λ (x : Counts). sums x (divided .split .result)) (inner .before .counts-of .ensures)))
       E
 
   equalise-same-length-4 : equalise-lts.Need-same-length-4 (calls t) (equalise-at t) equalise.Post

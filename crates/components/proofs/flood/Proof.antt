@@ -1,4 +1,4 @@
--- `components::flood` meets its contract: the neighbours by 8 are the eight, and by any other number those of the shape.
+-- `components::flood` meets its contract: the neighbours by 8 are the eight, by any other number those of the shape.
 -- `taken` is the place after either call, `test` that after the test. Assumes nothing.
 use borrow.Author.Needs.{needs}
 use borrow.Author.Tests.{eq-eqb, ne-eqb}

@@ -1,8 +1,8 @@
 -- `components::flood_eight` meets its contract. The loop's invariant is `Going`, and that the pixel of the front is
 -- begun; l is the place where the loop begins a turn, i that after its test, `on` that after `spread`. The measure is
 -- what the head has left of the queue. Assumes nothing.
-use Prim.Native.Nat.{ℕ, _-_, _<_}
-use mathlib.Core.Path.{_≡_, sym, subst}
+use Prim.Native.Nat.{_-_, _<_}
+use mathlib.Core.Path.{sym, subst}
 use native.Mathlib.Omega.{arith}
 use borrow.Author.Needs.{needs}
 use lib.ListN.{length}

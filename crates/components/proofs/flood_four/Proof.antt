@@ -1,7 +1,7 @@
 -- `components::flood_four` meets its contract. The loop's invariant is `Going`; l is the place where the loop begins a
 -- turn, i that after its test, `column` that after `reach_column`. The measure is what the head has left of the queue.
 -- Assumes nothing.
-use Prim.Native.Nat.{ℕ, _-_, _<_}
+use Prim.Native.Nat.{_-_, _<_}
 use native.Mathlib.Omega.{arith}
 use borrow.Author.Needs.{needs}
 use lib.ListN.{length}
@@ -33,7 +33,8 @@ flooding : (l : tie.At-loop Inv-loop μ-loop) → (
 flooding l =
     let first = l .before .before .before .before .before in
     let F = entry l .pre .0 in
-    l .loop .inv .flooding _ _ (flood-begin F (row-neighbours (entry l .args .shape) (F .size .wide)) (first .reach .ensures))
+    let rows = row-neighbours (entry l .args .shape) (F .size .wide) in
+    l .loop .inv .flooding _ _ (flood-begin F rows (first .reach .ensures))
 
 -- values are bytes
 byte : (l : tie.At-loop Inv-loop μ-loop)
@@ -89,7 +90,8 @@ loop-again c =
     let l = i .before .before in
     let due = i .if1 .taken in
     let spread = spread-four (spreadable (entry l .pre .0) (flooding l) due) (column .reach-column .ensures) in
-    going-on (l .loop .inv) due (head-room (flooding l) due) (byte l) spread (c .see .ensures) (omega arith) (omega arith)
+    going-on (l .loop .inv) due (head-room (flooding l) due) (byte l) spread (c .see .ensures)
+    (omega arith) (omega arith)
 
 same-length : tie.Need-same-length Inv-loop μ-loop
 same-length c = search needs
@@ -100,7 +102,8 @@ same-length-2 c = search needs
 returns : tie.Need-returns Inv-loop μ-loop
 returns c =
     let l = c .before .before in
-    flooded (entry l .pre .0) (l .loop .seen) (flooding l) (c .if1 .left) (entry l .args .plane .now) (l .loop .inv .gauging)
+    flooded (entry l .pre .0) (l .loop .seen) (flooding l) (c .if1 .left) (entry l .args .plane .now)
+    (l .loop .inv .gauging)
 
 pub flood-four-spec : {M : Type 1} → statement M
 flood-four-spec =

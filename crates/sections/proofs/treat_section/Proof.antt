@@ -11,9 +11,9 @@ use Rattle.planes.specs.Shapes.{pixels}
 use Rattle.histograms.specs.Histograms.{Tally, Gathered}
 use Rattle.histograms.proofs.Measured.{blank, tally-byte, cleared}
 use Rattle.histograms.proofs.Histograms.{gathered-range}
-use Rattle.components.specs.Search.{foundReply, FirstFrom, NextPixel}
-use Rattle.components.specs.declared.Found.{Found}
-use Rattle.components.specs.declared.Found.the-variants.{At}
+use Rattle.scans.specs.Search.{foundReply, FirstFrom, NextPixel}
+use Rattle.scans.specs.declared.Found.{Found}
+use Rattle.scans.specs.declared.Found.the-variants.{At}
 use Rattle.model.specs.Neighbourhoods.{passNeighbours}
 use Rattle.model.specs.Passes.{componentValues}
 use Rattle.retoning.specs.Retoning.{Done}

@@ -1,6 +1,6 @@
--- `spreading::spread` meets its contract: the run is begun, and the column of the pixel to the right is reached. s is the
--- function's entry; the other names are of the places after the calls. Assumes nothing.
-use Prim.Native.Nat.{ℕ, _*_}
+-- `spreading::spread` meets its contract: the run is begun, and the column of the pixel to the right is reached. s is
+-- the function's entry; the other names are of the places after the calls. Assumes nothing.
+use Prim.Native.Nat.{_*_}
 use mathlib.Core.Path.{ap}
 use native.Mathlib.Nat.{div-add-mod'}
 use native.Mathlib.Omega.{arith}

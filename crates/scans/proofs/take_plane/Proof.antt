@@ -1,4 +1,4 @@
--- `components::take_plane` meets its contract. The invariant: the first k pixels were taken. The measure is what is
+-- `scans::take_plane` meets its contract. The invariant: the first k pixels were taken. The measure is what is
 -- left of n. What is told of the plane is what `measure` tells. Assumes nothing.
 use Prim.Native.Nat.{_-_, _≤_}
 use mathlib.Core.Path.{_≡_}
@@ -6,10 +6,10 @@ use native.Mathlib.Nat.{mul-le-mul}
 use native.Mathlib.Omega.{arith}
 use borrow.Author.Needs.{needs}
 use Rattle.planes.specs.Shapes.{pixels}
-use Rattle.components.specs.Whole.{PlaneTaken}
-use Rattle.components.proofs.Whole.{taking-none, taking-more}
-use Rattle.components.proofs.take_plane.Statement.{statement}
-use Rattle.components.proofs.take_plane.Tie as tie
+use Rattle.scans.specs.Taking.{PlaneTaken}
+use Rattle.scans.proofs.Taking.{taking-none, taking-more}
+use Rattle.scans.proofs.take_plane.Statement.{statement}
+use Rattle.scans.proofs.take_plane.Tie as tie
 
 abbrev Inv-loop : tie.InvT-loop
 Inv-loop plane₀ marks₀ queue₀ n k₀ marks queue k = (k ≤ n) × PlaneTaken k marks₀ queue₀ marks queue

@@ -1,4 +1,4 @@
--- `components::next_pixel` meets its contract. The invariant of both loops: nothing is found yet, and no pixel from
+-- `scans::next_pixel` meets its contract. The invariant of both loops: nothing is found yet, and no pixel from
 -- `from` on and before the present one has the code. Their measures are the rows and the columns that are left. s is
 -- the function's entry, `row` and `column` the turns of the loops. Assumes nothing.
 use Prim.Native.Nat.{_+_, _*_, _-_, _≤_}
@@ -9,8 +9,8 @@ use borrow.Author.Needs.{needs}
 use Rattle.rows.specs.Stretches.{Skipped}
 use Rattle.rows.proofs.Rows.{next-row, row-inside, past-rows, row-bounds, width-of}
 use Rattle.rows.proofs.Stretches.{skipped-none, skipped-one, skipped-more, skipped-less}
-use Rattle.components.proofs.next_pixel.Statement.{statement}
-use Rattle.components.proofs.next_pixel.Tie as tie
+use Rattle.scans.proofs.next_pixel.Statement.{statement}
+use Rattle.scans.proofs.next_pixel.Tie as tie
 
 abbrev Inv-loop : tie.InvT-loop
 Inv-loop marks inverse code from w h n at₀ top first y row x₀ at x = (at ≡ n) × Skipped marks code from (row + x)

@@ -14,8 +14,8 @@ use Rattle.planes.specs.Replies.{Reply, refuses, gives}
 use Rattle.planes.specs.declared.Shape.{Shape}
 use Rattle.rows.specs.Rows.{inverseOf}
 use Rattle.rows.specs.Stretches.{None}
-use Rattle.components.specs.declared.Found.{Found}
-use Rattle.components.specs.declared.Found.the-variants.{At, Nothing}
+use Rattle.scans.specs.declared.Found.{Found}
+use Rattle.scans.specs.declared.Found.the-variants.{At, Nothing}
 
 -- a plane whose shape is not refused, with a mark for each pixel, the inverse of its width, and a pixel of it
 pub record Searchable (marks : List ℕ) (z : Shape) (inverse from : ℕ) : Type 0 where
