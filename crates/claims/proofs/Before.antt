@@ -18,7 +18,7 @@ use Rattle.model.specs.Effects.{passEffect, runEffect, always}
 use Rattle.model.specs.Runs.{All, Carries, none, more}
 use Rattle.model.specs.Published.{published}
 use Rattle.model.specs.Calls.{intervalRefusal, areaRefusal, neighbourRefusal, numbersRefusal}
-use Rattle.model.proofs.Neighbourhoods.{pass-by}
+use Rattle.model.proofs.Neighbourhoods.{pass-by, four-accepted}
 use Rattle.model.proofs.Connected.{run-carries}
 use Rattle.levels.specs.declared.Settings.{Settings}
 use Rattle.levels.specs.Levels.{levelRefusal, settingsRefusal}
@@ -36,22 +36,17 @@ last-none : (x y : ℕ) → y ≡ 0 → x ▷ y ≡ x
 last-none zero y e = e
 last-none (suc x) y e = refl
 
--- 4 is not refused
-four-fine : (number : ℕ) → number ≡ 4 → neighbourRefusal number ≡ 0
-unfolding neighbourRefusal
-four-fine number e = ap neighbourRefusal e
-
 pub numbers-before : (s : Pass) → Carries 4 s → numbersRefusal s ≡ numbersBefore s
 unfolding numbersRefusal
 numbers-before s e =
     ap (λ (k : ℕ). intervalRefusal (s .a) (s .b) ▷ areaRefusal (s .area) ▷ k)
-    (last-none (ruleRefusal (s .rule)) (neighbourRefusal (s .neighbours)) (four-fine (s .neighbours) e))
+    (last-none (ruleRefusal (s .rule)) (neighbourRefusal (s .neighbours)) (four-accepted e))
 
 pub settings-before : (t : Settings) → t .neighbours ≡ 4 → settingsRefusal t ≡ settingsBefore t
 unfolding settingsRefusal
 settings-before t e =
     ap (λ (k : ℕ). levelRefusal (t .last) ▷ areaRefusal (t .area) ▷ k)
-    (last-none (ruleRefusal (t .rule)) (neighbourRefusal (t .neighbours)) (four-fine (t .neighbours) e))
+    (last-none (ruleRefusal (t .rule)) (neighbourRefusal (t .neighbours)) (four-accepted e))
 
 pub pass-before : (z : Shape) (s : Pass) (plane : List ℕ) → Carries 4 s
     → passEffect (passNeighbours z) s plane ≡ passEffect (always (neighbours z)) s plane

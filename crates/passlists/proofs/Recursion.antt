@@ -1,7 +1,7 @@
--- The passes of an enhancement, run as a list on a plane, as the intensity of a frame, give the plane and both counts of
--- the enhancement: level by level, and also in the order of the recursion, each section before its lower and its upper
--- half. In memory with 4 and with 8 neighbours, as a file with 4, since a record means 4. All levels together are 255
--- passes. Assumes nothing.
+-- The passes of an enhancement, run as a list on a plane, as the intensity of a frame, give the plane and both counts
+-- of the enhancement: level by level, and also in the order of the recursion, each section before its lower and its
+-- upper half. In memory with 4 and with 8 neighbours, as a file with 4, since a record means 4. All levels together are
+-- 255 passes. Assumes nothing.
 --
 --   sections-255            the full recursion has 255 sections
 --   passes-enhances         the outcome of the list in memory, level by level, is the enhancement's plane and counts
@@ -35,6 +35,7 @@ use Rattle.model.specs.Effects.{Effect, counts, runEffect, Same}
 use Rattle.model.specs.Calls.{areaRefusal, neighbourRefusal, numbersRefusal, passRefusal, chainEffect}
 use Rattle.model.specs.Runs.{All, none, more}
 use Rattle.model.specs.Enhancement.{section, level, levels, passes, enhanced, callOf, deep, recursive}
+use Rattle.model.proofs.Neighbourhoods.{four-accepted}
 use Rattle.model.proofs.Recursion.{all-append, all-map, double, recursion-listed}
 use Rattle.model.proofs.Enhancement.{start-runs}
 use Rattle.tones.specs.Numbers.{RuleFits}
@@ -247,10 +248,6 @@ module _ (z : Shape) (last area : ℕ) (rule : Rule) (number : ℕ) (levels-fine
   -- ## As a file
 
   module _ (four : number ≡ 4) where
-    four-fine : neighbourRefusal number ≡ 0
-    unfolding neighbourRefusal
-    four-fine = ap neighbourRefusal four
-
     -- a file of the sections has the outcome of the list in memory
     in-memory : (ss : List Pass) → length ss ≤ 255 → All (Proper area rule number) ss
         → {reply : Reply} {plane' marks' queue' : List ℕ}
@@ -265,7 +262,7 @@ module _ (z : Shape) (last area : ℕ) (rule : Rule) (number : ℕ) (levels-fine
         → ListOutcome z (encode (passes last area rule number)) plane marks queue reply plane' marks' queue'
         → Enhances reply plane'
     list-enhances reply plane' marks' queue' out =
-        passes-enhances four-fine reply plane' marks' queue'
+        passes-enhances (four-accepted four) reply plane' marks' queue'
         (in-memory (passes last area rule number) (few last area rule number levels-fine .0)
         (proper area rule number last levels-fine) out)
 
@@ -273,6 +270,6 @@ module _ (z : Shape) (last area : ℕ) (rule : Rule) (number : ℕ) (levels-fine
         → ListOutcome z (encode (recursive last area rule number)) plane marks queue reply plane' marks' queue'
         → Enhances reply plane'
     recursion-enhances reply plane' marks' queue' out =
-        recursion-in-memory four-fine reply plane' marks' queue'
+        recursion-in-memory (four-accepted four) reply plane' marks' queue'
         (in-memory (recursive last area rule number) (few last area rule number levels-fine .1)
         (proper-recursive area rule number last levels-fine) out)
