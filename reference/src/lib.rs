@@ -33,6 +33,7 @@ pub mod extrema;
 mod lists;
 mod netpbm;
 mod passes;
+pub mod pictures;
 mod program;
 pub mod random;
 mod refusals;

@@ -1,6 +1,7 @@
 //! Four neighbours and eight: which pixels belong together, and what a chain keeps by each of them.
 
 use mlhe_reference::extrema::{keeps_shapes, parted_neighbours, regional_maxima, regional_minima};
+use mlhe_reference::pictures::drawn;
 use mlhe_reference::{enhance, level_by_level, list_bytes, list_passes, pass, run_list, run_passes, sufficient};
 use mlhe_reference::{Counts, Pass, Rule, Settings};
 
@@ -8,16 +9,6 @@ const FREE: Rule = Rule::Plain { low: 0, high: 25_500 };
 
 /// The dark pixels, plain, with any area.
 const DARK: Pass = Pass { a: 0, b: 127, area: 1, rule: FREE, neighbours: 4 };
-
-/// The columns and the values of a picture. A digit is ten times itself, a point 200 and a comma 220.
-fn drawn(picture: &[&str]) -> (usize, Vec<u8>) {
-    let value = |byte: u8| match byte {
-        b'.' => 200,
-        b',' => 220,
-        digit => 10 * (digit - b'0'),
-    };
-    (picture[0].len(), picture.iter().flat_map(|row| row.bytes().map(value)).collect())
-}
 
 /// The plane that a pass leaves of w columns, and both counts.
 fn passed(plane: &[u8], w: usize, one: &Pass) -> (Vec<u8>, (u64, u64)) {

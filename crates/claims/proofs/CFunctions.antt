@@ -266,7 +266,7 @@ c-functions = record {
         ap ruleOf is ∙ read-rule r,
         (ap formRefusal is ∙ ap (λ (t : Bool). when t 17) (formed-rule r), number-lent r number),
       );
-  of-four = λ r. (refl, refl);
+  of-neighbours = λ r. (refl, refl);
   of-no-rule = no-rule-lent;
   of-pass = λ w h a b area rule {plane} {marks} {queue} {plane'} {marks'} {queue'} numbers {numbers'} r
       fine room O.

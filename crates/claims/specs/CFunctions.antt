@@ -56,7 +56,7 @@ pub record CFunctions : Type 0 where
   pub of-five : (r : Rule) → RuleFits r → (number : ℕ) → (ruleOf (numbersFor (passLent r number)) ≡ r)
       × ((formRefusal (numbersFor (passLent r number)) ≡ 0)
       × (neighbourRefusal (neighboursFor (passLent r number)) ≡ neighbourRefusal number))
-  pub of-four : (r : Rule) → (neighboursFor (passLent r 4) ≡ 4) × (neighboursFor (passLent r 8) ≡ 8)
+  pub of-neighbours : (r : Rule) → (neighboursFor (passLent r 4) ≡ 4) × (neighboursFor (passLent r 8) ≡ 8)
   pub of-no-rule : (rule : List ℕ) → (length rule ≡ 4 → ⊥) → (length rule ≡ 5 → ⊥)
       → formRefusal (numbersFor rule) ≡ 17
   pub of-pass : (w h a b area : ℕ) (rule : List ℕ) {plane marks queue plane' marks' queue' : List ℕ}

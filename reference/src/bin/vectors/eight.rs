@@ -8,10 +8,11 @@ use crate::neighbours;
 use crate::passes::passes;
 use crate::sound::{enhance_grey, house_grey, pass_on, ruled, FREE, ISLANDS};
 use mlhe_reference::cases::{answers, encode, Case};
+use mlhe_reference::pictures::drawn;
 use mlhe_reference::random::Random;
 use mlhe_reference::{level_by_level, Pass, Rule, Settings};
 
-/// Rows of pixels, by what they show. A digit is ten times itself, a point 200 and a comma 220.
+/// Rows of pixels, by what they show.
 const PICTURES: [&[&str]; 32] = [
     // Example J: a dark and a light wire that cross at a corner.
     &["1.", ".2"],
@@ -56,16 +57,6 @@ const PICTURES: [&[&str]; 32] = [
     &["12...", "..34.", "....5", "...6.", "..7.."],
     &["1.1.2", ".1.2.", "1.1.2"],
 ];
-
-/// A picture's columns and values.
-fn drawn(picture: &[&str]) -> (usize, Vec<u8>) {
-    let value = |byte: u8| match byte {
-        b'.' => 200,
-        b',' => 220,
-        digit => 10 * (digit - b'0'),
-    };
-    (picture[0].len(), picture.iter().flat_map(|row| row.bytes().map(value)).collect())
-}
 
 /// The same call with eight neighbours.
 fn by_eight(case: Case) -> Case {
