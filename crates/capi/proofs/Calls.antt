@@ -39,7 +39,8 @@ use Rattle.netpbm.specs.Writing.{encoding, writeRefusal, writtenReply, WriteOut
 use Rattle.netpbm.proofs.Writing.{wrote-size, wrote-writable}
 use Rattle.cnumbers.specs.Numbers.{encoded, numberReply, doneReply, statusNumber, answerNumber, writtenNumber, Short}
 use Rattle.passlists.specs.Outcomes.{runListRefusal, ListOutcome}
-use Rattle.cnumbers.specs.Numbers.{numbersFor, neighboursFor, passOf, settingsOf, countsAfter, countsRefusal}
+use Rattle.crules.specs.Rules.{numbersFor, neighboursFor}
+use Rattle.cnumbers.specs.Numbers.{passOf, settingsOf, countsAfter, countsRefusal}
 use Rattle.cnumbers.specs.Numbers.{countsReply}
 use Rattle.capi.specs.Calls.{CountsOutcome, CountsOutputOutcome, passRefusalOf, PassNumber}
 use Rattle.capi.specs.Calls.{listRefusalOf, ListNumber, enhanceRefusalOf, EnhanceNumber}

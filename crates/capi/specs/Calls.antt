@@ -28,7 +28,8 @@ use Rattle.enhance.specs.Calls.{settingsRefusal, memoryRefusal, chainOf}
 use Rattle.netpbm.specs.Reading.{readAnswer}
 use Rattle.listformat.specs.Format.{passesOf}
 use Rattle.passlists.specs.Outcomes.{runListRefusal}
-use Rattle.cnumbers.specs.Numbers.{countsRefusal, countsReply, numbersFor, passOf, settingsOf, readNumber, numbersAfter}
+use Rattle.crules.specs.Rules.{numbersFor}
+use Rattle.cnumbers.specs.Numbers.{countsRefusal, countsReply, passOf, settingsOf, readNumber, numbersAfter}
 
 -- ## Calls that tell both counts
 

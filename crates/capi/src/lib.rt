@@ -60,8 +60,8 @@ pub extern "C" fn mlhe_pass(
         (now (counts .exit)) ⌝ }
 {
     let shape = Shape { w, h };
-    let numbers = cnumbers::rule_numbers(rule);
-    let neighbours = cnumbers::neighbour_number(rule);
+    let numbers = crules::rule_numbers(rule);
+    let neighbours = crules::neighbour_number(rule);
     let refusal = cnumbers::pass_form_refusal(
         shape,
         plane.len(),
@@ -132,8 +132,8 @@ pub extern "C" fn mlhe_enhance(
         (now (plane .exit)) (now (marks .exit)) (now (queue .exit)) (now (output .exit)) (now (counts .exit)) ⌝ }
 {
     let shape = Shape { w, h };
-    let numbers = cnumbers::rule_numbers(rule);
-    let neighbours = cnumbers::neighbour_number(rule);
+    let numbers = crules::rule_numbers(rule);
+    let neighbours = crules::neighbour_number(rule);
     let refusal = cnumbers::enhance_form_refusal(
         shape,
         frame.len(),

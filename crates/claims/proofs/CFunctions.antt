@@ -41,8 +41,9 @@ use Rattle.netpbm.specs.Writing.{writtenReply, WriteOutcome}
 use Rattle.netpbm.proofs.Replies.{refused-answer, framed-answer, refused-some}
 use Rattle.cnumbers.specs.Numbers.{encoded, numberReply, doneReply, statusNumber, writtenNumber}
 use Rattle.cnumbers.specs.Numbers.{countsRefusal, countsReply}
-use Rattle.cnumbers.specs.Numbers.{numbersFor, passOf, settingsOf}
-use Rattle.cnumbers.proofs.Numbers.{rule-lent, pass-lent, no-rule-lent, number-lent}
+use Rattle.crules.specs.Rules.{numbersFor}
+use Rattle.crules.proofs.Rules.{rule-lent, pass-lent, no-rule-lent, number-lent}
+use Rattle.cnumbers.specs.Numbers.{passOf, settingsOf}
 use Rattle.cnumbers.specs.Numbers.{readNumber, numbersAfter}
 use Rattle.capi.specs.Calls.{CountsOutcome, CountsOutputOutcome, passRefusalOf, enhanceRefusalOf, ReadNumber}
 use Rattle.claims.specs.CFunctions.{Stands, StandsCounted, CFunctions}

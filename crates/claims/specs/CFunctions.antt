@@ -26,7 +26,8 @@ use Rattle.passlists.specs.Outcomes.{runListRefusal, ListOutcome}
 use Rattle.netpbm.specs.Reading.{readReply}
 use Rattle.netpbm.specs.Writing.{writtenReply, WriteOutcome}
 use Rattle.cnumbers.specs.Numbers.{numberReply, doneReply, statusNumber, answerNumber, countsAfter, writtenNumber}
-use Rattle.cnumbers.specs.Numbers.{numbersFor, neighboursFor, ruleLent, passLent, passOf, settingsOf}
+use Rattle.crules.specs.Rules.{numbersFor, neighboursFor, ruleLent, passLent}
+use Rattle.cnumbers.specs.Numbers.{passOf, settingsOf}
 use Rattle.capi.specs.Calls.{PassNumber, ListNumber, EnhanceNumber, ReadNumber}
 
 -- r is the number of an answer a of which P holds

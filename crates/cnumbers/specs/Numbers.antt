@@ -9,19 +9,15 @@
 --   countsRefusal  14, where too few numbers are lent for both counts
 --   countsReply    the reply that a number and the lent numbers stand for, of such a call
 --   writtenNumber  the answer of writing, encoded
---   numbersFor     the numbers of a rule, by the four or five that are lent
---   neighboursFor  the number of neighbours, by the fifth of them
---   ruleLent       the four numbers of a rule
---   passLent       the same and a number of neighbours
 --   passOf         the pass for its numbers
 --   settingsOf     the settings for their numbers
-use Prim.Native.Nat.{ℕ, zero, suc, _<_, min}
-use mathlib.Core.Bool.{Bool, _||_, cond}
+use Prim.Native.Nat.{ℕ, zero, suc, _<_}
+use mathlib.Core.Bool.{cond}
 use mathlib.Core.Path.{_≡_}
 use mathlib.Core.List.{List, [], _∷_}
 use lib.IntN.{ℤ, pos, negsuc}
 use lib.ListN.{length, take, drop}
-use lib.Dec.{eqb, ltb}
+use lib.Dec.{ltb}
 use Rattle.planes.specs.Lists.{at}
 use Rattle.planes.specs.Refusals.{when}
 use Rattle.planes.specs.Replies.{Reply, refuses, gives, overwritten}
@@ -35,9 +31,8 @@ use Rattle.netpbm.specs.declared.Header.the-variants as Header
 use Rattle.netpbm.specs.declared.Written.{Written}
 use Rattle.netpbm.specs.declared.Written.the-variants as Written
 use Rattle.levels.specs.declared.Settings.{Settings}
-use Rattle.tones.specs.declared.Rule.{Rule}
-use Rattle.tones.specs.declared.RuleNumbers.{RuleNumbers}
-use Rattle.tones.specs.Numbers.{ruleOf, numbersOf}
+use Rattle.tones.specs.Numbers.{ruleOf}
+use Rattle.crules.specs.Rules.{numbersFor, neighboursFor}
 
 -- the number of a refusal, 0 where there is none, and a value; negsuc k is -(k + 1)
 abbrev pub encoded : ℕ → ℕ → ℤ
@@ -86,28 +81,7 @@ writtenNumber (Written.Length size) = encoded 0 size
 pub record Short (r : Written) : Type 0 where
   pub short : (size : ℕ) → r ≡ Written.Length size → size < 9223372036854775808
 
--- four numbers are lent for a rule, or five: those of a rule and a number of neighbours
-abbrev pub ruled : ℕ → Bool
-ruled count = eqb count 4 || eqb count 5
-
--- a rule by its code, first and second number, and segments. Code and segments are bytes of a record: what is above 255
--- stands for 255, which is no code and too many segments. Fewer numbers than four, or more than five, are no rule's.
-abbrev pub numbersFor : List ℕ → RuleNumbers
-numbersFor rule =
-    cond (ruled (length rule))
-    (record { code = min (at rule 0) 255; extra = min (at rule 3) 255; first = at rule 1; second = at rule 2 })
-    (record { code = 255; extra = 0; first = 0; second = 0 })
-
-abbrev pub ruleLent : Rule → List ℕ
-ruleLent rule = let n = numbersOf rule in n .code ∷ n .first ∷ n .second ∷ n .extra ∷ []
-
--- the fifth number, and 4 where there is none. What is above 255 stands for 255, which is neither 4 nor 8.
-abbrev pub neighboursFor : List ℕ → ℕ
-neighboursFor rule = cond (eqb (length rule) 5) (min (at rule 4) 255) 4
-
-abbrev pub passLent : Rule → ℕ → List ℕ
-passLent rule number = let n = numbersOf rule in n .code ∷ n .first ∷ n .second ∷ n .extra ∷ number ∷ []
-
+-- by the numbers that are lent
 abbrev pub passOf : ℕ → ℕ → ℕ → List ℕ → Pass
 passOf a b area rule =
     record { a = a; b = b; area = area; rule = ruleOf (numbersFor rule); neighbours = neighboursFor rule }

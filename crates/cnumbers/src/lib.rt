@@ -6,26 +6,22 @@
 // put_counts                       both counts in two lent numbers, or the refusal
 // short_counts                     a refusal where fewer than two numbers are lent: the call's own, or 14
 // put_numbers                      width, height and offset in three lent numbers
-// rule_numbers                     the numbers of a rule, by the four or five that are lent
-// neighbour_number                 the number of neighbours, by the fifth of them
 // pass_form_refusal                1 to 4, 17
 // enhance_form_refusal             1, 2, 3, 4, 14, 17
 ghost use mathlib.Core.Path.{_≡_};
-ghost use Prim.Native.Nat.{_≤_, min};
+ghost use Prim.Native.Nat.{_≤_};
 ghost use lib.ListN.{length};
 ghost use Rattle.planes.specs.Refusals.{_▷_};
 ghost use Rattle.planes.specs.Shapes.{lentRefusal};
 ghost use Rattle.tones.specs.Numbers.{formRefusal};
 ghost use Rattle.enhance.specs.Calls.{memoryRefusal};
 ghost use Rattle.cnumbers.specs.Numbers.{encoded, statusNumber, answerNumber, countsAfter, writtenNumber};
-ghost use Rattle.cnumbers.specs.Numbers.{Short, ruled, numbersFor, neighboursFor};
-ghost use Rattle.cnumbers.specs.Numbers.{readNumber, numbersAfter};
+ghost use Rattle.cnumbers.specs.Numbers.{Short, readNumber, numbersAfter};
 use colours::Status;
 use model::Answer;
 use model::Counts;
 use netpbm::Header;
 use netpbm::Written;
-use planes::FOUR;
 use planes::Shape;
 use planes::refused::OUTPUT;
 use tones::RuleNumbers;
@@ -107,63 +103,6 @@ pub fn written_number(written: Written) -> i64
         Written::Refused(k) => refused(k),
         Written::Length(size) => size as i64,
     }
-}
-
-// A number as a byte, where all above 255 are 255.
-fn byte_of(x: u16) -> u8
-    ensures { λ r. ⌜ r ≡ min x 255 ⌝ }
-{
-    if x < 255 {
-        return x as u8;
-    }
-    255
-}
-
-// How many numbers are lent for a rule, and how many with a number of neighbours.
-pub const RULE_NUMBERS: usize = 4;
-
-pub const PASS_NUMBERS: usize = 5;
-
-// Whether so many numbers are lent for a rule.
-fn is_ruled(count: usize) -> bool
-    ensures { λ r. ⌜ r ≡ ruled count ⌝ }
-{
-    count == RULE_NUMBERS || count == PASS_NUMBERS
-}
-
-// The numbers of a rule, by its code, first and second number, and segments; of fewer or more numbers, those of no
-// rule.
-pub fn rule_numbers(rule: &[u16]) -> RuleNumbers
-    ensures { λ r. ⌜ r ≡ numbersFor (now (rule .entry)) ⌝ }
-{
-    if is_ruled(rule.len()) {
-        let code = byte_of(rule[0]);
-        let extra = byte_of(rule[3]);
-        let first = rule[1];
-        let second = rule[2];
-        return RuleNumbers {
-            code,
-            extra,
-            first,
-            second,
-        };
-    }
-    RuleNumbers {
-        code: 255,
-        extra: 0,
-        first: 0,
-        second: 0,
-    }
-}
-
-// The number of neighbours, which is the fifth number; 4 where there is none.
-pub fn neighbour_number(rule: &[u16]) -> u8
-    ensures { λ r. ⌜ r ≡ neighboursFor (now (rule .entry)) ⌝ }
-{
-    if rule.len() != PASS_NUMBERS {
-        return FOUR;
-    }
-    byte_of(rule[4])
 }
 
 // 1 to 4 and 17, which are tested before a pass's other numbers, or 0.

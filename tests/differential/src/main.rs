@@ -12,7 +12,8 @@
 //! components of sufficient area, each counted from its definition, by four neighbours, and by eight where all accepted
 //! passes have eight; and enhancements with the lists of passes that they equal. Ends with status 1 at the first
 //! difference. At the end it has to have seen every refusal, accepted calls of every kind, components retoned and kept
-//! back by every kind that counts, and planes changed and held against the first by eight neighbours.
+//! back by every kind that counts, and planes changed and held against the first by eight neighbours. Each processor
+//! tries a share of the cases.
 
 mod calls;
 mod guarded;
@@ -23,13 +24,17 @@ mod work;
 use calls::{Outcome, KINDS};
 use mlhe_reference::random::Random;
 use mlhe_reference::Counts;
-use std::env;
+use std::ops::Range;
 use std::process::ExitCode;
 use std::time::Instant;
+use std::{env, thread};
 
 const CASES: u64 = 60_000;
 const LONG: u64 = 5_000_000;
 const SEED: u64 = 20_260;
+
+/// After so many cases a line says that they agree.
+const TOLD: u64 = 100_000;
 
 /// The kinds of case whose calls count components.
 const COUNTING: [&str; 6] = ["pass", "enhance", "list", "chain", "levels", "passes"];
@@ -60,6 +65,18 @@ impl Tally {
             if answer < 0 {
                 self.refused[answer.unsigned_abs() as usize] += 1;
             }
+        }
+    }
+
+    fn add_all(&mut self, other: &Tally) {
+        let sum = |into: &mut [u64], from: &[u64]| into.iter_mut().zip(from).for_each(|(x, y)| *x += y);
+        self.calls += other.calls;
+        sum(&mut self.tried, &other.tried);
+        sum(&mut self.accepted, &other.accepted);
+        sum(&mut self.by_eight, &other.by_eight);
+        sum(&mut self.refused, &other.refused);
+        for (into, from) in self.counts.iter_mut().zip(other.counts) {
+            *into = [*into, from].into_iter().sum();
         }
     }
 
@@ -95,6 +112,43 @@ fn run(seed: u64, number: u64) -> (usize, calls::Compared) {
     let mut random = Random::new(Random::new(seed).bits() ^ number.wrapping_mul(0xA076_1D64_78BD_642F));
     let kind = random.below(KINDS.len());
     (kind, calls::case(kind, &mut random))
+}
+
+/// A case in which the two differ: its number, and what differs.
+struct Difference {
+    number: u64,
+    what: String,
+}
+
+/// What came of these cases, or the first of them in which the two differ.
+fn tally_of(seed: u64, numbers: impl Iterator<Item = u64>) -> Result<Tally, Difference> {
+    let mut tally = Tally::default();
+    for number in numbers {
+        let (kind, compared) = run(seed, number);
+        let outcome = compared.map_err(|what| Difference { number, what: format!("{}: {what}", KINDS[kind]) })?;
+        tally.add(kind, &outcome);
+    }
+    Ok(tally)
+}
+
+/// The same with a share of the cases for each processor.
+fn shared_tally(seed: u64, numbers: &Range<u64>) -> Result<Tally, Difference> {
+    let threads = thread::available_parallelism().map_or(1, usize::from);
+    let share = |at: usize| numbers.clone().skip(at).step_by(threads);
+    let tallies: Vec<Result<Tally, Difference>> = thread::scope(|scope| {
+        let running: Vec<_> = (0..threads).map(|at| scope.spawn(move || tally_of(seed, share(at)))).collect();
+        running.into_iter().map(|thread| thread.join().expect("no case panics")).collect()
+    });
+    let mut sum = Tally::default();
+    let mut first: Option<Difference> = None;
+    for tally in tallies {
+        match tally {
+            Ok(tally) => sum.add_all(&tally),
+            Err(other) if first.as_ref().is_none_or(|known| other.number < known.number) => first = Some(other),
+            Err(_) => {}
+        }
+    }
+    first.map_or(Ok(sum), Err)
 }
 
 /// Frames of the greatest number of pixels, of three shapes, and by eight neighbours.
@@ -136,17 +190,17 @@ fn main() -> ExitCode {
     let start = Instant::now();
     let numbers = case.map_or(0..cases, |number| number..number + 1);
     let mut tally = Tally::default();
-    for number in numbers.clone() {
-        let (kind, compared) = run(seed, number);
-        match compared {
-            Ok(outcome) => tally.add(kind, &outcome),
-            Err(what) => {
-                println!("DIFFERENT: {}: {what}; again with --case {number} --seed {seed}", KINDS[kind]);
+    for begin in numbers.clone().step_by(TOLD as usize) {
+        let end = numbers.end.min(begin + TOLD);
+        match shared_tally(seed, &(begin..end)) {
+            Ok(more) => tally.add_all(&more),
+            Err(Difference { number, what }) => {
+                println!("DIFFERENT: {what}; again with --case {number} --seed {seed}");
                 return ExitCode::FAILURE;
             }
         }
-        if (number + 1) % 100_000 == 0 {
-            println!("{} cases agree", number + 1);
+        if end % TOLD == 0 {
+            println!("{end} cases agree");
         }
     }
     if case.is_none() {

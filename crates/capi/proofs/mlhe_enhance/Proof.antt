@@ -7,7 +7,7 @@ use Rattle.planes.specs.Shapes.{shapeOf}
 use Rattle.tones.specs.declared.RuleNumbers.{RuleNumbers}
 use Rattle.tones.specs.Numbers.{ruleOf, formRefusal}
 use Rattle.enhance.specs.Calls.{memoryRefusal}
-use Rattle.cnumbers.specs.Numbers.{numbersFor, neighboursFor}
+use Rattle.crules.specs.Rules.{numbersFor, neighboursFor}
 use Rattle.cnumbers.proofs.Numbers.{returned}
 use Rattle.capi.proofs.Calls.{enhance-refused, enhance-short, enhance-made}
 use borrow.Author.Needs.{needs}

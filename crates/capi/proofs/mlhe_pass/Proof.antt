@@ -6,7 +6,7 @@ use Rattle.planes.specs.Refusals.{_▷_}
 use Rattle.planes.specs.Shapes.{shapeOf, lentRefusal}
 use Rattle.tones.specs.declared.RuleNumbers.{RuleNumbers}
 use Rattle.tones.specs.Numbers.{ruleOf, formRefusal}
-use Rattle.cnumbers.specs.Numbers.{numbersFor, neighboursFor}
+use Rattle.crules.specs.Rules.{numbersFor, neighboursFor}
 use Rattle.cnumbers.proofs.Numbers.{returned}
 use Rattle.capi.proofs.Calls.{pass-refused, pass-short, pass-made}
 use borrow.Author.Needs.{needs}

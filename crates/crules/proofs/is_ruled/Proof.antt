@@ -1,7 +1,7 @@
--- `cnumbers::is_ruled` meets its contract. Assumes nothing.
+-- `crules::is_ruled` meets its contract. Assumes nothing.
 use borrow.Author.Tests.{eq-eqb, ne-eqb}
-use Rattle.cnumbers.proofs.is_ruled.Statement.{statement}
-use Rattle.cnumbers.proofs.is_ruled.Tie as tie
+use Rattle.crules.proofs.is_ruled.Statement.{statement}
+use Rattle.crules.proofs.is_ruled.Tie as tie
 
 returns : tie.Need-returns
 returns c = simp (eq-eqb _ _ (c .if1 .taken))

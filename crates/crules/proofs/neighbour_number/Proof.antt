@@ -1,8 +1,8 @@
--- `cnumbers::neighbour_number` meets its contract: the fifth number, or 4. Assumes nothing.
+-- `crules::neighbour_number` meets its contract: the fifth number, or 4. Assumes nothing.
 use borrow.Author.Needs.{needs}
 use borrow.Author.Tests.{eq-eqb, ne-eqb}
-use Rattle.cnumbers.proofs.neighbour_number.Statement.{statement}
-use Rattle.cnumbers.proofs.neighbour_number.Tie as tie
+use Rattle.crules.proofs.neighbour_number.Statement.{statement}
+use Rattle.crules.proofs.neighbour_number.Tie as tie
 
 returns : tie.Need-returns
 returns c = simp (ne-eqb _ _ (c .if1 .taken))

@@ -1,4 +1,4 @@
--- `cnumbers::rule_numbers` meets its contract: the numbers of a rule, or those of no rule. Assumes nothing.
+-- `crules::rule_numbers` meets its contract: the numbers of a rule, or those of no rule. Assumes nothing.
 use Prim.Native.Nat.{ℕ, _≤_}
 use mathlib.Core.Path.{_≡_, sym, ap₂, _∙_}
 use mathlib.Core.Bool.{true}
@@ -7,10 +7,10 @@ use borrow.Author.Needs.{needs}
 use lib.ListN.{length}
 use Rattle.planes.specs.Lists.{at}
 use Rattle.tones.specs.declared.RuleNumbers.{RuleNumbers}
-use Rattle.cnumbers.specs.Numbers.{ruled}
-use Rattle.cnumbers.proofs.Numbers.{four-lent}
-use Rattle.cnumbers.proofs.rule_numbers.Statement.{statement}
-use Rattle.cnumbers.proofs.rule_numbers.Tie as tie
+use Rattle.crules.specs.Rules.{ruled}
+use Rattle.crules.proofs.Rules.{four-lent}
+use Rattle.crules.proofs.rule_numbers.Statement.{statement}
+use Rattle.crules.proofs.rule_numbers.Tie as tie
 
 -- the numbers that are lent, where they are a rule's
 is-ruled : (c : tie.Then1) → ruled (length (c .before .before .before .args .rule .now)) ≡ true
