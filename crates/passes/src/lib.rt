@@ -1,6 +1,6 @@
 // Section passes: the components of a section are found, and each with the least area gets the tone rule.
 //
-// pass    a pass over a lent plane, or the refusal that it meets with: refusals 1 to 8
+// pass    a pass over a lent plane, or the refusal that it meets with: refusals 1 to 8, 18 and 19
 // treat   the same for a pass and memory that are known to be accepted
 ghost use mathlib.Core.Path.{_≡_};
 ghost use Prim.Native.Nat.{_≤_};
@@ -44,7 +44,7 @@ pub fn treat(
     }
 }
 
-// 1 to 8 for a call of a pass, or 0.
+// 1 to 8, 18 or 19 for a call of a pass, or 0.
 fn refusal_of(shape: Shape, plane: usize, marks: usize, queue: usize, pass: Pass) -> u8
     ensures { λ r. ⌜ r ≡ passRefusal shape plane (callOn marks queue pass) ⌝ }
 {
