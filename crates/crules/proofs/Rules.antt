@@ -1,5 +1,5 @@
 -- The numbers that are lent for a rule stand for it, and the fifth for the number of neighbours. Assumes nothing.
-use Prim.Native.Nat.{ℕ, _<_, _≤_, min}
+use Prim.Native.Nat.{ℕ, _≤_, min}
 use mathlib.Core.Path.{_≡_, refl, ap}
 use mathlib.Core.Logic.{inl, inr}
 use mathlib.Core.Bool.{true}
@@ -19,25 +19,23 @@ use Rattle.crules.specs.Rules.{ruled, numbersFor, neighboursFor, ruleLen
 
 -- ## The numbers of a rule
 
--- segments that fit a byte are those of the rule
-byte-of-segments : (segments smin smax : ℕ) → segments < 256
-    → record { code = 2; extra = min segments 255; first = smin; second = smax } ≡ numbersOf (Affine segments smin smax)
-byte-of-segments segments smin smax f =
-    let byte : min segments 255 ≡ segments = min-eq-left (omega arith) in
+-- those of a rule fit their bytes
+bytes-lent : (r : Rule) → RuleFits r → (
+    let n = numbersOf r in
+    record { code = min (n .code) 255; extra = min (n .extra) 255; first = n .first; second = n .second } ≡ n)
+bytes-lent (Plain low high) f = refl
+bytes-lent (Limited k) f = refl
+bytes-lent (Affine segments smin smax) f =
+    let byte : min segments 255 ≡ segments = min-eq-left (omega (arith, f .0)) in
     let numbers : ℕ → RuleNumbers = λ x. record { code = 2; extra = x; first = smin; second = smax } in
     ap numbers byte
 
--- the four numbers of a rule stand for it
+-- the four numbers of a rule stand for it, alone and before a number of neighbours
 pub rule-lent : (r : Rule) → RuleFits r → numbersFor (ruleLent r) ≡ numbersOf r
-rule-lent (Plain low high) f = refl
-rule-lent (Limited k) f = refl
-rule-lent (Affine segments smin smax) f = byte-of-segments segments smin smax (f .0)
+rule-lent = bytes-lent
 
--- and so do they before a number of neighbours
 pub pass-lent : (r : Rule) → RuleFits r → (number : ℕ) → numbersFor (passLent r number) ≡ numbersOf r
-pass-lent (Plain low high) f number = refl
-pass-lent (Limited k) f number = refl
-pass-lent (Affine segments smin smax) f number = byte-of-segments segments smin smax (f .0)
+pass-lent r f number = bytes-lent r f
 
 -- there are four numbers where a rule is lent
 pub four-lent : (count : ℕ) → ruled count ≡ true → 4 ≤ count

@@ -7,7 +7,7 @@
 --   passLent       the same and a number of neighbours
 use Prim.Native.Nat.{ℕ, min}
 use mathlib.Core.Bool.{Bool, _||_, cond}
-use mathlib.Core.List.{List, [], _∷_}
+use mathlib.Core.List.{List, [], _∷_, _++_}
 use lib.ListN.{length}
 use lib.Dec.{eqb}
 use Rattle.planes.specs.Lists.{at}
@@ -35,4 +35,4 @@ abbrev pub neighboursFor : List ℕ → ℕ
 neighboursFor rule = cond (eqb (length rule) 5) (min (at rule 4) 255) 4
 
 abbrev pub passLent : Rule → ℕ → List ℕ
-passLent rule number = let n = numbersOf rule in n .code ∷ n .first ∷ n .second ∷ n .extra ∷ number ∷ []
+passLent rule number = ruleLent rule ++ number ∷ []
