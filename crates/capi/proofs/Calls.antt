@@ -34,9 +34,11 @@ use Rattle.texts.proofs.Heading.{heading-short}
 use Rattle.netpbm.specs.declared.Header.{Header}
 use Rattle.netpbm.specs.declared.Header.the-variants as Header
 use Rattle.netpbm.specs.Reading.{readAnswer}
-use Rattle.netpbm.specs.declared.Written.{Written}
-use Rattle.netpbm.specs.Writing.{encoding, writeRefusal, writtenReply, WriteOutcome}
-use Rattle.netpbm.proofs.Writing.{wrote-size, wrote-writable}
+use Rattle.texts.specs.declared.Written.{Written}
+use Rattle.texts.specs.Writing.{writtenReply, WritingOutcome}
+use Rattle.texts.proofs.Writing.{wrote-size}
+use Rattle.netpbm.specs.Writing.{WriteOutcome}
+use Rattle.netpbm.proofs.Writing.{wrote-writable}
 use Rattle.cnumbers.specs.Numbers.{encoded, numberReply, doneReply, statusNumber, answerNumber, writtenNumber, Short}
 use Rattle.passlists.specs.Outcomes.{runListRefusal, ListOutcome}
 use Rattle.crules.specs.Rules.{numbersFor, neighboursFor}
@@ -66,12 +68,11 @@ recolour-coded {w} {h} {frame} {plane} {output} s e o = record {
   output-is = o .output-is;
 }
 
-pub write-coded : {w h : ℕ} {raster output output' : List ℕ} {r : ℤ} (s : Written) → r ≡ writtenNumber s
-    → WriteOutcome raster w h output (writtenReply s) output' → WriteOutcome raster w h output (numberReply r) output'
-write-coded {w} {h} {raster} {output} s e o = record {
-  answer = ap numberReply e
-      ∙ written-reads s (writeRefusal w h (length raster) (length output)) (length (encoding raster w h) ∷ [])
-      (o .answer);
+pub write-coded : {number : ℕ} {bytes output output' : List ℕ} {r : ℤ} (s : Written) → r ≡ writtenNumber s
+    → WritingOutcome number bytes output (writtenReply s) output'
+    → WritingOutcome number bytes output (numberReply r) output'
+write-coded {number} {bytes} s e o = record {
+  answer = ap numberReply e ∙ written-reads s number (length bytes ∷ []) (o .answer);
   output-is = o .output-is;
 }
 
@@ -339,13 +340,13 @@ read-framed {bytes} {numbers} e d f = record {
 -- ## Writing
 
 -- what is written is short
-pub write-short : {w h : ℕ} {raster output output' : List ℕ} (s : Written)
+pub write-short : (raster : List ℕ) (w h : ℕ) {output output' : List ℕ} (s : Written)
     → WriteOutcome raster w h output (writtenReply s) output' → Short s
-write-short {w} {h} {raster} {output} {output'} s o = record {
+write-short raster w h {output} {output'} s o = record {
   short = λ size e.
       let wrote : WriteOutcome raster w h output (gives (size ∷ [])) output' =
       subst (λ (x : Written). WriteOutcome raster w h output (writtenReply x) output') e o in
-      let fits = wrote-writable wrote in
+      let fits = wrote-writable raster w h wrote in
       let sides = fits .size in
       let short = heading-short w h (omega (arith, sides .narrow)) (omega (arith, sides .low)) in
       omega (arith, wrote-size wrote, length-append (heading w h) raster, sides .few, fits .filled);

@@ -3,7 +3,7 @@ use colours::Status;
 use model::Answer;
 use model::Counts;
 use netpbm::Header;
-use netpbm::Written;
+use texts::Written;
 
 // Ends a line.
 pub fn end() {

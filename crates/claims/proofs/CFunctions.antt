@@ -34,10 +34,11 @@ use Rattle.enhance.specs.Calls.{settingsRefusal, memoryRefusal, enhanceRefusal,
 use Rattle.passlists.specs.Outcomes.{runListRefusal, ListOutcome}
 use Rattle.netpbm.specs.declared.Header.{Header}
 use Rattle.netpbm.specs.declared.Header.the-variants.{Refused, Frame}
-use Rattle.netpbm.specs.declared.Written.{Written}
-use Rattle.netpbm.specs.declared.Written.the-variants as Written
+use Rattle.texts.specs.declared.Written.{Written}
+use Rattle.texts.specs.declared.Written.the-variants as Written
 use Rattle.netpbm.specs.Reading.{readAnswer}
-use Rattle.netpbm.specs.Writing.{writtenReply, WriteOutcome}
+use Rattle.netpbm.specs.Writing.{WriteOutcome}
+use Rattle.texts.specs.Writing.{writtenReply}
 use Rattle.netpbm.proofs.Replies.{refused-answer, framed-answer, refused-some}
 use Rattle.cnumbers.specs.Numbers.{encoded, numberReply, doneReply, statusNumber, writtenNumber}
 use Rattle.cnumbers.specs.Numbers.{countsRefusal, countsReply}
@@ -318,7 +319,7 @@ c-functions = record {
       (enhance-ruled z (numbersFor rule) t frame plane marks queue output numbers fine
       ∙ too-few number numbers few)
       (some-14 number) O;
-  of-write = λ w h {raster} {output} {output'} r O.
+  of-write = λ raster w h {output} {output'} r O.
       stands-written (λ y. WriteOutcome raster w h output y output') r O;
   of-read-refused = λ bytes numbers r k e R. read-refuses bytes numbers r R k (refused-answer bytes greatestPixels e);
   of-read = λ bytes numbers r w h offset e R. reads bytes numbers r R w h offset (framed-answer bytes greatestPixels e);

@@ -111,7 +111,7 @@ demand-1 = record {
   of-enhance = λ z t frame O. (outcome-listed (O .retoned), unwritten O);
   of-list = λ z list O. (outcome-listed O, unchanged O);
   of-passes = λ z ss O. (outcome-listed O, unchanged O);
-  of-write = λ w h {raster} {output} O.
+  of-write = λ raster w h {output} O.
       let number = writeRefusal w h (length raster) (length output) in
       let values = length (encoding raster w h) ∷ [] in
       let new = overwritten output (encoding raster w h) in
@@ -161,7 +161,7 @@ demand-2 = record {
       );
   of-list = λ z list {plane} O. had (run-sufficient (passNeighbours z) (passesOf list) plane) O;
   of-passes = λ z ss {plane} O. had (run-sufficient (passNeighbours z) ss plane) O;
-  of-write = λ w h {raster} {output} O.
+  of-write = λ raster w h {output} O.
       let number = writeRefusal w h (length raster) (length output) in
       let given = replied-gives number (length (encoding raster w h) ∷ []) (sym (O .answer)) in
       (given .1, O .output-is ∙ ap (λ (x : ℕ). after x output (overwritten output (encoding raster w h))) (given .0));

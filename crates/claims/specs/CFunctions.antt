@@ -24,7 +24,8 @@ use Rattle.passes.specs.Calls.{passCallRefusal, PassOutcome}
 use Rattle.enhance.specs.Calls.{memoryRefusal, enhanceCallRefusal, EnhanceOutcome}
 use Rattle.passlists.specs.Outcomes.{runListRefusal, ListOutcome}
 use Rattle.netpbm.specs.Reading.{readReply}
-use Rattle.netpbm.specs.Writing.{writtenReply, WriteOutcome}
+use Rattle.netpbm.specs.Writing.{WriteOutcome}
+use Rattle.texts.specs.Writing.{writtenReply}
 use Rattle.cnumbers.specs.Numbers.{numberReply, doneReply, statusNumber, answerNumber, countsAfter, writtenNumber}
 use Rattle.crules.specs.Rules.{numbersFor, neighboursFor, ruleLent, passLent}
 use Rattle.cnumbers.specs.Numbers.{passOf, settingsOf}
@@ -118,7 +119,7 @@ pub record CFunctions : Type 0 where
       ≡ refuses (enhanceCallRefusal (shapeOf w h) (settingsOf last area rule) frame plane marks queue
       output ▷ 14))
       × (((plane' ≡ plane) × ((marks' ≡ marks) × ((queue' ≡ queue) × (output' ≡ output)))) × (numbers' ≡ numbers))
-  pub of-write : (w h : ℕ) {raster output output' : List ℕ} (r : ℤ)
+  pub of-write : (raster : List ℕ) (w h : ℕ) {output output' : List ℕ} (r : ℤ)
       → WriteOutcome raster w h output (numberReply r) output'
       → Stands writtenNumber (λ s. WriteOutcome raster w h output (writtenReply s) output') r
   -- a refusal of reading is answered, and the lent numbers stay

@@ -143,7 +143,7 @@ pub record Demand1 : Type 0 where
       → PassesOutcome z ss plane marks queue reply plane' marks' queue'
       → AsListed (runPassesRefusal z ss plane marks queue) reply
       × ((k : ℕ) → reply ≡ refuses k → (plane' ≡ plane) × ((marks' ≡ marks) × (queue' ≡ queue)))
-  pub of-write : (w h : ℕ) {raster output output' : List ℕ} {reply : Reply}
+  pub of-write : (raster : List ℕ) (w h : ℕ) {output output' : List ℕ} {reply : Reply}
       → WriteOutcome raster w h output reply output'
       → AsListed (writeRefusal w h (length raster) (length output)) reply
       × ((k : ℕ) → reply ≡ refuses k → output' ≡ output)
@@ -194,7 +194,7 @@ pub record Demand2 : Type 0 where
       → PassesOutcome z ss plane marks queue (gives values) plane' marks' queue'
       → Had (pixels z) (runEffect (passNeighbours z) ss plane) (runSufficient (passNeighbours z) ss plane)
       marks queue values plane' marks' queue'
-  pub of-write : (w h : ℕ) {raster output values output' : List ℕ}
+  pub of-write : (raster : List ℕ) (w h : ℕ) {output values output' : List ℕ}
       → WriteOutcome raster w h output (gives values) output'
       → (values ≡ length (encoding raster w h) ∷ []) × (output' ≡ overwritten output (encoding raster w h))
 

@@ -33,7 +33,8 @@ use Rattle.passlists.proofs.run_list.Reads as run-list-reads
 use Rattle.passarrays.proofs.run_array as run-array
 use Rattle.passarrays.proofs.run_array.Reads as run-array-reads
 use Rattle.netpbm.specs.Reading.{headerReply, readReply}
-use Rattle.netpbm.specs.Writing.{writtenReply, WriteOutcome}
+use Rattle.netpbm.specs.Writing.{WriteOutcome}
+use Rattle.texts.specs.Writing.{writtenReply}
 use Rattle.netpbm.proofs.read as read
 use Rattle.netpbm.proofs.read.Reads as read-reads
 use Rattle.netpbm.proofs.read_within as read-within

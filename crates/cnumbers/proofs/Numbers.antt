@@ -20,9 +20,9 @@ use Rattle.colours.specs.declared.Status.the-variants as Status
 use Rattle.model.specs.Outcomes.{answerReply}
 use Rattle.model.specs.declared.Answer.{Answer}
 use Rattle.model.specs.declared.Answer.the-variants as Answer
-use Rattle.netpbm.specs.Writing.{writtenReply}
-use Rattle.netpbm.specs.declared.Written.{Written}
-use Rattle.netpbm.specs.declared.Written.the-variants as Written
+use Rattle.texts.specs.Writing.{writtenReply}
+use Rattle.texts.specs.declared.Written.{Written}
+use Rattle.texts.specs.declared.Written.the-variants as Written
 use Rattle.cnumbers.specs.Numbers.{encoded, numberReply, doneReply, statusNumber, answerNumber, writtenNumber}
 use Rattle.cnumbers.specs.Numbers.{countsAfter, countsReply}
 

@@ -28,8 +28,8 @@ use Rattle.model.specs.declared.Answer.{Answer}
 use Rattle.model.specs.declared.Answer.the-variants as Answer
 use Rattle.netpbm.specs.declared.Header.{Header}
 use Rattle.netpbm.specs.declared.Header.the-variants as Header
-use Rattle.netpbm.specs.declared.Written.{Written}
-use Rattle.netpbm.specs.declared.Written.the-variants as Written
+use Rattle.texts.specs.declared.Written.{Written}
+use Rattle.texts.specs.declared.Written.the-variants as Written
 use Rattle.levels.specs.declared.Settings.{Settings}
 use Rattle.tones.specs.Numbers.{ruleOf}
 use Rattle.crules.specs.Rules.{numbersFor, neighboursFor}

@@ -21,9 +21,9 @@ use colours::Status;
 use model::Answer;
 use model::Counts;
 use netpbm::Header;
-use netpbm::Written;
 use planes::Shape;
 use planes::refused::OUTPUT;
+use texts::Written;
 use tones::RuleNumbers;
 
 // A refusal as a number; 0 for none.

@@ -30,7 +30,8 @@ use Rattle.netpbm.specs.Frames.{IsFrame}
 use Rattle.netpbm.specs.Writing.{encoding, WriteOutcome}
 use Rattle.netpbm.specs.declared.Header.the-variants.{Frame}
 use Rattle.netpbm.proofs.Frames.{accepted-iff}
-use Rattle.netpbm.proofs.Writing.{wrote-size, wrote-writable, wrote-frame}
+use Rattle.texts.proofs.Writing.{wrote-size, wrote-bytes}
+use Rattle.netpbm.proofs.Writing.{wrote-writable}
 
 one-space : (b : ℕ) → isWhite b ≡ true → Gap (b ∷ [])
 one-space b e = one (white e)
@@ -92,12 +93,12 @@ pub record ReadsBack (raster : List ℕ) (w h limit size : ℕ) (output' : List 
   pub stands : drop (size - length raster) (take size output') ≡ raster
   pub uncommented : signless (take size output') raster ≡ true
 
-module _ {raster : List ℕ} {w h : ℕ} {output : List ℕ} {size : ℕ} {output' : List ℕ}
+module _ (raster : List ℕ) (w h : ℕ) {output : List ℕ} {size : ℕ} {output' : List ℕ}
     (wrote : WriteOutcome raster w h output (gives (size ∷ [])) output') where
   pub reads-back : (limit : ℕ) → w * h ≤ limit → ReadsBack raster w h limit size output'
   reads-back limit few =
       let frame = encoding raster w h in
-      let fine = wrote-writable wrote in
+      let fine = wrote-writable raster w h wrote in
       let s = fine .size in
       let whole = wrote-size wrote in
       let counted = length-append (heading w h) raster in
@@ -111,10 +112,10 @@ module _ {raster : List ℕ} {w h : ℕ} {output : List ℕ} {size : ℕ} {outpu
         placed = omega arith;
       } in
       record {
-        answers = rw (wrote-frame wrote) (accepted-iff frame limit w h (size - length raster) .1 is-frame);
-        stands = rw (wrote-frame wrote) (drop-at (heading w h) raster (size - length raster) place);
-        uncommented = rw (wrote-frame wrote) (signless-frame raster w h (omega arith) (omega arith));
+        answers = rw (wrote-bytes wrote) (accepted-iff frame limit w h (size - length raster) .1 is-frame);
+        stands = rw (wrote-bytes wrote) (drop-at (heading w h) raster (size - length raster) place);
+        uncommented = rw (wrote-bytes wrote) (signless-frame raster w h (omega arith) (omega arith));
       }
 
   pub round-trip : ReadsBack raster w h greatestPixels size output'
-  round-trip = reads-back greatestPixels (wrote-writable wrote .size .few)
+  round-trip = reads-back greatestPixels (wrote-writable raster w h wrote .size .few)

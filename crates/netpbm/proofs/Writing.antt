@@ -1,26 +1,16 @@
--- What writing leaves.
---
---   writable, writable-none         nothing is refused exactly where size, raster and room are as they should
---   wrote-refused, wrote-accepted   the contract, from a refusal and from bytes put into the output
---   wrote-frame, wrote-beyond       the first bytes are the frame, and those beyond it are as they were
---
--- Assumes nothing.
-use Prim.Native.Nat.{ℕ, zero, suc, _+_, _*_, _≤_}
-use mathlib.Core.Path.{_≡_, refl, sym, ap, _∙_}
-use mathlib.Core.List.{List, [], _∷_, _++_}
-use native.Mathlib.Nat.{zero-add}
-use lib.ListN.{length, take, drop}
-use lib.Seq.{take-at, drop-at}
+-- What a frame has that is written: nothing is refused exactly where size, raster and room are as they should. Assumes
+-- nothing.
+use Prim.Native.Nat.{ℕ, _+_, _*_, _≤_}
+use mathlib.Core.Path.{_≡_}
+use mathlib.Core.List.{List, [], _∷_}
+use lib.ListN.{length}
 use Rattle.planes.specs.Refusals.{_▷_, sizeRefusal, lengthRefusal, outputRefusal, greatestPixels, Sized}
 use Rattle.planes.proofs.Refusals.{▷-none, ▷-both, sized, sized-none, length-fits, length-none}
 use Rattle.planes.proofs.Refusals.{output-fits, output-none}
-use Rattle.planes.specs.Lists.{at}
 use Rattle.planes.specs.Replies.{gives}
-use Rattle.planes.proofs.Replies.{replied-gives}
-use Rattle.texts.specs.Placing.{Put}
 use Rattle.texts.specs.Heading.{heading}
-use Rattle.netpbm.specs.Writing.{encoding, writeRefusal, writtenReply, WriteOutcome}
-use Rattle.netpbm.specs.declared.Written.the-variants.{Refused, Length}
+use Rattle.texts.proofs.Writing.{wrote-none}
+use Rattle.netpbm.specs.Writing.{writeRefusal, WriteOutcome}
 
 -- what holds where writing is not refused
 pub record Writable (w h raster output : ℕ) : Type 0 where
@@ -49,44 +39,7 @@ writable-none {w} {h} {raster} {output} fine =
     let room-none = output-none output (length (heading w h) + raster) (fine .room) in
     ▷-both _ _ (sized-none w h greatestPixels (fine .size)) (▷-both _ _ raster-none room-none)
 
-module _ (raster : List ℕ) (w h : ℕ) (output : List ℕ) where
-  pub wrote-refused : (k : ℕ) → k ≡ writeRefusal w h (length raster) (length output) → (k ≡ 0 → ⊥)
-      → WriteOutcome raster w h output (writtenReply (Refused k)) output
-  wrote-refused zero e some = absurd (some refl)
-  wrote-refused (suc k) e some = record { answer = rw (← e); output-is = rw (← e) }
-
-  pub wrote-accepted : (r : ℕ) (output' : List ℕ) → writeRefusal w h (length raster) (length output) ≡ 0
-      → Put output 0 (encoding raster w h) r output'
-      → WriteOutcome raster w h output (writtenReply (Length r)) output'
-  wrote-accepted r output' e p =
-      let size = length (encoding raster w h) in
-      let whole : r ≡ size = p .next ∙ zero-add size in
-      record {
-        answer = rw e (ap (λ (n : ℕ). gives (n ∷ [])) whole);
-        output-is = rw e (p .leaves ∙ ap (λ (n : ℕ). encoding raster w h ++ drop n output) (zero-add size));
-      }
-
-module _ {raster : List ℕ} {w h : ℕ} {output : List ℕ} {size : ℕ} {output' : List ℕ}
-    (wrote : WriteOutcome raster w h output (gives (size ∷ [])) output') where
-  told : (writeRefusal w h (length raster) (length output) ≡ 0) × (size ≡ length (encoding raster w h))
-  told =
-      let refusal = writeRefusal w h (length raster) (length output) in
-      let given = replied-gives refusal (length (encoding raster w h) ∷ []) (sym (wrote .answer)) in
-      (given .0, ap (λ (vs : List ℕ). at vs 0) (given .1))
-
-  pub wrote-size : size ≡ length (encoding raster w h)
-  wrote-size = told .1
-
-  pub wrote-writable : Writable w h (length raster) (length output)
-  wrote-writable = writable w h (length raster) (length output) (told .0)
-
-  left : output' ≡ encoding raster w h ++ drop size output
-  left =
-      let frame = encoding raster w h in
-      wrote .output-is ∙ rw (told .0, told .1)
-
-  pub wrote-frame : take size output' ≡ encoding raster w h
-  wrote-frame = ap (take size) left ∙ take-at (encoding raster w h) (drop size output) size (sym wrote-size)
-
-  pub wrote-beyond : drop size output' ≡ drop size output
-  wrote-beyond = ap (drop size) left ∙ drop-at (encoding raster w h) (drop size output) size (sym wrote-size)
+-- where writing answers a length, nothing was refused
+pub wrote-writable : (raster : List ℕ) (w h : ℕ) {output : List ℕ} {size : ℕ} {output' : List ℕ}
+    → WriteOutcome raster w h output (gives (size ∷ [])) output' → Writable w h (length raster) (length output)
+wrote-writable raster w h {output} wrote = writable w h (length raster) (length output) (wrote-none wrote)

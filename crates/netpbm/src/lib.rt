@@ -6,9 +6,11 @@
 ghost use mathlib.Core.Path.{_≡_};
 ghost use Rattle.planes.specs.Refusals.{greatestPixels};
 ghost use Rattle.netpbm.specs.Reading.{frameRefusal, headerReply, readReply};
-ghost use Rattle.netpbm.specs.Writing.{writeRefusal, writtenReply, WriteOutcome};
+ghost use Rattle.texts.specs.Writing.{writtenReply};
+ghost use Rattle.netpbm.specs.Writing.{writeRefusal, WriteOutcome};
 use headers::Fields;
 use planes::refused;
+use texts::Written;
 
 // The third number of a header: the greatest value of a channel.
 const MAXVAL: usize = 255;
@@ -17,12 +19,6 @@ const MAXVAL: usize = 255;
 pub enum Header {
     Refused(u8),
     Frame { w: usize, h: usize, offset: usize },
-}
-
-// The answer to writing: the number of bytes written, or the refusal's number.
-pub enum Written {
-    Refused(u8),
-    Length(usize),
 }
 
 // The refusal of a frame whose header has these numbers and is followed by `raster` bytes, or 0.

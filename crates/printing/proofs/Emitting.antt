@@ -9,7 +9,7 @@ use lib.Seq.{take-at, drop-at}
 use Rattle.planes.specs.Replies.{gives}
 use Rattle.texts.specs.Placing.{Put}
 use Rattle.netpbm.specs.Writing.{encoding, WriteOutcome}
-use Rattle.netpbm.proofs.Writing.{wrote-size, wrote-frame, wrote-beyond}
+use Rattle.texts.proofs.Writing.{wrote-size, wrote-bytes, wrote-beyond}
 use Rattle.printing.specs.Printing.{Emitted}
 
 -- bytes that were put from the beginning on
@@ -27,9 +27,9 @@ emitted-put {bytes} {output} {output'} {r} p =
     }
 
 -- a frame that was written
-pub emitted-wrote : {raster output output' : List ℕ} {w h size : ℕ}
+pub emitted-wrote : (raster : List ℕ) (w h : ℕ) {output output' : List ℕ} {size : ℕ}
     → WriteOutcome raster w h output (gives (size ∷ [])) output'
     → Emitted (encoding raster w h) output size output'
-emitted-wrote {output' = output'} {size = size} wrote =
-    let counted = sym (length-take size output') ∙ ap length (wrote-frame wrote) ∙ sym (wrote-size wrote) in
-    record { within = omega arith; written = wrote-frame wrote; beyond = wrote-beyond wrote }
+emitted-wrote raster w h {output' = output'} {size = size} wrote =
+    let counted = sym (length-take size output') ∙ ap length (wrote-bytes wrote) ∙ sym (wrote-size wrote) in
+    record { within = omega arith; written = wrote-bytes wrote; beyond = wrote-beyond wrote }

@@ -22,9 +22,10 @@ use Rattle.enhance.specs.Calls.{EnhanceOutcome}
 use Rattle.texts.specs.Heading.{heading}
 use Rattle.texts.proofs.Heading.{heading-short}
 use Rattle.netpbm.specs.Frames.{IsFrame}
-use Rattle.netpbm.specs.Writing.{encoding, writeRefusal, writtenReply, WriteOutcome}
-use Rattle.netpbm.specs.declared.Written.{Written}
-use Rattle.netpbm.specs.declared.Written.the-variants.{Refused, Length}
+use Rattle.texts.specs.Writing.{writtenReply}
+use Rattle.netpbm.specs.Writing.{encoding, writeRefusal, WriteOutcome}
+use Rattle.texts.specs.declared.Written.{Written}
+use Rattle.texts.specs.declared.Written.the-variants.{Refused, Length}
 use Rattle.netpbm.proofs.Writing.{writable-none}
 use Rattle.printing.specs.Printing.{greatestFrame, enhancedFrame, Emitted}
 use Rattle.printing.proofs.Emitting.{emitted-wrote}
@@ -106,20 +107,20 @@ module _ {input : List ℕ} {w h offset : ℕ} (f : IsFrame input greatestFrame 
       ∙ ap (λ (l : List ℕ). recolour l (chainOf (shapeOf w h) house l .plane)) frame-is
 
   -- which is what is written
-  pub emitted-enhanced : {new output output' : List ℕ} {answer : Written} {size : ℕ}
+  pub emitted-enhanced : (new : List ℕ) {output output' : List ℕ} {answer : Written} {size : ℕ}
       → WriteOutcome new w h output (writtenReply answer) output' → answer ≡ Length size
       → new ≡ recolour raster (chainOf (shapeOf w h) house raster .plane)
       → Emitted (enhancedFrame raster w h) output size output'
   unfolding enhancedFrame
-  emitted-enhanced {new} {output} {output'} {size = size} wrote answer-is new-is =
+  emitted-enhanced new {output} {output'} {size = size} wrote answer-is new-is =
       let written = subst (λ (r : Written). WriteOutcome new w h output (writtenReply r) output') answer-is wrote in
-      subst (λ (l : List ℕ). Emitted (encoding l w h) output size output') new-is (emitted-wrote written)
+      subst (λ (l : List ℕ). Emitted (encoding l w h) output size output') new-is (emitted-wrote new w h written)
 
   -- and is not refused
-  pub never-refused : {new output output' : List ℕ} {answer : Written} {number : ℕ}
+  pub never-refused : (new : List ℕ) {output output' : List ℕ} {answer : Written} {number : ℕ}
       → WriteOutcome new w h output (writtenReply answer) output' → answer ≡ Refused number → length new ≡ 3 * (w * h)
       → 65536 ≤ length output → ⊥
-  never-refused {new} {output} wrote answer-is counted room =
+  never-refused new {output} wrote answer-is counted room =
       let few = f .sized .few in
       let fits : 3 * (w * h) + 21 ≤ length output = omega arith in
       let accepted = write-accepts (f .sized) counted fits in

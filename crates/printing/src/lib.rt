@@ -6,8 +6,8 @@ ghost use lib.ListN.{drop};
 ghost use Rattle.netpbm.specs.Frames.{IsFrame};
 ghost use Rattle.printing.specs.Printing.{greatestFrame, refusalLine, enhancedFrame, Emitted};
 use enhance::Settings;
-use netpbm::Written;
 use planes::Shape;
+use texts::Written;
 
 // The greatest number of pixels of a frame.
 pub const PIXELS: usize = 16384;

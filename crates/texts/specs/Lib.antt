@@ -1,3 +1,4 @@
 pub mod Ascii
 pub mod Placing
 pub mod Heading
+pub mod Writing

@@ -1,5 +1,6 @@
 // ASCII text put into an output: bytes, decimal numbers, and the heading of a P6 frame.
 //
+// Written          the answer of a call that writes into an output
 // heading_length   how many bytes a heading has
 // put_bytes        bytes into an output that has room for them, from a place on; the place after them
 // put_number       the decimal digits of a number, likewise
@@ -10,6 +11,12 @@ ghost use lib.ListN.{length};
 ghost use Rattle.texts.specs.Ascii.{decimal};
 ghost use Rattle.texts.specs.Placing.{Put};
 ghost use Rattle.texts.specs.Heading.{heading};
+
+// The answer of a call that writes into an output: the number of bytes written, or the refusal's number.
+pub enum Written {
+    Refused(u8),
+    Length(usize),
+}
 
 // How many digits a number below 10,000 has.
 fn digits_of(x: usize) -> usize

@@ -3,6 +3,7 @@
 use Rattle.cnumbers.proofs.Numbers.{returned}
 use Rattle.capi.proofs.Calls.{write-coded, write-short}
 use borrow.Author.Needs.{needs}
+use denote.Ref.{now}
 use Rattle.capi.proofs.mlhe_write.Statement.{statement}
 use Rattle.capi.proofs.mlhe_write.Tie as tie
 
@@ -10,7 +11,10 @@ write-requires : tie.Need-write-requires
 write-requires c κs = search needs
 
 written-number-requires : tie.Need-written-number-requires
-written-number-requires c κs = write-short (c .before .before .write .result) (c .before .before .write .ensures)
+written-number-requires c κs =
+    let args = c .before .before .before .before .before .before .args in
+    write-short (now (args .raster)) (args .w) (args .h) (c .before .before .write .result)
+    (c .before .before .write .ensures)
 
 same-length : tie.Need-same-length
 same-length c = search needs

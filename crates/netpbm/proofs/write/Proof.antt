@@ -7,7 +7,8 @@ use lib.ListN.{length}
 use denote.Ref.{now}
 use Rattle.texts.proofs.Placing.{put-more}
 use Rattle.netpbm.specs.Writing.{writeRefusal}
-use Rattle.netpbm.proofs.Writing.{Writable, writable, wrote-refused, wrote-accepted}
+use Rattle.texts.proofs.Writing.{wrote-refused, wrote-accepted}
+use Rattle.netpbm.proofs.Writing.{Writable, writable}
 use Rattle.netpbm.proofs.write.Statement.{statement}
 use Rattle.netpbm.proofs.write.Tie as tie
 
@@ -31,8 +32,8 @@ write-refusal-requires c κs = search needs
 returns : tie.Need-returns
 returns c =
     let args = c .before .before .before .before .args in
-    wrote-refused (now (args .raster)) (args .w) (args .h) (now (args .output)) (c .before .write-refusal .result)
-    (c .before .write-refusal .ensures) (c .if1 .taken)
+    wrote-refused _ _ (now (args .output)) (c .before .write-refusal .result) (c .before .write-refusal .ensures)
+    (c .if1 .taken)
 
 put-heading-requires : tie.Need-put-heading-requires
 put-heading-requires c κs =
@@ -57,8 +58,8 @@ returns-2 c =
     let args = start free .args in
     let room = fine free .room in
     let whole = put-more (heading .put-heading .ensures) (putting .put-bytes .ensures) (omega arith) in
-    wrote-accepted (now (args .raster)) (args .w) (args .h) (now (args .output)) (putting .put-bytes .result)
-    (putting .put-bytes .last .0) (accepted free) whole
+    wrote-accepted _ _ (now (args .output)) (putting .put-bytes .result) (putting .put-bytes .last .0) (accepted free)
+    whole
 
 pub write-spec : {M : Type 1} → statement M
 write-spec =

@@ -84,7 +84,7 @@ returns c =
       queued = omega arith;
       coloured = omega arith;
     }) in
-    emitted-enhanced (s .pre) (writing .write .ensures) (c .before .written .given .1) enhanced
+    emitted-enhanced (s .pre) _ (writing .write .ensures) (c .before .written .given .1) enhanced
 
 returns-2 : tie.Need-returns-2
 returns-2 c =
@@ -92,7 +92,8 @@ returns-2 c =
     let s = start writing in
     let few = s .pre .sized .few in
     let refusal = c .enum-told .given .1 in
-    absurd (never-refused (s .pre) (writing .write .ensures) refusal (length-take-le _ _ (search needs)) (search needs))
+    absurd
+    (never-refused (s .pre) _ (writing .write .ensures) refusal (length-take-le _ _ (search needs)) (search needs))
 
 pub put-enhanced-spec : {M : Type 1} → statement M
 put-enhanced-spec =
