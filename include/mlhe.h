@@ -19,8 +19,9 @@
  *
  * Answers. Every function answers one number. A negative answer -k is refusal k of enum mlhe_refusal: the first that
  * applies, in the order that is given with the function. A refused call changes no lent byte. Any other answer is the
- * function's own: a function that has one number to tell answers it (mlhe_write); one that has several puts them into
- * lent numbers and answers 0 (mlhe_read, mlhe_pass, mlhe_run_list, mlhe_enhance), as does one that has none.
+ * function's own: a function that has one number to tell answers it (mlhe_write, mlhe_convert_list); one that has
+ * several puts them into lent numbers and answers 0 (mlhe_read, mlhe_pass, mlhe_run_list, mlhe_enhance), as does one
+ * that has none.
  *
  * Counts. A component is of sufficient area if it has at least the least area of its pass. Each of these is retoned or
  * kept back, so that both numbers together are the components of sufficient area, in the plane as the pass finds it. A
@@ -35,7 +36,8 @@
  *
  * No overlap. Within one call no writable memory may overlap any other memory of the call. The proofs are made under
  * this condition, and the code cannot test it: a call with memory that overlaps may leave anything, write outside of
- * what is lent, or crash. Neither the plane nor the output of an enhancement can be the frame's own memory.
+ * what is lent, or crash. Neither the plane nor the output of an enhancement can be the frame's own memory, nor the
+ * output of a conversion the list's.
  *
  * Stack. MLHE_STACK bytes are enough for a call, on planes of every size. This is measured (tests/c/stack.c), not
  * proved: an enhancement takes about 6 KB and every other call about 2 KB.
@@ -48,9 +50,9 @@
 
 /* The version of this header and of the library that it was made with. The library itself does not tell its version. */
 #define MLHE_VERSION_MAJOR 0
-#define MLHE_VERSION_MINOR 4
+#define MLHE_VERSION_MINOR 5
 #define MLHE_VERSION_PATCH 0
-#define MLHE_VERSION "0.4.0"
+#define MLHE_VERSION "0.5.0"
 
 #ifdef __cplusplus
 extern "C" {
@@ -58,25 +60,26 @@ extern "C" {
 
 /* What is turned down. A function answers the number with a minus sign. */
 enum mlhe_refusal {
-    MLHE_REFUSED_SIDES = 1,         /* a side is 0 or above MLHE_GREATEST_SIDE */
-    MLHE_REFUSED_PIXELS = 2,        /* more than MLHE_GREATEST_PIXELS pixels */
-    MLHE_REFUSED_LENGTHS = 3,       /* the plane is not n bytes, or the frame not 3 * n */
-    MLHE_REFUSED_MEMORY = 4,        /* marks or queue have fewer than n elements */
-    MLHE_REFUSED_INTERVAL = 5,      /* a is above b */
-    MLHE_REFUSED_AREA = 6,          /* the least area is 0 or above MLHE_GREATEST_PIXELS */
-    MLHE_REFUSED_LIMITS = 7,        /* plain: low is above high, or high above 25,500 */
-    MLHE_REFUSED_CLIP = 8,          /* limited: k is above 1,000 */
-    MLHE_REFUSED_LEVEL = 9,         /* the last level is above 7 */
-    MLHE_REFUSED_HEADER = 10,       /* the header is malformed, or the bytes end in it, be it in a comment */
-    MLHE_REFUSED_MAXVAL = 11,       /* the header's third number is not 255 */
-    MLHE_REFUSED_RASTER = 12,       /* the raster is short */
-    MLHE_REFUSED_TRAILING = 13,     /* there are bytes after the raster */
-    MLHE_REFUSED_OUTPUT = 14,       /* the output, the numbers of mlhe_read or the counts are shorter than needed */
-    MLHE_REFUSED_LIST_MARK = 15,    /* a pass list's mark or version is wrong */
-    MLHE_REFUSED_LIST_LENGTH = 16,  /* a pass list's count or length is wrong */
-    MLHE_REFUSED_RULE = 17,         /* no such rule, a set number that has to be 0, or neither 4 nor 5 lent numbers */
-    MLHE_REFUSED_SLOPES = 18,       /* affine: 0 or more than 16 segments, smin above smax, or smax above 10,000 */
-    MLHE_REFUSED_NEIGHBOURS = 19    /* the number of neighbours is neither 4 nor 8 */
+    MLHE_REFUSED_SIDES = 1,             /* a side is 0 or above MLHE_GREATEST_SIDE */
+    MLHE_REFUSED_PIXELS = 2,            /* more than MLHE_GREATEST_PIXELS pixels */
+    MLHE_REFUSED_LENGTHS = 3,           /* the plane is not n bytes, or the frame not 3 * n */
+    MLHE_REFUSED_MEMORY = 4,            /* marks or queue have fewer than n elements */
+    MLHE_REFUSED_INTERVAL = 5,          /* a is above b */
+    MLHE_REFUSED_AREA = 6,              /* the least area is 0 or above MLHE_GREATEST_PIXELS */
+    MLHE_REFUSED_LIMITS = 7,            /* plain: low is above high, or high above 25,500 */
+    MLHE_REFUSED_CLIP = 8,              /* limited: k is above 1,000 */
+    MLHE_REFUSED_LEVEL = 9,             /* the last level is above 7 */
+    MLHE_REFUSED_HEADER = 10,           /* the header is malformed, or the bytes end in it, be it in a comment */
+    MLHE_REFUSED_MAXVAL = 11,           /* the header's third number is not 255 */
+    MLHE_REFUSED_RASTER = 12,           /* the raster is short */
+    MLHE_REFUSED_TRAILING = 13,         /* there are bytes after the raster */
+    MLHE_REFUSED_OUTPUT = 14,           /* the output, the numbers of mlhe_read or the counts are shorter than needed */
+    MLHE_REFUSED_LIST_MARK = 15,        /* a pass list's mark or version is wrong */
+    MLHE_REFUSED_LIST_LENGTH = 16,      /* a pass list's count or length is wrong */
+    MLHE_REFUSED_RULE = 17,             /* no such rule, a number set that has to be 0, or not 4 or 5 lent numbers */
+    MLHE_REFUSED_SLOPES = 18,           /* affine: 0 or more than 16 segments, smin above smax, or smax above 10,000 */
+    MLHE_REFUSED_NEIGHBOURS = 19,       /* the number of neighbours is neither 4 nor 8 */
+    MLHE_REFUSED_EIGHT_NEIGHBOURS = 20  /* a pass with eight neighbours does not fit a list of version 1 */
 };
 
 /*
@@ -133,8 +136,10 @@ enum {
     MLHE_PASS_NUMBERS = 5,
     /* The most bytes that mlhe_write puts before the raster: P6, LF, width, space, height, LF, 255, LF. */
     MLHE_GREATEST_HEADER = 17,
-    /* The most passes of a list, the greatest last level, the greatest numbers of the rules. */
+    /* The most passes of a list, and the most bytes: those of as many passes in version 2. */
     MLHE_GREATEST_PASSES = 1024,
+    MLHE_GREATEST_LIST = 16391,
+    /* The greatest last level, the greatest numbers of the rules. */
     MLHE_GREATEST_LEVEL = 7,
     MLHE_GREATEST_HIGH = 25500,
     MLHE_GREATEST_CLIP = 1000,
@@ -159,7 +164,7 @@ static inline const char *mlhe_reason(int64_t answer) {
     if (answer >= 0) {
         return "it was not refused";
     }
-    switch (answer < -MLHE_REFUSED_NEIGHBOURS ? 0 : (int)-answer) {
+    switch (answer < -MLHE_REFUSED_EIGHT_NEIGHBOURS ? 0 : (int)-answer) {
     case MLHE_REFUSED_SIDES: return "a side is 0 or above 4,096";
     case MLHE_REFUSED_PIXELS: return "there are more than 1,048,576 pixels";
     case MLHE_REFUSED_LENGTHS: return "the plane or the frame does not have the length of its sides";
@@ -174,12 +179,13 @@ static inline const char *mlhe_reason(int64_t answer) {
     case MLHE_REFUSED_RASTER: return "the raster is short";
     case MLHE_REFUSED_TRAILING: return "there are bytes after the raster";
     case MLHE_REFUSED_OUTPUT: return "the output is too short";
-    case MLHE_REFUSED_LIST_MARK: return "it is no pass list of version 1";
+    case MLHE_REFUSED_LIST_MARK: return "it is no pass list of version 1 or 2";
     case MLHE_REFUSED_LIST_LENGTH: return "the pass list's count or length is wrong";
     case MLHE_REFUSED_RULE: return "there is no such tone rule, or a number that has to be 0 is set";
     case MLHE_REFUSED_SLOPES:
         return "there are 0 segments or more than 16, smin is above smax, or smax is above 10,000";
     case MLHE_REFUSED_NEIGHBOURS: return "the number of neighbours is neither 4 nor 8";
+    case MLHE_REFUSED_EIGHT_NEIGHBOURS: return "a pass with eight neighbours does not fit version 1";
     default: return "there is no such refusal";
     }
 }
@@ -243,21 +249,37 @@ int64_t mlhe_pass(uint8_t *plane, size_t plane_length, uint8_t *marks, size_t ma
                   size_t rule_length, size_t *counts, size_t counts_length);
 
 /*
- * The passes of a list, one after the other. All records are checked before the first pass runs. A list of version 1
- * has no place for the neighbours: each of its passes has four. A chain with eight is run by mlhe_pass, pass by pass.
+ * The passes of a list, one after the other. All records are checked before the first pass runs. Lists of version 1 and
+ * of version 2 are read: in version 2 each pass has its own number of neighbours; version 1 has no place for it, and
+ * each pass has four.
  *
- * list      the bytes MLP, version 1 and the count of passes (0 to 1,024), both 16-bit, then 12 bytes for each pass:
- *           a, b, the rule's code, segments (0 but for affine), area (32-bit), first and second (16-bit); of each
- *           number the low byte first
+ * list      the bytes MLP, the version and the count of passes (0 to 1,024), both 16-bit, then a record for each pass.
+ *           In version 1 it has 12 bytes: a, b, the rule's code, segments (0 but for affine), area (32-bit), first and
+ *           second (16-bit); of each number the low byte first. In version 2 it has 16: the same 12, the number of
+ *           neighbours (one of enum mlhe_neighbours), and three bytes that are 0
  * plane, marks, queue   as for mlhe_pass
  * counts    as for mlhe_pass: the sums of the passes' counts, 0 and 0 for a list of no passes
  *
  * Answers 0. Refusals, in order: 1, 2, 3, 4, 16 (fewer than 7 bytes), 15, 16, then for each record 17, 5, 6, 7, 8, 18,
- * and 14 where counts has fewer than 2 elements.
+ * 19, and 14 where counts has fewer than 2 elements. 19 is of version 2 alone.
  */
 int64_t mlhe_run_list(const uint8_t *list, size_t list_length, uint8_t *plane, size_t plane_length, uint8_t *marks,
                       size_t marks_length, uint32_t *queue, size_t queue_length, size_t w, size_t h, size_t *counts,
                       size_t counts_length);
+
+/*
+ * Converts a list to the other version: version 1 to version 2, where each pass says that it has four neighbours, and
+ * version 2 to version 1, where none may have eight. Both are the same passes, so that they run to the same plane and
+ * counts; and converting twice gives the first list again, byte for byte.
+ *
+ * list      a list of either version, as for mlhe_run_list
+ * output    room for the list in the other version: 7 + 16 * count bytes for version 2, 7 + 12 * count for version 1;
+ *           MLHE_GREATEST_LIST bytes are always enough; what lies beyond the written bytes stays
+ *
+ * Answers the number of bytes written. Refusals, in order: 16 (fewer than 7 bytes), 15, 16, then for each record 17, 5,
+ * 6, 7, 8, 18, 19; then 20 where a pass with eight neighbours is to become version 1, and 14 last.
+ */
+int64_t mlhe_convert_list(const uint8_t *list, size_t list_length, uint8_t *output, size_t output_length);
 
 /*
  * Recolours a frame from new intensities, such as passes leave them in the plane that mlhe_intensity filled. The three

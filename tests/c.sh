@@ -1,6 +1,6 @@
 #!/usr/bin/env bash
-# The headers in C and C++, the library under the name to link it by, the rules, the neighbours, the counts and the
-# stack of a call, and what the example in C does to files, devices and links. Stops at the first error. Offline.
+# The headers in C and C++, the library under the name to link it by, the rules, neighbours, lists, counts and stack of
+# a call, and what the example in C does to files, devices and links. Stops at the first error. Offline.
 #
 # Proves and builds the library first, unless MLHE_LIBRARY=path/to/libcapi.a names one that is there.
 set -euo pipefail
@@ -46,6 +46,8 @@ gcc -std=c99 "${strict[@]}" -o "$out/rules" tests/c/rules.c "${flags[@]}"
 "$out/rules" || fail "the rules that a call is lent. Next: tests/c/rules.c, with what is printed above"
 gcc -std=c99 "${strict[@]}" -o "$out/neighbours" tests/c/neighbours.c "${flags[@]}"
 "$out/neighbours" || fail "the neighbours that a call is lent. Next: tests/c/neighbours.c, with what is printed above"
+gcc -std=c99 "${strict[@]}" -o "$out/lists" tests/c/lists.c "${flags[@]}"
+"$out/lists" || fail "lists of both versions. Next: tests/c/lists.c, with what is printed above"
 gcc -std=c99 "${strict[@]}" -o "$out/counts" tests/c/counts.c "${flags[@]}"
 "$out/counts" || fail "the counts that a call is lent. Next: tests/c/counts.c, with what is printed above"
 gcc -std=c99 -O2 "${strict[@]}" -o "$out/stack" tests/c/stack.c "${flags[@]}"

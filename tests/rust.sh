@@ -40,8 +40,8 @@ touch "$out/before"
 written=$(find rust target/staticlib -newer "$out/before" 2> /dev/null) || true
 [ -z "$written" ] || fail "the crate writes outside cargo's build folder: $written"
 
-# Both examples, as their documentation says: frames of the corpus with the house setting and with a list, the same
-# bytes from both; and what is wrong with a file is said, with a status that is not 0.
+# Both examples, as their documentation says: frames of the corpus with the house setting and with lists of both
+# versions, the same bytes from both; and what is wrong with a file is said, with a status that is not 0.
 make --quiet -C examples/c MLHE_LIBRARY="$MLHE_LIBRARY"
 "${cargo[@]}" build --release -p mlhe --example enhance
 c=examples/c/enhance
@@ -49,14 +49,22 @@ rust=target/cargo/release/examples/enhance
 frames=(tests/corpus/pil.ppm tests/corpus/imagemagick-4096x4.ppm tests/corpus/column-1x1024.ppm
     tests/corpus/gimp-raw.ppm)
 # A limited pass on [0, 255], area 1, clip 10, and an affine one on [0, 127], area 20, 5 segments, slopes 50 to 300.
-printf 'MLP\1\0\2\0\0\377\1\0\1\0\0\0\12\0\0\0\0\177\2\5\24\0\0\0\62\0\54\1' > "$out/passes.mlp"
+limited='\0\377\1\0\1\0\0\0\12\0\0\0'
+affine='\0\177\2\5\24\0\0\0\62\0\54\1'
+printf '%b' 'MLP\1\0\2\0' "$limited" "$affine" > "$out/passes.mlp"
+# The same in version 2, and with eight neighbours for the affine one.
+printf '%b' 'MLP\2\0\2\0' "$limited" '\4\0\0\0' "$affine" '\4\0\0\0' > "$out/same.mlp"
+printf '%b' 'MLP\2\0\2\0' "$limited" '\4\0\0\0' "$affine" '\10\0\0\0' > "$out/eight.mlp"
 for frame in "${frames[@]}"; do
     name=$(basename "$frame")
-    for list in '' "$out/passes.mlp"; do
-        "$c" ${list:+"$list"} "$frame" "$out/c.ppm"
-        "$rust" ${list:+"$list"} "$frame" "$out/rust.ppm"
+    for list in '' passes same eight; do
+        file=${list:+$out/$list.mlp}
+        "$c" ${file:+"$file"} "$frame" "$out/c.ppm"
+        "$rust" ${file:+"$file"} "$frame" "$out/rust.ppm"
         cmp "$out/c.ppm" "$out/rust.ppm" || fail "$name: examples/c and rust/examples differ, list '$list'"
+        cp "$out/c.ppm" "$out/c-$list.ppm"
     done
+    cmp "$out/c-passes.ppm" "$out/c-same.ppm" || fail "$name: both versions of a list do not enhance alike"
 done
 
 # A command that has to end with status 1 and to name the file and the refusal on standard error.

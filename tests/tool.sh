@@ -1,7 +1,8 @@
 #!/usr/bin/env bash
 # The tool, `zopykue`: its layout and lints, its frames and planes against the second implementation, then a folder as
 # people leave it with the report that is stored in tests/tool, targets that are refused, a full disk, a kill in the
-# middle, an interrupt, a closed pipe, a terminal, lists and eight neighbours. Stops at the first error.
+# middle, an interrupt, a closed pipe, a terminal, lists of both versions, and eight neighbours. Stops at the first
+# error.
 #
 # The crates that the tool uses are Debian's packages. What is missing is installed, by root; anyone else is told what
 # to install. Nothing else is fetched. Proves and builds the library first, unless MLHE_LIBRARY=path/to/libcapi.a names
@@ -72,6 +73,11 @@ ends() { # STATUS WORDS COMMAND...
 # All files below a folder, by name.
 files() {
     (cd "$1" && find . ! -type d | LC_ALL=C sort)
+}
+
+# Bytes of these values.
+dots() { # VALUES...
+    printf '%b' "$(printf '\\x%02x' "$@")"
 }
 
 # The folder as people leave it.
@@ -311,7 +317,7 @@ diff -r interrupted later || fail "a run after an interrupt"
 echo "tool: an interrupt, after $new of 24 frames, leaves whole files only"
 
 # A reader that has gone is no panic and no failure; an output that cannot be written is told.
-for command in 'enhance --to closed lists/g.ppm' 'list' 'list empty.mlp' '--help'; do
+for command in 'enhance --to closed lists/g.ppm' 'list' 'list empty.mlp' 'list convert empty.mlp other.mlp' '--help'; do
     # shellcheck disable=SC2086
     { status=0 && { "$zopykue" $command 2> told || status=$?; } && echo "$status" > status; } | true
     [ "$(cat status)" = 0 ] || fail "a closed pipe: $command: status $(cat status)"
@@ -349,7 +355,7 @@ ends 1 'lines.txt, line 1: refused 18' \
     bash -c "echo '0 9 1 affine 17 0 100' > lines.txt && exec '$zopykue' list --text lines.txt"
 ends 2 'it is there and no file' "$zopykue" list --to /dev/null
 
-# Eight neighbours: in lists as text, and in no file, whether one is there or not.
+# Eight neighbours: in lists as text, and in files of version 2.
 printf '%s\n' '# 2 passes: first value, last value, least area, rule' '0 255 1 plain 80 300' \
     '0 127 20 limited 40 neighbours 8' > wires.txt
 "$zopykue" list --text wires.txt | diff wires.txt - || fail "a list with eight neighbours as text"
@@ -360,22 +366,81 @@ sed 's/300$/300 neighbours 4/' wires.txt | "$zopykue" list --text - | diff wires
     fail "the list of settings with eight neighbours"
 "$zopykue" list --neighbours 4 --to four.mlp
 cmp house.mlp four.mlp || fail "four neighbours are the house setting"
-no_place='four.mlp: it is not written, for a list file of version 1 has no place for eight neighbours'
-ends 1 "$no_place" "$zopykue" list --neighbours 8 --to four.mlp
-cmp house.mlp four.mlp || fail "a list that is not written replaces a file"
-rm four.mlp
-ends 1 "$no_place" "$zopykue" list --text wires.txt --to four.mlp
-[ ! -e four.mlp ] || fail "a list with eight neighbours is written"
+"$zopykue" list --text wires.txt --to wires.mlp
+{ printf 'MLP\2\0\2\0' && dots 0 255 0 0 1 0 0 0 80 0 44 1 4 0 0 0 && dots 0 127 1 0 20 0 0 0 40 0 0 0 8 0 0 0; } |
+    cmp - wires.mlp || fail "a list with eight neighbours as a file"
+"$zopykue" list wires.mlp | diff wires.txt - || fail "a list of version 2 as text"
+"$zopykue" list wires.mlp --to again.mlp
+cmp wires.mlp again.mlp || fail "a list of version 2 from a file"
 ends 1 'lines.txt, line 1: refused 19' \
     bash -c "echo '0 9 1 limited 5 neighbours 5' > lines.txt && exec '$zopykue' list --text lines.txt"
 ends 2 'refused 19' "$zopykue" list --neighbours 5
 ends 2 'cannot be used with' "$zopykue" list --neighbours 8 house.mlp
 ends 2 'cannot be used with' "$zopykue" list --neighbours 8 --text wires.txt
 
-# A thin diagonal wire falls apart by four neighbours, and is retoned as one component by eight.
-dots() { # VALUES...
-    printf '%b' "$(printf '\\x%02x' "$@")"
+# Both versions: either is converted to the other and back, they enhance alike, and --to writes version 1 where it can.
+"$zopykue" list convert house.mlp second.mlp > printed
+diff <(echo 'second.mlp: version 2, 255 passes, 4,087 bytes') printed || fail "a list converted to version 2"
+"$zopykue" list convert second.mlp first.mlp > printed
+diff <(echo 'first.mlp: version 1, 255 passes, 3,067 bytes') printed || fail "a list converted to version 1"
+cmp house.mlp first.mlp || fail "a list that is converted twice"
+[ "$(stat -c %s second.mlp)" = 4087 ] || fail "the length of a list of version 2"
+"$zopykue" list second.mlp | diff house.txt - || fail "a list of version 2 is not the same as text"
+"$zopykue" list second.mlp --to again.mlp
+cmp house.mlp again.mlp || fail "a list of version 2 with four neighbours is not written in version 1"
+for list in house second; do
+    "$zopykue" enhance --plane --list "$list.mlp" --to "by-$list" --report "by-$list.tsv" lists/g.ppm > /dev/null
+done
+diff -r by-house by-second || fail "both versions do not enhance alike"
+diff by-house.tsv by-second.tsv || fail "both versions do not count alike"
+"$zopykue" list --last 0 --to one.mlp
+"$zopykue" list convert one.mlp again.mlp | diff <(echo 'again.mlp: version 2, 1 pass, 23 bytes') - || fail "one pass"
+"$zopykue" list convert empty.mlp again.mlp | diff <(echo 'again.mlp: version 2, 0 passes, 7 bytes') - ||
+    fail "a list of no passes"
+cp house.mlp convert
+"$zopykue" list ./convert | diff house.txt - || fail "a list that is named convert"
+
+# What is not converted is not written, whether a file is there or not.
+no_place='wires.mlp: refused 20: pass 2 has eight neighbours, for which version 1 has no place'
+ends 1 "$no_place" "$zopykue" list convert wires.mlp first.mlp
+cmp house.mlp first.mlp || fail "a list that is not converted replaces a file"
+ends 1 'File too large' \
+    bash -c "trap '' XFSZ && ulimit -f 1 && exec '$zopykue' list convert house.mlp first.mlp"
+cmp house.mlp first.mlp || fail "a limit on the size of files: the earlier list is lost"
+rm first.mlp
+ends 1 "$no_place" "$zopykue" list convert wires.mlp first.mlp
+ends 1 'wrong.mlp: refused 15: no pass list' "$zopykue" list convert wrong.mlp first.mlp
+ends 1 'house.txt: refused 15: no pass list but text' "$zopykue" list convert house.txt first.mlp
+damaged() { # WORDS PLACE BYTE: the list with eight neighbours, with another byte at a place from 1 on
+    { head -c "$(($2 - 1))" wires.mlp && dots "$3" && tail -c "+$(($2 + 1))" wires.mlp; } > damaged.mlp
+    ends 1 "damaged.mlp: refused $1" "$zopykue" list convert damaged.mlp first.mlp
+    ends 1 "damaged.mlp: refused $1" "$zopykue" list damaged.mlp
 }
+damaged '15: its version is 3, and lists of version 1 and 2 are read' 4 3
+damaged '16: 31 bytes are due for 2 passes in version 1, and 39 are there' 4 1
+damaged '16: 55 bytes are due for 3 passes in version 2, and 39 are there' 6 3
+damaged '17: pass 2 has the rule 3, at byte 26' 26 3
+damaged '17: pass 2 has 1 at byte 39, where 0 is due' 39 1
+damaged '19: pass 1 has 6 neighbours, at byte 20' 20 6
+damaged '6: pass 1: the least area is 0' 12 0
+ends 1 'absent.mlp: No such file' "$zopykue" list convert absent.mlp first.mlp
+ends 1 'none/first.mlp: No such file' "$zopykue" list convert house.mlp none/first.mlp
+ln house.mlp hard.mlp
+ln -s house.mlp soft.mlp
+cp house.mlp house.before
+for name in house hard soft; do
+    ends 2 'would be written over the input house.mlp' "$zopykue" list convert house.mlp "$name.mlp"
+done
+ends 2 'would be written over the input second.mlp' "$zopykue" list second.mlp --to second.mlp
+ends 2 'would be written over the input house.txt' "$zopykue" list --text house.txt --to house.txt
+cmp house.mlp house.before || fail "an input is changed"
+ends 2 'it is there and no file' "$zopykue" list convert house.mlp /dev/null
+ends 2 'required' "$zopykue" list convert house.mlp
+ends 2 'wasn'"'"'t expected' "$zopykue" list --last 3 convert house.mlp first.mlp
+[ ! -e first.mlp ] || fail "a list that is not converted is written"
+[ -z "$(find . -maxdepth 1 -name '.zopykue-*')" ] || fail "a part of a list is left"
+
+# A thin diagonal wire falls apart by four neighbours, and is retoned as one component by eight.
 mkdir wire
 for value in 10 200 200 200 20 200 200 200 30; do dots "$value" "$value" "$value"; done > raster
 { printf 'P6 3 3 255\n' && cat raster; } > wire/w.ppm
@@ -386,6 +451,9 @@ wire=("$zopykue" enhance --to wired --plane --report wire.tsv --plain 0 25500 --
     fail "a wire by four neighbours"
 "${wire[@]}" --neighbours 8 wire > /dev/null
 [ "$(tail -n 1 wire.tsv | cut -f 4,5 | xargs)" = '2 1' ] || fail "a wire by eight neighbours: $(tail -n 1 wire.tsv)"
-{ printf 'P5\n3 3\n255\n' && dots 42 255 255 255 85 255 255 255 127; } | cmp - wired/wire/w.pgm ||
-    fail "a wire by eight neighbours"
+{ printf 'P5\n3 3\n255\n' && dots 42 255 255 255 85 255 255 255 127; } > wire.pgm
+cmp wire.pgm wired/wire/w.pgm || fail "a wire by eight neighbours"
+"$zopykue" list --plain 0 25500 --area 3 --last 1 --neighbours 8 --to wire.mlp
+"$zopykue" enhance --to listed --plane --list wire.mlp wire > /dev/null
+cmp wire.pgm listed/wire/w.pgm || fail "a wire by a list with eight neighbours"
 echo "tool: pipes, terminals, lists and neighbours are in order"

@@ -2,7 +2,7 @@
  * Enhances a P6 frame of any allowed size. Comments in its header are skipped, and not written.
  *
  *   enhance IN.ppm OUT.ppm          with the house setting
- *   enhance LIST.mlp IN.ppm OUT.ppm with the passes of a list
+ *   enhance LIST.mlp IN.ppm OUT.ppm with the passes of a list, of version 1 or 2
  *
  * Prints one line on what was done. On an error it says what is wrong with which file and ends with status 1; with
  * status 2 where the arguments are wrong.

@@ -4,8 +4,9 @@
     recolour(frame, plane)               the frame, coloured anew from a plane of new intensities
     run_pass(plane, Pass(...))           the plane after a pass, and the numbers of retoned and kept components
     run_passes(plane, [Pass(...), ...])  the same after passes, one after the other, all checked before the first runs
-    run_list(plane, data)                the same after the passes of a list, in the bytes of a file
-    pass_list([Pass(...), ...])          the bytes of a list
+    run_list(plane, data)                the same after the passes of a list, in the bytes of a file of version 1 or 2
+    pass_list([Pass(...), ...])          the bytes of a list, of version 1 where all passes have four neighbours, else 2
+    convert_list(data)                   the bytes of the same list in the other version
     enhance(frame, last=, area=, rule=, neighbours=)
                                          the recoloured frame, the plane and the numbers; the house setting by default
     read(data), write(frame)             a frame from the bytes of a P6 file, comments skipped, and back
@@ -54,16 +55,17 @@ REASONS = {
     12: "the raster is short",
     13: "there are bytes after the raster",
     14: "the output is too short",
-    15: "it is no pass list of version 1",
+    15: "it is no pass list of version 1 or 2",
     16: "the pass list's count or length is wrong",
     17: "there is no such tone rule, or a number that has to be 0 is set",
     18: "there are 0 segments or more than 16, smin is above smax, or smax is above 10,000",
     19: "the number of neighbours is neither 4 nor 8",
+    20: "a pass with eight neighbours does not fit version 1",
 }
 
 
 class Refused(ValueError):
-    """A call was turned down: `number`, 1 to 19, and `reason`."""
+    """A call was turned down: `number`, 1 to 20, and `reason`."""
 
     def __init__(self, number):
         super().__init__(number)
@@ -170,11 +172,13 @@ _ARGUMENTS = {
     "mlhe_pass": (_OUTPUT, _SIZE, *_MEMORY, *_SIDES, ctypes.c_uint8, ctypes.c_uint8, ctypes.c_uint32, _RULE, _SIZE,
                   *_COUNTS),
     "mlhe_run_list": (_BYTES, _SIZE, _OUTPUT, _SIZE, *_MEMORY, *_SIDES, *_COUNTS),
+    "mlhe_convert_list": (_BYTES, _SIZE, _OUTPUT, _SIZE),
     "mlhe_recolour": (_BYTES, _SIZE, *_SIDES, _BYTES, _SIZE, _OUTPUT, _SIZE),
     "mlhe_enhance": (_BYTES, _SIZE, *_SIDES, ctypes.c_uint8, ctypes.c_uint32, _RULE, _SIZE, _OUTPUT, _SIZE, *_MEMORY,
                      _OUTPUT, _SIZE, *_COUNTS),
 }
 _GREATEST_HEADER = 17
+_GREATEST_LIST = 16_391
 _GREATEST_PASSES = 1_024
 
 
@@ -289,7 +293,7 @@ def _rule(rule):
 
 def _rule_numbers(rule, neighbours):
     """The numbers that a function is lent: those of a rule, and that of the neighbours."""
-    return *_rule(rule), _number("neighbours", neighbours, 16)
+    return *_rule(rule), _number("neighbours", neighbours, 8)
 
 
 def _lent_rule(numbers):
@@ -305,15 +309,14 @@ def _pass(one):
     return *numbers, _rule_numbers(one.rule, one.neighbours)
 
 
-def _passes(passes):
-    """A list of passes that the library accepts."""
-    passes = list(passes)
-    numbers = [_pass(one) for one in passes]
-    if len(passes) > _GREATEST_PASSES:
+def _list_bytes(passes):
+    """The bytes of the list of these passes, unchecked but for how many there are."""
+    records = [struct.pack("<BBBBIHHBxxx", a, b, code, segments, area, first, second, neighbours)
+               for a, b, area, (code, first, second, segments, neighbours) in map(_pass, passes)]
+    if len(records) > _GREATEST_PASSES:
         raise Refused(16)
-    for one in passes:
-        run_pass(numpy.zeros((1, 1), numpy.uint8), one)  # which checks its numbers before it runs
-    return passes, numbers
+    version, length = (1, 12) if all(record[12] == 4 for record in records) else (2, 16)
+    return b"MLP" + struct.pack("<HH", version, len(records)) + b"".join(record[:length] for record in records)
 
 
 def intensity(frame):
@@ -349,17 +352,12 @@ def run_passes(plane, passes):
     """The plane after these passes, one after the other, and the sums of their counts. All of them are checked before
     the first runs. Refusals, in order: 1, 2, 16 for more than 1,024, then for each pass 5, 6, 7, 8, 18, 19."""
     _plane_sides(plane)
-    passes, _ = _passes(passes)
-    plane, retoned, kept = _copy(plane), 0, 0
-    for one in passes:
-        plane, counts = run_pass(plane, one)
-        retoned, kept = retoned + counts.retoned, kept + counts.kept
-    return Retoned(plane, Counts(retoned, kept))
+    return run_list(plane, _list_bytes(passes))
 
 
 def run_list(plane, data):
-    """The plane after the passes of a list, in the bytes of a file of version 1, which means four neighbours, and the
-    sums of their counts. Refusals, in order: 1, 2, 16, 15, 16, then for each pass 17, 5, 6, 7, 8, 18."""
+    """The plane after the passes of a list, in the bytes of a file of version 1, which means four neighbours, or 2, and
+    the sums of their counts. Refusals, in order: 1, 2, 16, 15, 16, then for each pass 17, 5, 6, 7, 8, 18, 19."""
     h, w = _plane_sides(plane)
     new = _copy(plane)
     counts = _counted(_library.mlhe_run_list, *_lent(_bytes(data), new), *_memory(w * h), w, h)
@@ -367,15 +365,20 @@ def run_list(plane, data):
 
 
 def pass_list(passes):
-    """The bytes of the list of these passes, in a file of version 1. Refusals, in order: 16 for more than 1,024, then
-    for each pass 5, 6, 7, 8, 18, 19. ValueError where one has eight neighbours, for which version 1 has no place:
-    run_passes runs such a list."""
-    records = []
-    for a, b, area, (code, first, second, segments, neighbours) in _passes(passes)[1]:
-        if neighbours != 4:
-            raise ValueError("a list of version 1 has no place for eight neighbours: run_passes runs these passes")
-        records.append(struct.pack("<BBBBIHH", a, b, code, segments, area, first, second))
-    return b"MLP" + struct.pack("<HH", 1, len(records)) + b"".join(records)
+    """The bytes of the list of these passes, in a file of version 1 where all of them have four neighbours, and of
+    version 2 otherwise. Refusals, in order: 16 for more than 1,024, then for each pass 5, 6, 7, 8, 18, 19."""
+    data = _list_bytes(passes)
+    run_list(numpy.zeros((1, 1), numpy.uint8), data)  # which checks all of it before the first pass runs
+    return data
+
+
+def convert_list(data):
+    """The bytes of a list in the other version: 2 for a list of version 1, and 1 for one of version 2. It has the same
+    passes, and converted twice it is the first list again. Refusals, in order: 16, 15, 16, then for each pass 17, 5, 6,
+    7, 8, 18, 19; then 20 where a pass with eight neighbours is to become version 1."""
+    output = _new(_GREATEST_LIST)
+    length = _library.mlhe_convert_list(*_lent(_bytes(data), output))
+    return output[:length].tobytes()
 
 
 def enhance(frame, *, last=HOUSE.last, area=HOUSE.area, rule=HOUSE.rule, neighbours=HOUSE.neighbours):

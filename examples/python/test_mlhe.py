@@ -106,6 +106,9 @@ class Examples(unittest.TestCase):
         numpy.testing.assert_array_equal(plane, [[10, 200], [200, 20]])
         self.assertEqual(mlhe.run_passes(plane, []).counts, Counts(0, 0))
         self.assertEqual(mlhe.run_list(plane, mlhe.pass_list([four])).counts, Counts(0, 2))
+        listed = mlhe.run_list(plane, mlhe.pass_list([four, four._replace(neighbours=8), four]))
+        numpy.testing.assert_array_equal(listed.plane, left.plane)
+        self.assertEqual(listed.counts, left.counts)
 
     def test_k_to_m(self):
         for last, area, new, retoned in (0, 20, (128, 255), 1), (1, 1, (192, 255), 2), (7, 1, (255, 255), 8):
@@ -144,6 +147,22 @@ class Examples(unittest.TestCase):
             numpy.testing.assert_array_equal(retoned.plane, row(64, 127, 200, 10, 10))
             self.assertEqual(retoned.counts, Counts(1, 1))
 
+    def test_q_in_both_versions(self):
+        first = bytes.fromhex("4D4C5001000100 007F00000100000000009C63")
+        second = bytes.fromhex("4D4C5002000100 007F00000100000000009C63 04000000")
+        eight = bytes.fromhex("4D4C5002000100 007F00000100000000009C63 08000000")
+        self.assertEqual((mlhe.convert_list(first), mlhe.convert_list(second)), (second, first))
+        for given in bytearray(first), memoryview(first):
+            self.assertEqual(mlhe.convert_list(given), second)
+        self.assertEqual(mlhe.convert_list(mlhe.pass_list([])), b"MLP\2\0\0\0")
+        retoned = mlhe.run_list(row(10, 20, 200, 10, 10), second)
+        numpy.testing.assert_array_equal(retoned.plane, row(64, 127, 200, 10, 10))
+        self.assertEqual(retoned.counts, Counts(1, 1))
+        self.assertEqual(mlhe.pass_list([Pass(0, 127, 1, ANY, 8)]), eight)
+        retoned = mlhe.run_list(numpy.array([[10, 200], [200, 20]], numpy.uint8), eight)
+        numpy.testing.assert_array_equal(retoned.plane, [[64, 200], [200, 127]])
+        self.assertEqual(retoned.counts, Counts(1, 0))
+
     def test_a_list_of_all_rules(self):
         passes = [Pass(0, 255, 1, Affine(2, 100, 10_000)), Pass(0, 200, 1, ANY), Pass(100, 200, 1, Limited(10))]
         data = bytes.fromhex("4D4C5001000300 00FF02020100000064001027 00C800000100000000009C63"
@@ -156,6 +175,9 @@ class Examples(unittest.TestCase):
         for new in plane, left.plane:
             numpy.testing.assert_array_equal(new, row(134, 134, 200, 255))
         self.assertEqual(left.counts, Counts(3, 0))
+        second = mlhe.convert_list(data)
+        self.assertEqual((len(second), mlhe.convert_list(second)), (7 + 16 * 3, data))
+        numpy.testing.assert_array_equal(mlhe.run_list(row(10, 10, 20, 30), second).plane, left.plane)
 
 
 class Refusals(unittest.TestCase):
@@ -212,20 +234,29 @@ class Refusals(unittest.TestCase):
 
     def test_lists(self):
         plane, good = row(1, 2), mlhe.pass_list([Pass(0, 127, 1, ANY)])
-        for number, data in (16, b""), (16, b"MLP"), (15, b"MLQ\1\0\0\0"), (15, b"MLP\2\0\0\0"), (16, good + b"\0"), \
+        second = mlhe.convert_list(good)
+        for number, data in (16, b""), (16, b"MLP"), (15, b"MLQ\1\0\0\0"), (15, b"MLP\3\0\0\0"), (16, good + b"\0"), \
                 (16, b"MLP\1\0\1\4" + good[7:] * 1_025), (17, good[:9] + b"\3" + good[10:]), \
-                (17, good[:10] + b"\1" + good[11:]), (18, good[:9] + b"\2" + good[10:]):
+                (17, good[:10] + b"\1" + good[11:]), (18, good[:9] + b"\2" + good[10:]), (16, good[:4] + second[4:]), \
+                (16, second[:4] + good[4:]), (16, b"MLP\2\0\1\4" + second[7:] * 1_025), (17, second[:-1] + b"\1"), \
+                (19, second[:-4] + b"\5\0\0\0"), (17, second[:-4] + b"\5\1\0\0"), \
+                (18, second[:9] + b"\2" + second[10:-4] + b"\5\0\0\0"):
             self.refused(number, mlhe.run_list, plane, data)
+            self.refused(number, mlhe.convert_list, data)
         self.assertEqual(mlhe.run_list(plane, mlhe.pass_list([Pass(0, 127, 1, ANY)] * 1_024)).counts, Counts(1_024, 0))
         for count in 1_025, 2**16 - 1, 2**16:
             self.refused(16, mlhe.pass_list, [Pass(0, 127, 1, ANY)] * count)
             self.refused(16, mlhe.run_passes, plane, [Pass(0, 127, 1, ANY, 9)] * count)
 
-    def test_a_list_has_no_place_for_eight_neighbours(self):
-        with self.assertRaisesRegex(ValueError, "no place for eight neighbours") as caught:
-            mlhe.pass_list([Pass(0, 127, 1, ANY), Pass(0, 127, 1, ANY, 8)])
-        self.assertNotIsInstance(caught.exception, Refused)
-        self.refused(5, mlhe.pass_list, [Pass(0, 127, 1, ANY, 8), Pass(9, 8, 1, ANY)])
+    def test_version_1_has_no_place_for_eight_neighbours(self):
+        four, eight = Pass(0, 127, 1, ANY), Pass(0, 127, 1, ANY, 8)
+        for passes in [eight], [four, eight], [eight, four]:
+            self.assertEqual(mlhe.pass_list(passes)[3:7], bytes([2, 0, len(passes), 0]))
+            self.refused(20, mlhe.convert_list, mlhe.pass_list(passes))
+        self.refused(5, mlhe.pass_list, [eight, Pass(9, 8, 1, ANY)])
+        longest = mlhe.convert_list(mlhe.pass_list([four] * 1_024))
+        self.assertEqual(len(longest), mlhe._GREATEST_LIST)
+        self.assertEqual(mlhe.convert_list(longest), mlhe.pass_list([four] * 1_024))
 
     def test_files(self):
         for number, data in (10, b""), (10, b"P5 1 1 255"), (1, b"P6 0 1 255\n"), (2, b"P6 4096 257 255\n"), \
@@ -251,6 +282,7 @@ class Refusals(unittest.TestCase):
                 one._replace(neighbours=None):
             self.assertRaises(TypeError, mlhe.run_pass, plane, wrong)
         self.assertRaises(TypeError, mlhe.run_list, plane, 7)
+        self.assertRaises(TypeError, mlhe.convert_list, "MLP")
         self.assertRaises(TypeError, mlhe.read, "P6 1 1 255 123")
         self.assertRaises(TypeError, mlhe.enhance, frame, 7)
 
@@ -344,7 +376,8 @@ class Arrays(unittest.TestCase):
 class Case:
     """A stored case, as the head of reference/src/cases.rs describes it."""
 
-    KINDS = "intensity", "pass", "recolour", "enhance", "list", "passes", "read", "write", "program", "house"
+    KINDS = ("intensity", "pass", "recolour", "enhance", "list", "passes", "read", "write", "program", "house",
+             "convert")
     HEAD = struct.Struct("<BBBBHHIBBHHHIIIHHBB")
 
     def __init__(self, data, start):
@@ -367,6 +400,8 @@ class Case:
         n = self.w * self.h
         if self.kind == "read":
             return self.limit == 1_048_576
+        if self.kind == "convert":
+            return len(self.bytes) < 7 or self.output >= self.converted_length()
         if self.kind in ("intensity", "recolour", "enhance", "house", "write") and len(self.bytes) != 3 * n:
             return False
         if self.kind != "write" and len(self.plane) != n:
@@ -375,6 +410,11 @@ class Case:
         if self.kind in ("recolour", "enhance", "house", "write") and self.output < heading + 3 * n:
             return False
         return self.kind in ("intensity", "recolour", "write") or min(self.marks, self.queue) >= n
+
+    def converted_length(self):
+        """The length of a list in the other version."""
+        version, count = struct.unpack_from("<HH", self.bytes, 3)
+        return 7 + (16 if version == 1 else 12) * count
 
     def passes(self):
         for a, b, rule, segments, area, first, second, neighbours in struct.iter_unpack("<BBBBIHHB", self.bytes):
@@ -395,8 +435,8 @@ class Case:
         if self.kind == "read":
             h, w = mlhe.read(self.bytes).shape[:2]
             return f"+{w} {h} {len(self.bytes) - 3 * w * h}",
-        if self.kind == "write":
-            data = mlhe.write(self.frame())
+        if self.kind in ("write", "convert"):
+            data = mlhe.write(self.frame()) if self.kind == "write" else mlhe.convert_list(self.bytes)
             return f"+{len(data)}", self.filled(data)
         if self.kind in ("enhance", "house"):
             names = {"last": self.last, "area": self.area, "rule": self.rule, "neighbours": self.neighbours}
@@ -501,6 +541,7 @@ class Header(unittest.TestCase):
         self.assertEqual(mlhe._rule_numbers(Affine(segments=9, smin=7, smax=8), 8), tuple(lent))
         self.assertEqual(Pass(0, 255, 1, ANY).neighbours, numbers["MLHE_FOUR_NEIGHBOURS"])
         self.assertEqual(mlhe._GREATEST_PASSES, numbers["MLHE_GREATEST_PASSES"])
+        self.assertEqual(mlhe._GREATEST_LIST, numbers["MLHE_GREATEST_LIST"])
         house = mlhe.Settings(numbers["MLHE_HOUSE_LAST"], numbers["MLHE_HOUSE_AREA"],
                               Plain(numbers["MLHE_HOUSE_LOW"], numbers["MLHE_HOUSE_HIGH"]),
                               numbers["MLHE_HOUSE_NEIGHBOURS"])

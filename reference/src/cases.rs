@@ -8,7 +8,7 @@
 //!
 //! | At | Size | Field |
 //! |---|---|---|
-//! | 0 | 1 | kind: 0 intensity, 1 pass, 2 recolour, 3 enhance, 4 list, 5 passes, 6 read, 7 write, 8 program, 9 house |
+//! | 0 | 1 | kind: 0 to 10, as the table of the lines below has them |
 //! | 1 | 1 | a |
 //! | 2 | 1 | b |
 //! | 3 | 1 | rule: 0 plain, 1 limited, 2 affine; no other number occurs |
@@ -23,11 +23,11 @@
 //! | 20 | 4 | w |
 //! | 24 | 4 | h |
 //! | 28 | 4 | pixel limit of the reader |
-//! | 32 | 2 | length of bytes, at most 13,344 |
+//! | 32 | 2 | length of bytes, at most 16,416 |
 //! | 34 | 2 | length of plane, at most 288 |
 //! | 36 | 1 | N of the affine rule, else 0 |
 //! | 37 | 1 | number of neighbours |
-//! | 38 | | bytes: the frame (0, 2, 3, 9), the list (4), the passes (5), the input (6, 8) or the raster (7) |
+//! | 38 | | bytes: the frame (0, 2, 3, 9), the list (4, 10), the passes (5), the input (6, 8) or the raster (7) |
 //! | | | plane: the plane's bytes before the call (0 to 5, 9) |
 //!
 //! An enhancement with the house setting (kind 9) has no settings in its head: it is made with those that the house
@@ -36,15 +36,15 @@
 //!
 //! Passes in memory (kind 5) are given by 13 bytes each: a, b, rule (0 to 2), N of the affine rule or 0, area (4
 //! bytes), then low and high, k and 0, or smin and smax (2 bytes each), and the number of neighbours (1 byte). The
-//! list in memory has as many passes as `bytes` has thirteens, at most 1,025. A list of bytes (kind 4) means four
-//! neighbours.
+//! list in memory has as many passes as `bytes` has thirteens, at most 1,025. A list of bytes (kinds 4 and 10) is of
+//! either version, and has its numbers of neighbours in its own bytes.
 //!
 //! # Running a case
 //!
 //! 1. If `same plane` is 0, the plane becomes the case's plane; its length is the length of that field. If it is 1,
 //!    the field is empty, and the plane and its length are as the case before left them. The first case has 0.
 //! 2. marks gets its length (at most 320), entry i being (i + 1) mod 256; queue its length (at most 320), entry i
-//!    being 3 × i + 5; output its length (at most 3,200), every byte being 170.
+//!    being 3 × i + 5; output its length (at most 3,200, for kind 10 at most 16,400), every byte being 170.
 //! 3. The call is made with parts of exactly these lengths.
 //! 4. A line is printed, ended by LF:
 //!
@@ -55,7 +55,7 @@
 //! | 2 recolour | `+0 OUTPUT` | `-N OUTPUT` |
 //! | 3 enhance | `+RETONED KEPT PLANE OUTPUT STRAYS` | `-N PLANE OUTPUT STRAYS` |
 //! | 6 read | `+W H OFFSET` | `-N` |
-//! | 7 write | `+LENGTH OUTPUT` | `-N OUTPUT` |
+//! | 7 write, 10 convert | `+LENGTH OUTPUT` | `-N OUTPUT` |
 //! | 8 program | `OUTPUT` | `OUTPUT` |
 //! | 9 house | `+RETONED KEPT PLANE OUTPUT STRAYS HOUSE` | `-N PLANE OUTPUT STRAYS HOUSE` |
 //!
@@ -66,8 +66,8 @@
 //! queue that had to stay and did not: after acceptance those from w × h on, after refusal all of them. It is 0. HOUSE
 //! is `L AREA LOW HIGH NEIGHBOURS`, the numbers of the house setting.
 
-use crate::{enhance, intensity, list_bytes, pass, program, read, recolour, run_list, run_passes, write};
-use crate::{Counts, Pass, Rule, Settings, FOUR};
+use crate::{convert, enhance, intensity, list_bytes_of, pass, program, read, recolour, run_list, run_passes, write};
+use crate::{Counts, Pass, Rule, Settings, Version};
 
 /// The length of a case's head.
 pub const HEAD: usize = 38;
@@ -75,10 +75,11 @@ pub const HEAD: usize = 38;
 /// The length of a pass in memory.
 pub const PASS: usize = 13;
 
-/// The greatest lengths that a case may have.
-pub const GREATEST_BYTES: usize = 13_344;
+/// The greatest lengths that a case may have. The last two are those of an output, of `convert` and of other calls.
+pub const GREATEST_BYTES: usize = 16_416;
 pub const GREATEST_PLANE: usize = 288;
 pub const GREATEST_MEMORY: usize = 320;
+pub const GREATEST_CONVERTED: usize = 16_400;
 pub const GREATEST_OUTPUT: usize = 3_200;
 
 /// What every byte of an output is before the call.
@@ -97,10 +98,11 @@ pub enum Kind {
     Write,
     Program,
     House,
+    Convert,
 }
 
 impl Kind {
-    pub const ALL: [Kind; 10] = [
+    pub const ALL: [Kind; 11] = [
         Kind::Intensity,
         Kind::Pass,
         Kind::Recolour,
@@ -111,6 +113,7 @@ impl Kind {
         Kind::Write,
         Kind::Program,
         Kind::House,
+        Kind::Convert,
     ];
 }
 
@@ -260,6 +263,10 @@ fn answer(case: &Case, plane: &mut Vec<u8>) -> String {
             let answer = enhance(&case.bytes, w, h, &Settings::HOUSE, plane, marks, queue, &mut output);
             format!("{} {} {} {strays} {}", counts(answer), hex(plane), hex(&output), numbers(&Settings::HOUSE))
         }
+        Kind::Convert => {
+            let length = convert(&case.bytes, &mut output).map(|length| length as u64);
+            format!("{} {}", number(length), hex(&output))
+        }
     }
 }
 
@@ -287,13 +294,10 @@ fn pass_of(bytes: &[u8]) -> Pass {
     Pass { a: bytes[0], b: bytes[1], area, rule, neighbours: bytes[12] }
 }
 
-/// The bytes of the passes of a list in memory: of each the 12 bytes of a record, then the number of neighbours.
+/// The bytes of the passes of a list in memory: of each a record of version 2 without its zero bytes at the end.
 pub fn passes_bytes(passes: &[Pass]) -> Vec<u8> {
-    let stored = |&pass: &Pass| {
-        let record = list_bytes(&[Pass { neighbours: FOUR, ..pass }]).split_off(7);
-        [record, vec![pass.neighbours]].concat()
-    };
-    passes.iter().flat_map(stored).collect()
+    let record = |&pass: &Pass| list_bytes_of(Version::Two, &[pass])[7..][..PASS].to_vec();
+    passes.iter().flat_map(record).collect()
 }
 
 /// The numbers of settings with the plain rule, which the house setting is.

@@ -11,13 +11,17 @@
 //! | [`pass`] | retones the components of one section | 1 to 8, 18, 19 |
 //! | [`recolour`] | carries new intensities over to the channels | 1, 2, 3, 14 |
 //! | [`enhance`] | the eight-level recursion, then the colours | 1, 2, 3, 4, 14, 9, 6, 7, 8, 18, 19 |
-//! | [`run_list`] | runs the passes of a list of bytes | 1 to 4, 16 (under 7 bytes), 15, 16, records 17, 5 to 8, 18 |
+//! | [`run_list`] | runs the passes of a list of bytes | 1 to 4, then those of the list |
 //! | [`run_passes`] | runs the passes of a list in memory | 1 to 4, 16, passes 5 to 8, 18, 19 |
+//! | [`convert`] | turns a list of bytes into the other version | those of the list, 20, 14 |
 //! | [`read`] | reads the header of a P6 frame, comments too, and measures the rest | 10, 1, 2, 11, 12, 13 |
 //! | [`write`] | writes a P6 frame | 1, 2, 3, 14 |
 //! | [`program`] | standard input to standard output | 13 (long input), then as above |
 //!
-//! A pass and an enhancement carry the number of neighbours, [`FOUR`] or [`EIGHT`]; lists of bytes mean four.
+//! Those of a list of bytes are 16 (under 7 bytes), 15, 16, then for each record 17, 5 to 8, 18, 19.
+//!
+//! A pass and an enhancement carry the number of neighbours, [`FOUR`] or [`EIGHT`]. A list of bytes of version 1 means
+//! four; one of version 2 has the number in each record.
 //!
 //! A pass, a list and an enhancement answer [`Counts`]: the components of sufficient area that were retoned, and those
 //! that were kept back. [`sufficient`] counts both together, from the definition. A call that is turned down answers
@@ -44,7 +48,7 @@ pub use colours::{intensity, recolour};
 pub use components::{Components, EIGHT, FOUR};
 pub use counts::Counts;
 pub use enhancement::{enhance, level_by_level, Settings};
-pub use lists::{list_bytes, list_passes, run_list, run_passes, GREATEST_COUNT};
+pub use lists::{convert, list_bytes, list_bytes_of, list_passes, run_list, run_passes, Version, GREATEST_COUNT};
 pub use netpbm::{header, read, write, Frame};
 pub use passes::{pass, Pass};
 pub use program::{program, PROGRAM_BYTES, PROGRAM_PIXELS};

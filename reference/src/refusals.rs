@@ -3,7 +3,7 @@
 use crate::components::{EIGHT, FOUR};
 use crate::Rule;
 
-/// The number of a refusal, 1 to 19.
+/// The number of a refusal, 1 to 20.
 pub type Refusal = u8;
 
 /// The greatest width and the greatest height.

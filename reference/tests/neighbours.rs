@@ -163,9 +163,9 @@ fn the_house_setting() {
     assert!(eight.len() == 255 && eight.iter().all(|pass| pass.neighbours == 8));
 }
 
-/// A file means four, and in memory the same passes may have eight.
+/// Version 1 means four, and in memory the same passes may have eight.
 #[test]
-fn lists_in_files_mean_four() {
+fn lists_of_version_1_mean_four() {
     let plane = [10, 200, 200, 20];
     assert_eq!(list_passes(&list_bytes(&[DARK, DARK])), Ok(vec![DARK, DARK]));
     let mut last = plane;
@@ -179,7 +179,7 @@ fn lists_in_files_mean_four() {
 
 #[test]
 #[should_panic(expected = "four neighbours")]
-fn a_file_has_no_place_for_eight() {
+fn version_1_has_no_place_for_eight() {
     list_bytes(&[Pass { neighbours: 8, ..DARK }]);
 }
 

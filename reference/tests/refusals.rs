@@ -2,8 +2,8 @@
 //! the earlier one answers. Every refusal leaves the lent bytes as they were.
 
 use mlhe_reference::random::Random;
-use mlhe_reference::{enhance, intensity, list_bytes, pass, program, read, recolour, run_list, run_passes, write};
-use mlhe_reference::{Counts, Frame, Pass, Rule, Settings, GREATEST_PIXELS};
+use mlhe_reference::{convert, enhance, intensity, list_bytes, list_bytes_of, pass, program, read, recolour, run_list};
+use mlhe_reference::{run_passes, write, Counts, Frame, Pass, Rule, Settings, Version, GREATEST_PIXELS};
 
 const FREE: Rule = Rule::Plain { low: 0, high: 25_500 };
 const SOUND: Pass = Pass { a: 0, b: 255, area: 1, rule: FREE, neighbours: 4 };
@@ -121,6 +121,10 @@ fn run_list_call(call: &Call) -> Result<u64, u8> {
     guarded(call, |plane, _| run_list(&call.list, plane, call.marks, call.queue, call.w, call.h).map(Counts::together))
 }
 
+fn run_convert(call: &Call) -> Result<u64, u8> {
+    guarded(call, |_, output| convert(&call.list, output).map(|length| length as u64))
+}
+
 fn run_write(call: &Call) -> Result<u64, u8> {
     guarded(call, |_, output| write(&bytes(call.frame), call.w, call.h, output).map(|length| length as u64))
 }
@@ -226,24 +230,28 @@ fn enhancement_1_2_3_4_14_9_6_7_8_18_19() {
     faults_answer_in_order(&sound_call(), &faults, &APART, run_enhance);
 }
 
-/// Faults of a list in the order of the tests, up to its records.
-fn list_faults() -> Vec<Fault<Call>> {
+/// The sound call with two passes as a list of this version, with an output as long as their conversion.
+fn listed_call(version: Version) -> Call {
+    Call { list: list_bytes_of(version, &[SOUND, SOUND]), output: version.other().length(2), ..sound_call() }
+}
+
+/// Faults of what a list is lent.
+const LENT_FAULTS: [Fault<Call>; 8] =
+    [NO_WIDTH, GREAT_HEIGHT, HUGE_SIDES, MANY_PIXELS, LONG_PLANE, SHORT_PLANE, SHORT_MARKS, SHORT_QUEUE];
+
+/// Faults of the head of a list of two passes of either version, in the order of the tests. A list that is said to be
+/// of the other version has a wrong length.
+fn head_faults() -> Vec<Fault<Call>> {
     vec![
-        NO_WIDTH,
-        GREAT_HEIGHT,
-        HUGE_SIDES,
-        MANY_PIXELS,
-        LONG_PLANE,
-        SHORT_PLANE,
-        SHORT_MARKS,
-        SHORT_QUEUE,
         (16, |call| call.list.truncate(6)),
         (16, |call| call.list.clear()),
         (15, |call| call.list[0] = b'm'),
         (15, |call| call.list[1] = b'P'),
         (15, |call| call.list[2] = b'Q'),
-        (15, |call| call.list[3] = 2),
+        (15, |call| call.list[3] = 0),
+        (15, |call| call.list[3] = 3),
         (15, |call| call.list[4] = 1),
+        (16, |call| call.list[3] = 3 - call.list[3]),
         (16, |call| call.list[5] = 1),
         (16, |call| call.list[5] = 3),
         (16, |call| call.list[6] = 4),
@@ -273,34 +281,136 @@ fn first_record_faults() -> Vec<Fault<Call>> {
     ]
 }
 
-/// Faults of the second record, which starts at byte 19.
-fn second_record_faults() -> Vec<Fault<Call>> {
+/// Faults of the second record, which starts at byte 19 in version 1 and at byte 23 in version 2.
+fn second_record_faults<const AT: usize>() -> Vec<Fault<Call>> {
     vec![
-        (17, |call| call.list[19 + 2] = 255),
-        (17, |call| call.list[19 + 3] = 128),
-        (5, |call| (call.list[19], call.list[19 + 1]) = (255, 0)),
-        (6, |call| call.list[19 + 4] = 0),
-        (7, |call| call.list[19 + 11] = 255),
-        (8, |call| call.list[19 + 2..19 + 12].copy_from_slice(&[1, 0, 1, 0, 0, 0, 0xFF, 0xFF, 0, 0])),
-        (18, |call| call.list[19 + 2..19 + 12].copy_from_slice(&[2, 255, 1, 0, 0, 0, 0, 0, 0, 0])),
-        (18, |call| call.list[19 + 2..19 + 12].copy_from_slice(&[2, 16, 1, 0, 0, 0, 0xFF, 0xFF, 0xFF, 0xFF])),
+        (17, |call| call.list[AT + 2] = 255),
+        (17, |call| call.list[AT + 3] = 128),
+        (5, |call| (call.list[AT], call.list[AT + 1]) = (255, 0)),
+        (6, |call| call.list[AT + 4] = 0),
+        (7, |call| call.list[AT + 11] = 255),
+        (8, |call| call.list[AT + 2..AT + 12].copy_from_slice(&[1, 0, 1, 0, 0, 0, 0xFF, 0xFF, 0, 0])),
+        (18, |call| call.list[AT + 2..AT + 12].copy_from_slice(&[2, 255, 1, 0, 0, 0, 0, 0, 0, 0])),
+        (18, |call| call.list[AT + 2..AT + 12].copy_from_slice(&[2, 16, 1, 0, 0, 0, 0xFF, 0xFF, 0xFF, 0xFF])),
     ]
 }
 
-/// 17 and 18 meet in no record: a record with the affine rule never gets 17.
-#[test]
-fn list_1_to_4_16_15_16_and_each_record_17_5_6_7_8_18() {
-    let apart = [&APART[..], &[(17, 18)]].concat();
-    for record in [first_record_faults(), second_record_faults()] {
-        let faults: Vec<Fault<Call>> = list_faults().into_iter().chain(record).collect();
-        faults_answer_in_order(&sound_call(), &faults, &apart, run_list_call);
-    }
-    for (number, make) in first_record_faults() {
-        for (_, make_other) in second_record_faults() {
-            let mut call = sound_call();
+/// Faults of the three zero bytes of a record of version 2.
+fn zeros_faults<const AT: usize>() -> Vec<Fault<Call>> {
+    vec![
+        (17, |call| call.list[AT + 13] = 1),
+        (17, |call| call.list[AT + 14] = 8),
+        (17, |call| call.list[AT + 15] = 255),
+        (17, |call| call.list[AT + 13..AT + 16].fill(4)),
+    ]
+}
+
+/// Faults of the number of neighbours of a record of version 2.
+fn neighbours_faults<const AT: usize>() -> Vec<Fault<Call>> {
+    vec![
+        (19, |call| call.list[AT + 12] = 0),
+        (19, |call| call.list[AT + 12] = 6),
+        (19, |call| call.list[AT + 12] = 255),
+    ]
+}
+
+/// A list call with faults of the first record answers the first one's number, whatever is wrong in the second record.
+fn first_record_answers(
+    sound: &Call,
+    first: &[Fault<Call>],
+    second: &[Fault<Call>],
+    run: fn(&Call) -> Result<u64, u8>,
+) {
+    for (number, make) in first {
+        for (_, make_other) in second {
+            let mut call = sound.clone();
             make(&mut call);
             make_other(&mut call);
-            assert_eq!(run_list_call(&call), Err(number));
+            assert_eq!(run(&call), Err(*number));
+        }
+    }
+}
+
+/// 17 and 18 meet in no record of version 1: a record with the affine rule never gets 17.
+#[test]
+fn list_of_version_1_1_to_4_16_15_16_and_each_record_17_5_6_7_8_18() {
+    let apart = [&APART[..], &[(17, 18)]].concat();
+    let sound = listed_call(Version::One);
+    for record in [first_record_faults(), second_record_faults::<19>()] {
+        let faults = [LENT_FAULTS.to_vec(), head_faults(), record].concat();
+        faults_answer_in_order(&sound, &faults, &apart, run_list_call);
+    }
+    first_record_answers(&sound, &first_record_faults(), &second_record_faults::<19>(), run_list_call);
+}
+
+/// In a record of version 2 they meet by the three zero bytes.
+#[test]
+fn list_of_version_2_1_to_4_16_15_16_and_each_record_17_5_6_7_8_18_19() {
+    let apart = [&APART[..], &[(17, 18)]].concat();
+    let sound = listed_call(Version::Two);
+    let first = (zeros_faults::<7>(), first_record_faults(), neighbours_faults::<7>());
+    let second = (zeros_faults::<23>(), second_record_faults::<23>(), neighbours_faults::<23>());
+    for (zeros, record, neighbours) in [&first, &second] {
+        let before = [LENT_FAULTS.to_vec(), head_faults()].concat();
+        let faults = [&before[..], record, neighbours].concat();
+        faults_answer_in_order(&sound, &faults, &apart, run_list_call);
+        let others: Vec<Fault<Call>> = record.iter().copied().filter(|&(number, _)| number != 17).collect();
+        let faults = [&before[..], zeros, &others, neighbours].concat();
+        faults_answer_in_order(&sound, &faults, &APART, run_list_call);
+    }
+    let all = |(zeros, record, neighbours): (Vec<_>, Vec<_>, Vec<_>)| [zeros, record, neighbours].concat();
+    first_record_answers(&sound, &all(first), &all(second), run_list_call);
+}
+
+#[test]
+fn converting_up_16_15_16_each_record_17_5_6_7_8_18_then_14() {
+    let apart = [&APART[..], &[(17, 18)]].concat();
+    let sound = listed_call(Version::One);
+    assert_eq!(run_convert(&sound), Ok(39));
+    let short: Vec<Fault<Call>> = vec![SHORT_OUTPUT, (14, |call| call.output = 0)];
+    for record in [first_record_faults(), second_record_faults::<19>()] {
+        faults_answer_in_order(&sound, &[head_faults(), record, short.clone()].concat(), &apart, run_convert);
+    }
+    first_record_answers(&sound, &first_record_faults(), &second_record_faults::<19>(), run_convert);
+}
+
+/// Eight neighbours in the one record come after all faults of the other, and before a short output.
+#[test]
+fn converting_down_16_15_16_each_record_17_5_6_7_8_18_19_then_20_14() {
+    let apart = [&APART[..], &[(17, 18)]].concat();
+    let sound = listed_call(Version::Two);
+    assert_eq!(run_convert(&sound), Ok(31));
+    let first = (zeros_faults::<7>(), first_record_faults(), neighbours_faults::<7>());
+    let second = (zeros_faults::<23>(), second_record_faults::<23>(), neighbours_faults::<23>());
+    let eights: [Fault<Call>; 2] = [(20, |call| call.list[23 + 12] = 8), (20, |call| call.list[7 + 12] = 8)];
+    for ((zeros, record, neighbours), eight) in [&first, &second].into_iter().zip(eights) {
+        let after = [&neighbours[..], &[eight, SHORT_OUTPUT, (14, |call| call.output = 0)]].concat();
+        let faults = [&head_faults()[..], record, &after].concat();
+        faults_answer_in_order(&sound, &faults, &apart, run_convert);
+        let others: Vec<Fault<Call>> = record.iter().copied().filter(|&(number, _)| number != 17).collect();
+        let faults = [&head_faults()[..], zeros, &others, &after].concat();
+        faults_answer_in_order(&sound, &faults, &APART, run_convert);
+    }
+    let all = |(zeros, record, neighbours): (Vec<_>, Vec<_>, Vec<_>)| [zeros, record, neighbours].concat();
+    first_record_answers(&sound, &all(first), &all(second), run_convert);
+}
+
+/// Every number of neighbours, with the three zero bytes kept and with each of them set.
+#[test]
+fn the_last_bytes_of_a_record_of_version_2() {
+    for neighbours in 0..=255 {
+        let mut call = listed_call(Version::Two);
+        call.list[23 + 12] = neighbours;
+        let (run, converted) = match neighbours {
+            4 => (Ok(2), Ok(31)),
+            8 => (Ok(2), Err(20)),
+            _ => (Err(19), Err(19)),
+        };
+        assert_eq!((run_list_call(&call), run_convert(&call)), (run, converted), "{neighbours} neighbours");
+        for place in 13..16 {
+            let mut call = call.clone();
+            call.list[23 + place] = neighbours.max(1);
+            assert_eq!((run_list_call(&call), run_convert(&call)), (Err(17), Err(17)), "byte {place}");
         }
     }
 }
@@ -330,22 +440,28 @@ fn the_byte_after_the_rule() {
 
 #[test]
 fn a_list_of_no_passes() {
-    let mut call = sound_call();
-    call.list = list_bytes(&[]);
-    assert_eq!(run_list_call(&call), Ok(0));
-    call.queue = 3;
-    assert_eq!(run_list_call(&call), Err(4));
+    for version in Version::BOTH {
+        let mut call = sound_call();
+        (call.list, call.output) = (list_bytes_of(version, &[]), 7);
+        assert_eq!((run_list_call(&call), run_convert(&call)), (Ok(0), Ok(7)));
+        (call.queue, call.output) = (3, 6);
+        assert_eq!((run_list_call(&call), run_convert(&call)), (Err(4), Err(14)));
+    }
 }
 
 #[test]
 fn lists_of_1024_and_1025_passes() {
     let still = Pass { a: 7, b: 7, ..SOUND };
-    for (length, expected) in [(1_024, Ok(0)), (1_025, Err(16))] {
+    for (length, accepted) in [(1_024, true), (1_025, false)] {
         let passes = vec![still; length];
-        let mut call = sound_call();
-        call.list = list_bytes(&passes);
-        assert_eq!(run_list_call(&call), expected);
-        assert_eq!(run_passes(&passes, &mut bytes(4), 4, 4, 2, 2).map(Counts::together), expected);
+        let expected = |answer| if accepted { Ok(answer) } else { Err(16) };
+        for version in Version::BOTH {
+            let mut call = sound_call();
+            (call.list, call.output) = (list_bytes_of(version, &passes), 20_000);
+            assert_eq!(run_list_call(&call), expected(0));
+            assert_eq!(run_convert(&call), expected(version.other().length(length) as u64));
+        }
+        assert_eq!(run_passes(&passes, &mut bytes(4), 4, 4, 2, 2).map(Counts::together), expected(0));
     }
 }
 
@@ -462,6 +578,9 @@ fn numbers_of_neighbours() {
 /// Bytes beyond the needed ones stay.
 #[test]
 fn longer_outputs_keep_their_ends() {
+    let mut output = [7; 9];
+    assert_eq!(convert(b"MLP\x01\0\0\0", &mut output), Ok(7));
+    assert_eq!(&output, b"MLP\x02\0\0\0\x07\x07");
     let mut output = [7; 5];
     recolour(&[1, 2, 3], 1, 1, &[2], &mut output).expect("accepted");
     assert_eq!(output, [1, 2, 3, 7, 7]);
@@ -705,4 +824,6 @@ fn the_table() {
     assert_eq!(run_list(&list, &mut one, 1, 1, 1, 1), Err(17));
     assert_eq!(pass(&mut one, 1, 1, 1, 1, &Pass { rule: WRONG_SLOPES[0], ..SOUND }), Err(18));
     assert_eq!(pass(&mut one, 1, 1, 1, 1, &Pass { neighbours: 5, ..SOUND }), Err(19));
+    let eight = list_bytes_of(Version::Two, &[Pass { neighbours: 8, ..SOUND }]);
+    assert_eq!(convert(&eight, &mut [0; 19]), Err(20));
 }

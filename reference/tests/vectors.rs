@@ -1,7 +1,7 @@
 //! The stored test cases are what the generator makes, and they show what they are meant to show.
 
 use mlhe_reference::cases::{answers, cases, encode, passes_bytes, passes_of, rule_of, Case, Kind};
-use mlhe_reference::{intensity, level_by_level, list_passes, sufficient_in_all, Pass, Rule, Settings};
+use mlhe_reference::{convert, intensity, level_by_level, list_passes, sufficient_in_all, Pass, Rule, Settings};
 use std::collections::{BTreeMap, BTreeSet};
 use std::fs;
 use std::path::PathBuf;
@@ -31,6 +31,12 @@ fn stored_of(kind: Kind) -> (Vec<Case>, Vec<String>) {
     cases.into_iter().zip(lines).filter(|(case, _)| case.kind == kind && !case.same_plane).unzip()
 }
 
+/// Those of them that are accepted.
+fn accepted(kind: Kind) -> impl Iterator<Item = (Case, String)> {
+    let (cases, lines) = stored_of(kind);
+    cases.into_iter().zip(lines).filter(|(_, line)| line.starts_with('+'))
+}
+
 /// The first word of the line that answers a case.
 fn first_word(case: &Case) -> String {
     answers(&encode(case)).split_whitespace().next().expect("a word").to_string()
@@ -44,16 +50,17 @@ fn the_stored_files_are_what_the_generator_makes() {
 
 #[test]
 fn every_refusal_of_every_call_is_there() {
-    let refusals: [(Kind, &[u8]); 9] = [
+    let refusals: [(Kind, &[u8]); 10] = [
         (Kind::Intensity, &[1, 2, 3]),
         (Kind::Pass, &[1, 2, 3, 4, 5, 6, 7, 8, 18, 19]),
         (Kind::Recolour, &[1, 2, 3, 14]),
         (Kind::Enhance, &[1, 2, 3, 4, 6, 7, 8, 9, 14, 18, 19]),
         (Kind::House, &[1, 2, 3, 4, 14]),
-        (Kind::List, &[1, 2, 3, 4, 5, 6, 7, 8, 15, 16, 17, 18]),
+        (Kind::List, &[1, 2, 3, 4, 5, 6, 7, 8, 15, 16, 17, 18, 19]),
         (Kind::Passes, &[1, 2, 3, 4, 5, 6, 7, 8, 16, 18, 19]),
         (Kind::Read, &[1, 2, 10, 11, 12, 13]),
         (Kind::Write, &[1, 2, 3, 14]),
+        (Kind::Convert, &[5, 6, 7, 8, 14, 15, 16, 17, 18, 19, 20]),
     ];
     for (kind, expected) in refusals {
         let (_, lines) = stored_of(kind);
@@ -230,28 +237,27 @@ fn rules_are_mixed() {
     }
 }
 
-/// Some accepted passes in memory and some chain have passes with four neighbours and with eight, and each number
-/// follows each.
+/// Some accepted passes in memory, some list and some chain have passes with four neighbours and with eight, and each
+/// number follows each.
 #[test]
 fn numbers_of_neighbours_are_mixed() {
-    let (cases, lines) = stored_of(Kind::Passes);
-    let accepted = cases.iter().zip(&lines).filter(|(_, line)| line.starts_with('+'));
-    let lists: Vec<Vec<u8>> =
-        accepted.map(|(case, _)| passes_of(&case.bytes).iter().map(|pass| pass.neighbours).collect()).collect();
+    let numbers = |passes: Vec<Pass>| passes.iter().map(|pass| pass.neighbours).collect::<Vec<u8>>();
+    let in_memory = accepted(Kind::Passes).map(|(case, _)| numbers(passes_of(&case.bytes))).collect();
+    let in_files = accepted(Kind::List).map(|(case, _)| numbers(list_passes(&case.bytes).expect("accepted"))).collect();
     let (cases, lines) = stored_calls();
     let calls: Vec<(&Case, &String)> = cases.iter().zip(&lines).collect();
     let chains: Vec<Vec<u8>> = calls
         .split(|(case, line)| case.kind != Kind::Pass || !case.same_plane || line.starts_with('-'))
         .map(|chain| chain.iter().map(|(case, _)| case.neighbours).collect())
         .collect();
-    for runs in [lists, chains] {
+    for runs in [in_memory, in_files, chains] {
         let pairs: BTreeSet<&[u8]> = runs.iter().flat_map(|run| run.windows(2)).collect();
         assert_eq!(pairs, BTreeSet::from([&[4, 4][..], &[4, 8], &[8, 4], &[8, 8]]));
     }
 }
 
 /// At every level from 1 on some enhancement with eight neighbours is answered otherwise than with four; so are many
-/// lists in memory, and many lists in files would be.
+/// lists in memory and of version 2, and many lists of version 1 would be.
 #[test]
 fn eight_neighbours_show() {
     let (cases, lines) = stored_of(Kind::Enhance);
@@ -267,13 +273,70 @@ fn eight_neighbours_show() {
         let case = Case { kind: Kind::Passes, bytes: passes_bytes(&other), ..case.clone() };
         line.starts_with('+') && answers(&encode(&case)).trim_end() != line
     };
-    let (cases, lines) = stored_of(Kind::Passes);
-    let would = |(case, line): &(&Case, &String)| differs(case, &passes_of(&case.bytes), line, 4);
-    assert!(cases.iter().zip(&lines).filter(would).count() > 20);
-    let (cases, lines) = stored_of(Kind::List);
-    let would =
-        |(case, line): &(&Case, &String)| list_passes(&case.bytes).is_ok_and(|list| differs(case, &list, line, 8));
-    assert!(cases.iter().zip(&lines).filter(would).count() > 30);
+    let would = |(case, line): &(Case, String)| differs(case, &passes_of(&case.bytes), line, 4);
+    assert!(accepted(Kind::Passes).filter(would).count() > 20);
+    for (version, neighbours) in [(1, 8), (2, 4)] {
+        let would = |(case, line): &(Case, String)| {
+            let passes = list_passes(&case.bytes).expect("accepted");
+            case.bytes[3] == version && differs(case, &passes, line, neighbours)
+        };
+        assert!(accepted(Kind::List).filter(would).count() > 30, "version {version}");
+    }
+}
+
+/// A list is answered as its passes in memory are.
+#[test]
+fn lists_are_answered_as_in_memory() {
+    for (case, line) in accepted(Kind::List) {
+        let passes = list_passes(&case.bytes).expect("accepted");
+        let in_memory = Case { kind: Kind::Passes, bytes: passes_bytes(&passes), ..case };
+        assert_eq!(answers(&encode(&in_memory)).trim_end(), line, "{in_memory:?}");
+    }
+}
+
+/// The bytes that the line of an accepted conversion begins with, which are the list in the other version.
+fn converted(line: &str) -> Vec<u8> {
+    let (length, output) = line[1..].split_once(' ').expect("a length and an output");
+    let length: usize = length.parse().expect("a number");
+    (0..length).map(|at| u8::from_str_radix(&output[2 * at..2 * at + 2], 16).expect("a byte")).collect()
+}
+
+/// Every accepted conversion is turned back into its list, and leaves what is beyond it; those of both versions have no
+/// passes, few and 1,024.
+#[test]
+fn conversions_go_there_and_back() {
+    let mut counts = BTreeSet::new();
+    for (case, line) in accepted(Kind::Convert) {
+        let mut back = vec![0; case.bytes.len()];
+        assert_eq!(convert(&converted(&line), &mut back), Ok(case.bytes.len()));
+        assert_eq!(back, case.bytes);
+        let beyond = &line.split(' ').nth(1).expect("an output")[2 * converted(&line).len()..];
+        assert_eq!(beyond, "aa".repeat(beyond.len() / 2));
+        counts.insert((case.bytes[3], list_passes(&case.bytes).expect("accepted").len()));
+    }
+    for version in [1, 2] {
+        assert!([0, 1, 2, 1_024].iter().all(|&count| counts.contains(&(version, count))), "{counts:?}");
+    }
+}
+
+/// Random lists are stored in both versions, which are conversions of each other, and have one line.
+#[test]
+fn both_editions_have_one_line() {
+    let (cases, lines) = stored_calls();
+    let calls: Vec<(&Case, &String)> = cases.iter().zip(&lines).collect();
+    let mut editions = 0;
+    for four in calls.windows(4) {
+        if [0, 1, 2, 3].map(|at| four[at].0.kind) == [Kind::List, Kind::Convert, Kind::List, Kind::Convert] {
+            let [(first, line), (up, upper), (second, other_line), (down, lower)] =
+                [four[0], four[1], four[2], four[3]];
+            if (first.bytes[3], &up.bytes, &down.bytes) == (1, &first.bytes, &second.bytes) {
+                assert_eq!(line, other_line);
+                assert_eq!((converted(upper), converted(lower)), (second.bytes.clone(), first.bytes.clone()));
+                editions += usize::from(line.starts_with('+'));
+            }
+        }
+    }
+    assert!(editions > 10, "{editions}");
 }
 
 /// A chain starts with intensity and goes on with the same plane, through passes to recolouring.

@@ -3,9 +3,10 @@
 //!
 //!     cargo run --release --example enhance -- [LIST.mlp] IN.ppm OUT.ppm
 //!
-//! The frame is enhanced with the house setting, or with the passes of a list. It is written beside its place and
-//! renamed into it, so that an earlier file is replaced by a whole one or not at all. One line says what was done, with
-//! the numbers of components retoned and kept back. On an error the status is 1, and 2 where the arguments are wrong.
+//! The frame is enhanced with the house setting, or with the passes of a list, of version 1 or 2. It is written beside
+//! its place and renamed into it, so that an earlier file is replaced by a whole one or not at all. One line says what
+//! was done, with the numbers of components retoned and kept back. On an error the status is 1, and 2 where the
+//! arguments are wrong.
 
 use mlhe::{Counts, Frame, Memory, PassList, Refusal, Settings};
 use std::error::Error;

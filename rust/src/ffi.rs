@@ -68,6 +68,9 @@ mod declared {
             counts_length: usize,
         ) -> i64;
 
+        /// Converts a list to the other version: see [`lent::convert_list`](crate::lent::convert_list).
+        pub fn mlhe_convert_list(list: *const u8, list_length: usize, output: *mut u8, output_length: usize) -> i64;
+
         /// Recolours a frame from a plane: see [`lent::recolour`](crate::lent::recolour).
         pub fn mlhe_recolour(
             frame: *const u8,

@@ -98,9 +98,9 @@ pub fn pass(
     Refusal::of_answer(answer).map(|_| Counts::of_lent(counts))
 }
 
-/// Runs the passes of a list in its file format, all with four neighbours, and answers the sums of their counts. All
-/// records are checked before the first pass runs. Refusals, in order: 1 to 4, 16 (fewer than 7 bytes), 15, 16, then
-/// for each record 17, 5, 6, 7, 8, 18.
+/// Runs the passes of a list in its file format, of version 1 or 2, and answers the sums of their counts. All records
+/// are checked before the first pass runs. Refusals, in order: 1 to 4, 16 (fewer than 7 bytes), 15, 16, then for each
+/// record 17, 5, 6, 7, 8, 18, 19.
 pub fn run_list(
     list: &[u8],
     plane: &mut [u8],
@@ -128,6 +128,26 @@ pub fn run_list(
         )
     };
     Refusal::of_answer(answer).map(|_| Counts::of_lent(counts))
+}
+
+/// Converts a list to the other version, 1 to 2 or 2 to 1, into the first bytes of the output, and answers the number
+/// of bytes written; [`GREATEST_LIST`](crate::GREATEST_LIST) are always enough. Refusals, in order: 16 (fewer than 7
+/// bytes), 15, 16, then for each record 17, 5, 6, 7, 8, 18, 19, then 20, 14.
+///
+/// ```
+/// use mlhe::{lent, Refusal};
+///
+/// let list = b"MLP\x01\0\x01\0\0\x7f\0\0\x01\0\0\0\0\0\x9c\x63";
+/// let mut output = [7; 25];
+/// assert_eq!(lent::convert_list(list, &mut output)?, 23);
+/// assert_eq!(&output, b"MLP\x02\0\x01\0\0\x7f\0\0\x01\0\0\0\0\0\x9c\x63\x04\0\0\0\x07\x07");
+/// assert_eq!(lent::convert_list(&output[..23], &mut [0; 18]), Err(Refusal::Output));
+/// # Ok::<(), Refusal>(())
+/// ```
+pub fn convert_list(list: &[u8], output: &mut [u8]) -> Result<usize, Refusal> {
+    // SAFETY: each pointer goes with the length of its slice; what is writable is borrowed alone.
+    let answer = unsafe { ffi::mlhe_convert_list(list.as_ptr(), list.len(), output.as_mut_ptr(), output.len()) };
+    Refusal::of_answer(answer).map(|length| length as usize)
 }
 
 /// Recolours a frame from the new intensities in a plane, into the first bytes of the output. Refusals, in order: 1, 2,

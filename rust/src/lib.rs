@@ -19,9 +19,9 @@
 //! # What there is
 //!
 //! - [`Frame`] and [`Plane`] own their bytes and always have the length of their sides.
-//! - [`Pass`], [`Rule`] and [`Settings`] say what to do, and [`PassList`] is a list of passes that has been checked.
-//!   With eight neighbours, by [`Pass::with_neighbours`] and [`Settings::with_neighbours`], pixels that touch at a
-//!   corner belong together.
+//! - [`Pass`], [`Rule`] and [`Settings`] say what to do, and [`PassList`] is a list of passes that has been checked,
+//!   with its file of version 1 or 2. With eight neighbours, by [`Pass::with_neighbours`] and
+//!   [`Settings::with_neighbours`], pixels that touch at a corner belong together.
 //! - [`Counts`] is what passes and enhancements count: the components that were retoned, and those that were kept back.
 //! - [`Memory`] is working memory, to be used again from call to call.
 //! - [`Refusal`] says why a call is turned down.
@@ -60,6 +60,6 @@ pub use plane::Plane;
 pub use refusal::Refusal;
 pub use settings::Settings;
 pub use sizes::{
-    GREATEST_CLIP, GREATEST_HEADER, GREATEST_HIGH, GREATEST_LEVEL, GREATEST_PASSES, GREATEST_PIXELS, GREATEST_SEGMENTS,
-    GREATEST_SIDE, GREATEST_SLOPE,
+    GREATEST_CLIP, GREATEST_HEADER, GREATEST_HIGH, GREATEST_LEVEL, GREATEST_LIST, GREATEST_PASSES, GREATEST_PIXELS,
+    GREATEST_SEGMENTS, GREATEST_SIDE, GREATEST_SLOPE,
 };

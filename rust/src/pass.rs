@@ -1,6 +1,6 @@
 //! Passes, their tone rules, and lists of passes.
 
-use crate::{lent, Refusal, GREATEST_PASSES};
+use crate::{lent, Refusal};
 
 /// A tone rule with its own numbers. A later version may have more rules.
 #[derive(Clone, Copy, Debug, PartialEq, Eq, Hash)]
@@ -108,7 +108,7 @@ impl Pass {
         Pass { neighbours, ..self }
     }
 
-    /// The pass of a record that the library accepts.
+    /// The pass of a record, of either version, that the library accepts.
     fn of_record(record: &[u8]) -> Pass {
         let half = |at: usize| u16::from_le_bytes([record[at], record[at + 1]]);
         let rule = match record[2] {
@@ -117,26 +117,30 @@ impl Pass {
             _ => Rule::Affine { segments: record[3], smin: half(8), smax: half(10) },
         };
         let area = u32::from_le_bytes([record[4], record[5], record[6], record[7]]);
-        Pass::new(record[0], record[1], area, rule)
+        let pass = Pass::new(record[0], record[1], area, rule);
+        record.get(RECORD_1).map_or(pass, |&neighbours| pass.with_neighbours(neighbours))
     }
 
-    /// The record of the pass, which has no place for the neighbours.
-    fn to_record(self) -> [u8; RECORD] {
+    /// The record of the pass in version 2; its first bytes are the record in version 1, which has no place for the
+    /// neighbours.
+    fn to_record(self) -> [u8; RECORD_2] {
         let (code, first, second, segments) = self.rule.numbers();
         let ([f, g], [s, t]) = (first.to_le_bytes(), second.to_le_bytes());
         let [i, j, k, l] = self.area.to_le_bytes();
-        [self.a, self.b, code, segments, i, j, k, l, f, g, s, t]
+        [self.a, self.b, code, segments, i, j, k, l, f, g, s, t, self.neighbours, 0, 0, 0]
     }
 }
 
-/// The bytes before the first record of a list, and those of a record.
+/// The bytes before the first record of a list, and those of a record in version 1 and in version 2.
 const HEAD: usize = 7;
-const RECORD: usize = 12;
+const RECORD_1: usize = 12;
+const RECORD_2: usize = 16;
 
-/// Passes to run one after the other, checked: none of them is refused. At most [`GREATEST_PASSES`].
+/// Passes to run one after the other, checked: none of them is refused. At most
+/// [`GREATEST_PASSES`](crate::GREATEST_PASSES).
 ///
-/// A list in memory carries the neighbours of each pass. Its file format, of version 1, has no place for them and means
-/// four.
+/// A list has its file: of version 1, which means four neighbours, or of version 2, in which each pass has its own
+/// number of them. Lists are equal if their files are.
 ///
 /// ```
 /// use mlhe::{Counts, Memory, Pass, PassList, Plane, Refusal, Rule};
@@ -149,51 +153,54 @@ const RECORD: usize = 12;
 /// assert_eq!(plane.values(), [64, 127, 200, 10, 10]);
 ///
 /// // The file format, and back.
-/// let bytes = list.bytes().expect("all its passes have four neighbours");
-/// assert_eq!(PassList::from_bytes(bytes)?, list);
+/// assert_eq!(PassList::from_bytes(list.bytes())?, list);
 /// assert_eq!(PassList::from_bytes(b"MLQ\x01\0\0\0"), Err(Refusal::ListMark));
 /// assert_eq!(PassList::new(&[Pass::new(9, 8, 1, rule)]), Err(Refusal::Interval));
 ///
-/// // A list in memory may have eight neighbours.
+/// // A list with eight neighbours is of version 2.
 /// let mixed = PassList::new(&[dark, dark.with_neighbours(8)])?;
 /// let mut plane = Plane::new(2, 2, vec![10, 200, 200, 20])?;
 /// assert_eq!(plane.run(&mixed, &mut Memory::new()), Counts { retoned: 1, kept: 2 });
 /// assert_eq!(plane.values(), [64, 200, 200, 127]);
-/// assert_eq!((mixed.passes()[1].neighbours, mixed.bytes()), (8, None));
+/// assert_eq!((list.version(), mixed.version()), (1, 2));
 /// assert_eq!(PassList::new(&[dark.with_neighbours(9)]), Err(Refusal::Neighbours));
 /// # Ok::<(), Refusal>(())
 /// ```
 #[derive(Clone, Debug, PartialEq, Eq, Hash)]
 pub struct PassList {
     passes: Vec<Pass>,
-    /// The list in its file format, where that has a place for all of it.
-    bytes: Option<Vec<u8>>,
+    bytes: Vec<u8>,
 }
 
 impl PassList {
-    /// The list of these passes. Refusals, in order: [`Refusal::ListLength`] for more than 1,024; then for each pass
-    /// [`Refusal::Interval`], [`Refusal::Area`], [`Refusal::Limits`], [`Refusal::Clip`], [`Refusal::Slopes`],
-    /// [`Refusal::Neighbours`].
+    /// The list of these passes, of version 1 where all of them have four neighbours and of version 2 otherwise.
+    /// Refusals, in order: [`Refusal::ListLength`] for more than 1,024; then for each pass [`Refusal::Interval`],
+    /// [`Refusal::Area`], [`Refusal::Limits`], [`Refusal::Clip`], [`Refusal::Slopes`], [`Refusal::Neighbours`].
     pub fn new(passes: &[Pass]) -> Result<PassList, Refusal> {
-        if passes.len() > GREATEST_PASSES {
-            return Err(Refusal::ListLength);
-        }
-        for pass in passes {
-            // The library checks the numbers of a pass before it runs, so one pixel is enough to have them checked.
-            lent::pass(&mut [0], &mut [0], &mut [0], 1, 1, pass)?;
-        }
+        let count = u16::try_from(passes.len()).map_err(|_| Refusal::ListLength)?;
         let all_four = passes.iter().all(|pass| pass.neighbours == 4);
-        Ok(PassList { passes: passes.to_vec(), bytes: all_four.then(|| written(passes)) })
+        let (version, length) = if all_four { (1_u16, RECORD_1) } else { (2, RECORD_2) };
+        let mut bytes = b"MLP".to_vec();
+        bytes.extend(version.to_le_bytes());
+        bytes.extend(count.to_le_bytes());
+        passes.iter().for_each(|pass| bytes.extend(&pass.to_record()[..length]));
+        PassList::of_file(bytes)
     }
 
-    /// A list in its file format, whose passes have four neighbours. Refusals, in order: [`Refusal::ListLength`] for
-    /// fewer than 7 bytes, [`Refusal::ListMark`], [`Refusal::ListLength`]; then for each record [`Refusal::Rule`],
-    /// [`Refusal::Interval`], [`Refusal::Area`], [`Refusal::Limits`], [`Refusal::Clip`], [`Refusal::Slopes`].
+    /// A list in its file format, of version 1 or 2. Refusals, in order: [`Refusal::ListLength`] for fewer than 7
+    /// bytes, [`Refusal::ListMark`], [`Refusal::ListLength`]; then for each record [`Refusal::Rule`],
+    /// [`Refusal::Interval`], [`Refusal::Area`], [`Refusal::Limits`], [`Refusal::Clip`], [`Refusal::Slopes`],
+    /// [`Refusal::Neighbours`].
     pub fn from_bytes(bytes: &[u8]) -> Result<PassList, Refusal> {
+        PassList::of_file(bytes.to_vec())
+    }
+
+    fn of_file(bytes: Vec<u8>) -> Result<PassList, Refusal> {
         // The library checks a whole list before it runs the first pass, so one pixel is enough to have it checked.
-        lent::run_list(bytes, &mut [0], &mut [0], &mut [0], 1, 1)?;
-        let passes = bytes[HEAD..].chunks_exact(RECORD).map(Pass::of_record).collect();
-        Ok(PassList { passes, bytes: Some(bytes.to_vec()) })
+        lent::run_list(&bytes, &mut [0], &mut [0], &mut [0], 1, 1)?;
+        let length = if version(&bytes) == 1 { RECORD_1 } else { RECORD_2 };
+        let passes = bytes[HEAD..].chunks_exact(length).map(Pass::of_record).collect();
+        Ok(PassList { passes, bytes })
     }
 
     /// The passes, in their order.
@@ -202,18 +209,44 @@ impl PassList {
         &self.passes
     }
 
-    /// The list in its file format, of version 1; nothing where a pass has eight neighbours, for which that format has
-    /// no place.
+    /// The list in its file format: as it was read, or as [`PassList::new`] says.
     #[must_use]
-    pub fn bytes(&self) -> Option<&[u8]> {
-        self.bytes.as_deref()
+    pub fn bytes(&self) -> &[u8] {
+        &self.bytes
+    }
+
+    /// The version of the file, 1 or 2.
+    #[must_use]
+    pub fn version(&self) -> u16 {
+        version(&self.bytes)
+    }
+
+    /// The same passes in the other version, which run to the same plane and counts. Converted again, it is this list.
+    /// [`Refusal::EightNeighbours`] where the other version is 1 and a pass has eight neighbours.
+    ///
+    /// ```
+    /// use mlhe::{Pass, PassList, Refusal, Rule};
+    ///
+    /// let dark = Pass::new(0, 127, 1, Rule::Plain { low: 0, high: 25_500 });
+    /// let list = PassList::new(&[dark])?;
+    /// let second = list.converted()?;
+    /// assert_eq!((second.version(), second.passes()), (2, list.passes()));
+    /// assert_eq!(second.bytes(), [b"MLP\x02\0\x01\0", &list.bytes()[7..], &[4, 0, 0, 0]].concat());
+    /// assert_eq!(second.converted()?, list);
+    ///
+    /// let eight = PassList::new(&[dark.with_neighbours(8)])?;
+    /// assert_eq!(eight.converted(), Err(Refusal::EightNeighbours));
+    /// # Ok::<(), Refusal>(())
+    /// ```
+    pub fn converted(&self) -> Result<PassList, Refusal> {
+        let mut bytes = vec![0; HEAD + RECORD_2 * self.passes.len()];
+        let length = lent::convert_list(&self.bytes, &mut bytes)?;
+        bytes.truncate(length);
+        Ok(PassList { passes: self.passes.clone(), bytes })
     }
 }
 
-/// The file of at most [`GREATEST_PASSES`] passes, which have four neighbours.
-fn written(passes: &[Pass]) -> Vec<u8> {
-    let mut bytes = b"MLP\x01\x00".to_vec();
-    bytes.extend((passes.len() as u16).to_le_bytes());
-    bytes.extend(passes.iter().flat_map(|pass| pass.to_record()));
-    bytes
+/// The version that a file has, if it is a list.
+fn version(bytes: &[u8]) -> u16 {
+    u16::from_le_bytes([bytes[3], bytes[4]])
 }

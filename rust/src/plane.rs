@@ -86,16 +86,7 @@ impl Plane {
     /// Runs the passes of a list and answers the sums of their counts. A list is the chain of its passes, one after the
     /// other (theorem `lists-are-chains`), and was checked whole when it was made, so that all of it runs.
     pub fn run(&mut self, list: &PassList, memory: &mut Memory) -> Counts {
-        let sound = "plane and list are sound";
         let (marks, queue) = memory.lend(self.values.len());
-        if let Some(bytes) = list.bytes() {
-            return lent::run_list(bytes, &mut self.values, marks, queue, self.w, self.h).expect(sound);
-        }
-        let mut sums = Counts::default();
-        for pass in list.passes() {
-            let counts = lent::pass(&mut self.values, marks, queue, self.w, self.h, pass).expect(sound);
-            sums = Counts { retoned: sums.retoned + counts.retoned, kept: sums.kept + counts.kept };
-        }
-        sums
+        lent::run_list(list.bytes(), &mut self.values, marks, queue, self.w, self.h).expect("plane and list are sound")
     }
 }

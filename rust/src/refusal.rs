@@ -55,6 +55,8 @@ pub enum Refusal {
     Slopes = 18,
     /// 19: the number of neighbours is neither 4 nor 8.
     Neighbours = 19,
+    /// 20: a pass with eight neighbours does not fit a pass list of version 1, which a list of version 2 is to become.
+    EightNeighbours = 20,
 }
 
 impl Refusal {
@@ -79,6 +81,7 @@ impl Refusal {
         Refusal::Rule,
         Refusal::Slopes,
         Refusal::Neighbours,
+        Refusal::EightNeighbours,
     ];
 
     /// The refusal's number, from 1 on.
@@ -105,11 +108,12 @@ impl Refusal {
             Refusal::Raster => "the raster is short",
             Refusal::Trailing => "there are bytes after the raster",
             Refusal::Output => "the output is too short",
-            Refusal::ListMark => "it is no pass list of version 1",
+            Refusal::ListMark => "it is no pass list of version 1 or 2",
             Refusal::ListLength => "the pass list's count or length is wrong",
             Refusal::Rule => "there is no such tone rule, or a number that has to be 0 is set",
             Refusal::Slopes => "there are 0 segments or more than 16, smin is above smax, or smax is above 10,000",
             Refusal::Neighbours => "the number of neighbours is neither 4 nor 8",
+            Refusal::EightNeighbours => "a pass with eight neighbours does not fit version 1",
         }
     }
 

@@ -12,6 +12,9 @@ pub const GREATEST_HEADER: usize = 17;
 /// The most passes of a list.
 pub const GREATEST_PASSES: usize = 1_024;
 
+/// The most bytes of a list: those of as many passes in version 2.
+pub const GREATEST_LIST: usize = 16_391;
+
 /// The greatest last level of an enhancement.
 pub const GREATEST_LEVEL: u8 = 7;
 

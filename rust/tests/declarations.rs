@@ -5,8 +5,8 @@
 
 use mlhe::{Pass, PassList, Refusal, Rule, Settings};
 use mlhe::{
-    GREATEST_CLIP, GREATEST_HEADER, GREATEST_HIGH, GREATEST_LEVEL, GREATEST_PASSES, GREATEST_PIXELS, GREATEST_SEGMENTS,
-    GREATEST_SIDE, GREATEST_SLOPE,
+    GREATEST_CLIP, GREATEST_HEADER, GREATEST_HIGH, GREATEST_LEVEL, GREATEST_LIST, GREATEST_PASSES, GREATEST_PIXELS,
+    GREATEST_SEGMENTS, GREATEST_SIDE, GREATEST_SLOPE,
 };
 use std::collections::BTreeMap;
 use std::fs;
@@ -99,7 +99,7 @@ fn of_rust() -> Functions {
 #[test]
 fn the_declarations_agree() {
     let rattle = of_rattle();
-    assert_eq!(rattle.len(), 7);
+    assert_eq!(rattle.len(), 8);
     assert_eq!(rattle, of_header());
     assert_eq!(rattle, of_rust());
 }
@@ -137,6 +137,7 @@ fn the_sizes_of_the_header_are_those_of_the_crate() {
         ("PIXELS", GREATEST_PIXELS),
         ("HEADER", GREATEST_HEADER),
         ("PASSES", GREATEST_PASSES),
+        ("LIST", GREATEST_LIST),
         ("LEVEL", GREATEST_LEVEL.into()),
         ("HIGH", GREATEST_HIGH.into()),
         ("CLIP", GREATEST_CLIP.into()),
@@ -171,8 +172,7 @@ fn the_rules_of_the_header_are_those_of_the_crate() {
     let rules =
         [Rule::Plain { low: 0, high: 1 }, Rule::Limited { k: 2 }, Rule::Affine { segments: 3, smin: 4, smax: 5 }];
     let list = PassList::new(&rules.map(|rule| Pass::new(0, 255, 1, rule))).expect("accepted");
-    let bytes = list.bytes().expect("four neighbours");
-    let codes: Vec<u32> = bytes[7..].chunks(12).map(|record| record[2].into()).collect();
+    let codes: Vec<u32> = list.bytes()[7..].chunks(12).map(|record| record[2].into()).collect();
     assert_eq!(numbers(&["PLAIN", "LIMITED", "AFFINE"]), codes);
     assert_eq!(numbers(&["RULE_CODE", "RULE_FIRST", "RULE_SECOND", "RULE_SEGMENTS"]), [0, 1, 2, 3]);
     assert_eq!(numbers(&["RULE_NEIGHBOURS", "RULE_NUMBERS", "PASS_NUMBERS"]), [4, 4, 5]);
@@ -212,11 +212,13 @@ fn the_refusals_of_the_header_are_those_of_the_crate() {
     assert_eq!(numbers, Refusal::ALL.iter().map(|refusal| refusal.number()).collect::<Vec<_>>());
 }
 
-/// The refusals by sides, lengths and neighbours are named in the library's own source too.
+/// The refusals are named in the library's own source too: here those by the number of neighbours.
 #[test]
-fn the_refusal_of_neighbours_is_that_of_the_library() {
-    let library = number_after(&text("crates/planes/src/refused.rt"), "pub const NEIGHBOURS: u8 = ");
-    assert_eq!(library, Refusal::Neighbours.number().into());
+fn the_refusals_of_neighbours_are_those_of_the_library() {
+    let library = text("crates/planes/src/refused.rt");
+    for (name, refusal) in [("NEIGHBOURS", Refusal::Neighbours), ("NO_PLACE", Refusal::EightNeighbours)] {
+        assert_eq!(number_after(&library, &format!("pub const {name}: u8 = ")), refusal.number().into());
+    }
 }
 
 /// The number after a mark, which stands once in the text.

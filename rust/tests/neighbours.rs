@@ -73,11 +73,11 @@ fn what_mixed_passes_keep() {
 fn lists_of_both() {
     let eight = DARK.with_neighbours(8);
     assert_eq!(passed(2, &CORNER, &[DARK, eight, DARK]), (vec![64, 200, 200, 127], counts(1, 4)));
-    let list = PassList::new(&[DARK, eight]).unwrap();
-    assert_eq!((list.passes(), list.bytes()), (&[DARK, eight][..], None));
-    // A file means four.
-    let file = PassList::new(&[DARK]).unwrap();
-    assert_eq!(PassList::from_bytes(file.bytes().unwrap()).unwrap().passes(), [DARK]);
+    for passes in [&[DARK, eight][..], &[eight], &[DARK, DARK]] {
+        let list = PassList::new(passes).unwrap();
+        assert_eq!(list.passes(), passes);
+        assert_eq!(PassList::from_bytes(list.bytes()).unwrap().passes(), passes);
+    }
     // Passes are checked in their order, each with the neighbours last.
     let wrong = |passes: &[Pass]| PassList::new(passes).unwrap_err();
     let affine = Pass::new(0, 255, 1, Rule::Affine { segments: 0, smin: 0, smax: 0 });

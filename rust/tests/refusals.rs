@@ -2,8 +2,8 @@
 
 use mlhe::{ffi, lent, Counts, Frame, Memory, Pass, PassList, Plane, Refusal, Rule, Settings};
 use mlhe::{
-    GREATEST_CLIP, GREATEST_HEADER, GREATEST_HIGH, GREATEST_LEVEL, GREATEST_PASSES, GREATEST_PIXELS, GREATEST_SEGMENTS,
-    GREATEST_SIDE, GREATEST_SLOPE,
+    GREATEST_CLIP, GREATEST_HEADER, GREATEST_HIGH, GREATEST_LEVEL, GREATEST_LIST, GREATEST_PASSES, GREATEST_PIXELS,
+    GREATEST_SEGMENTS, GREATEST_SIDE, GREATEST_SLOPE,
 };
 use std::ptr::{null, null_mut};
 
@@ -80,9 +80,10 @@ fn the_sizes_are_those_of_the_library() {
     let longest = Frame::new(GREATEST_SIDE / 4, GREATEST_SIDE / 4, vec![0; 3 * GREATEST_PIXELS]).unwrap();
     assert_eq!(longest.to_p6().len(), GREATEST_HEADER + 3 * GREATEST_PIXELS);
 
-    let list = |passes: usize| PassList::new(&vec![WHOLE; passes]).map(|list| list.bytes().map(<[u8]>::len));
-    assert_eq!(list(GREATEST_PASSES), Ok(Some(7 + 12 * GREATEST_PASSES)));
-    assert_eq!(list(GREATEST_PASSES + 1), Err(Refusal::ListLength));
+    let list = |pass: Pass, count: usize| PassList::new(&vec![pass; count]).map(|list| list.bytes().len());
+    assert_eq!(list(WHOLE, GREATEST_PASSES), Ok(7 + 12 * GREATEST_PASSES));
+    assert_eq!(list(WHOLE.with_neighbours(8), GREATEST_PASSES), Ok(GREATEST_LIST));
+    assert_eq!(list(WHOLE, GREATEST_PASSES + 1), Err(Refusal::ListLength));
     let frame = Frame::new(1, 1, vec![1, 2, 3]).unwrap();
     let enhanced = |settings: Settings| frame.enhanced(&settings, &mut Memory::new()).map(|enhanced| enhanced.counts);
     let once = Ok(Counts { retoned: 0, kept: 1 });
@@ -105,9 +106,10 @@ fn the_sizes_are_those_of_the_library() {
 
 #[test]
 fn a_list_has_at_most_1024_passes() {
-    let longest = PassList::new(&[WHOLE; 1_024]).unwrap();
-    assert_eq!(longest.bytes().map(<[u8]>::len), Some(7 + 12 * 1_024));
-    assert_eq!(PassList::from_bytes(longest.bytes().unwrap()), Ok(longest));
+    for pass in [WHOLE, WHOLE.with_neighbours(8)] {
+        let longest = PassList::new(&[pass; 1_024]).unwrap();
+        assert_eq!(PassList::from_bytes(longest.bytes()), Ok(longest));
+    }
     for pass in [WHOLE, WHOLE.with_neighbours(8), WHOLE.with_neighbours(9)] {
         assert_eq!(PassList::new(&[pass; 1_025]), Err(Refusal::ListLength));
         assert_eq!(PassList::new(&[pass; 65_536]), Err(Refusal::ListLength));
@@ -151,6 +153,9 @@ fn no_memory_at_all_is_refused() {
         let (mut plane, mut marks, mut queue) = ([1], [0], [0]);
         let (p, m, q) = (plane.as_mut_ptr(), marks.as_mut_ptr(), queue.as_mut_ptr());
         assert_eq!(ffi::mlhe_run_list(null(), 0, p, 1, m, 1, q, 1, 1, 1, null_mut(), 0), -16);
+        assert_eq!(ffi::mlhe_convert_list(null(), 0, null_mut(), 0), -16);
+        let empty = *b"MLP\x02\0\0\0";
+        assert_eq!(ffi::mlhe_convert_list(empty.as_ptr(), empty.len(), null_mut(), 0), -14);
         assert_eq!(ffi::mlhe_pass(p, 1, m, 1, q, 1, 1, 1, 0, 255, 1, null(), 0, null_mut(), 0), -17);
     }
 }
@@ -170,7 +175,7 @@ fn counted_pass(area: u8, lent: usize) -> Left {
 
 /// The same as a list.
 fn counted_list(area: u8, lent: usize) -> Left {
-    let mut list = PassList::new(&[WHOLE]).unwrap().bytes().unwrap().to_vec();
+    let mut list = PassList::new(&[WHOLE]).unwrap().bytes().to_vec();
     list[11] = area;
     let (mut plane, mut marks, mut queue, mut counts) = ([10, 20], [0; 2], [0; 2], [7; 3]);
     let (p, m, q, c) = (plane.as_mut_ptr(), marks.as_mut_ptr(), queue.as_mut_ptr(), counts.as_mut_ptr());

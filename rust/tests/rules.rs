@@ -58,7 +58,7 @@ fn a_list_of_all_rules() {
         [100, 200, 1, 0, 1, 0, 0, 0, 10, 0, 0, 0],
     ];
     let bytes = [&b"MLP\x01\0\x04\0"[..], &records.concat()].concat();
-    assert_eq!(list.bytes(), Some(&bytes[..]));
+    assert_eq!(list.bytes(), bytes);
     assert_eq!(PassList::from_bytes(&bytes).unwrap().passes(), list.passes());
     let mut plane = Plane::new(4, 1, ROW.to_vec()).unwrap();
     assert_eq!(plane.run(&list, &mut Memory::new()), Counts { retoned: 3, kept: 1 });

@@ -11,7 +11,7 @@
 #include <string.h>
 #include <ucontext.h>
 
-enum { ROOM = 1 << 20, PAINT = 0xA5, KINDS = 5 };
+enum { ROOM = 1 << 20, PAINT = 0xA5, KINDS = 5, LIST_1 = 19, LIST_2 = 23 };
 
 static struct frame {
     size_t w, h, n;
@@ -19,7 +19,7 @@ static struct frame {
     uint32_t *queue;
 } frame;
 
-/* The setting of a call; a list has one pass with the same, but for the neighbours, which are four. */
+/* The setting of a call. A list has one pass with the same: it is of version 2 where the neighbours are lent. */
 static const struct setting {
     uint16_t rule[MLHE_PASS_NUMBERS];
     size_t length;
@@ -59,10 +59,19 @@ static void pass(void) {
 static void run_list(void) {
     const uint16_t *rule = setting->rule, first = rule[MLHE_RULE_FIRST], second = rule[MLHE_RULE_SECOND];
     const uint8_t code = (uint8_t)rule[MLHE_RULE_CODE], segments = (uint8_t)rule[MLHE_RULE_SEGMENTS];
-    const uint8_t list[] = {'M', 'L', 'P', 1, 0, 1, 0, 0, 255, code, segments, setting->area, 0, 0, 0, (uint8_t)first,
-                            (uint8_t)(first >> 8), (uint8_t)second, (uint8_t)(second >> 8)};
-    answer = mlhe_run_list(list, sizeof list, frame.plane, frame.n, frame.marks, frame.n, frame.queue, frame.n, frame.w,
-                           frame.h, counts, MLHE_COUNTS);
+    const int is_second = setting->length == MLHE_PASS_NUMBERS;
+    const uint8_t list[LIST_2] = {'M', 'L', 'P', is_second ? 2 : 1, 0, 1, 0, 0, 255, code, segments, setting->area, 0,
+                                  0, 0, (uint8_t)first, (uint8_t)(first >> 8), (uint8_t)second, (uint8_t)(second >> 8),
+                                  (uint8_t)rule[MLHE_RULE_NEIGHBOURS]};
+    answer = mlhe_run_list(list, is_second ? LIST_2 : LIST_1, frame.plane, frame.n, frame.marks, frame.n, frame.queue,
+                           frame.n, frame.w, frame.h, counts, MLHE_COUNTS);
+}
+
+/* To version 2 and back. */
+static void convert_list(void) {
+    uint8_t list[LIST_1] = {'M', 'L', 'P', 1, 0, 1, 0, 0, 255, MLHE_LIMITED, 0, 1}, other[LIST_2];
+    answer = mlhe_convert_list(list, sizeof list, other, sizeof other);
+    answer = answer == LIST_2 ? mlhe_convert_list(other, sizeof other, list, sizeof list) : answer;
 }
 
 static void recolour(void) {
@@ -80,8 +89,8 @@ static const struct call {
     const char *name;
     void (*run)(void);
 } calls[] = {{"mlhe_write", write_},       {"mlhe_read", read_},         {"mlhe_intensity", intensity},
-             {"mlhe_pass", pass},          {"mlhe_run_list", run_list},  {"mlhe_recolour", recolour},
-             {"mlhe_enhance", enhance}};
+             {"mlhe_pass", pass},          {"mlhe_run_list", run_list},  {"mlhe_convert_list", convert_list},
+             {"mlhe_recolour", recolour},  {"mlhe_enhance", enhance}};
 enum { CALLS = sizeof calls / sizeof *calls };
 
 /* The bytes of stack that a call takes. */
@@ -166,7 +175,7 @@ int main(void) {
     }
     int high = 0;
     for (int call = 0; call < CALLS; call++) {
-        printf("%-16s %6zu bytes of stack\n", calls[call].name, most[call] - none);
+        printf("%-18s %6zu bytes of stack\n", calls[call].name, most[call] - none);
         high |= most[call] - none > MLHE_STACK;
     }
     free(stack);

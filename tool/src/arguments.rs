@@ -45,7 +45,7 @@ pub struct Enhance {
     pub plane: bool,
     #[command(flatten)]
     pub settings: Numbers,
-    /// Run the passes of a pass list, in place of settings; they have four neighbours
+    /// Run the passes of a pass list, of version 1 or 2, in place of settings
     #[arg(long, value_name = "FILE", conflicts_with_all = SETTINGS)]
     pub list: Option<PathBuf>,
     /// Write a line for each file, with tabs between file, size, answer, components retoned, components kept back, and
@@ -60,16 +60,21 @@ pub struct Enhance {
     pub paths: Vec<PathBuf>,
 }
 
-/// Prints a pass list as text, or writes one
+/// Prints a pass list as text, writes one, or converts one to the other version
 ///
 /// The list is read from a file, made from lines of text, or else the one that an enhancement with the settings equals.
 /// A line of text is a pass: first value, last value, least area, and `plain LOW HIGH`, `limited K` or
 /// `affine N SMIN SMAX`, then `neighbours 8` where it has eight. Empty lines and what follows a # are passed over. What
-/// is printed has this form too. A list file is of version 1, which means four neighbours and has no place for eight: a
-/// list that has them is printed, and not written.
+/// is printed has this form too.
+///
+/// List files of version 1 and 2 are read. Version 1 means four neighbours; in version 2 each pass has its own number.
+/// A list is written in version 1 where all its passes have four neighbours, and in version 2 otherwise.
 #[derive(Args)]
+#[command(args_conflicts_with_subcommands = true, disable_help_subcommand = true)]
 pub struct List {
-    /// A pass list, in the bytes of its file format
+    #[command(subcommand)]
+    pub command: Option<ListCommand>,
+    /// A pass list, in the bytes of its file format; one that is named convert is given as ./convert
     #[arg(value_name = "FILE", conflicts_with_all = SETTINGS, conflicts_with = "text")]
     pub file: Option<PathBuf>,
     /// Lines of text; - is standard input
@@ -77,9 +82,32 @@ pub struct List {
     pub text: Option<PathBuf>,
     #[command(flatten)]
     pub settings: Numbers,
-    /// Write the list to this file, in place of printing it; a list with eight neighbours is not written
+    /// Write the list to this file, in place of printing it
     #[arg(long, value_name = "FILE")]
     pub to: Option<PathBuf>,
+}
+
+#[derive(Subcommand)]
+pub enum ListCommand {
+    Convert(Convert),
+}
+
+/// Converts a list file to the other version, 1 to 2 or 2 to 1
+///
+/// The passes stay the same, so that both versions enhance alike, and what is converted twice is the first file again,
+/// byte for byte. A list with eight neighbours has no version 1, and is refused. The result is there whole or not at
+/// all, and is never written over the input.
+///
+/// Exit status: 0, it is written; 1, the list is refused, or a file cannot be read or written; 2, bad usage, and
+/// nothing was done.
+#[derive(Args)]
+pub struct Convert {
+    /// A pass list of version 1 or 2
+    #[arg(value_name = "FROM")]
+    pub from: PathBuf,
+    /// The file for the same list in the other version
+    #[arg(value_name = "TO")]
+    pub to: PathBuf,
 }
 
 /// The settings of an enhancement. What is not given is that of the house setting.

@@ -1,10 +1,13 @@
-//! Pass lists as text, and from settings.
+//! Pass lists as text, from settings, and in either version.
 
-use crate::arguments::List;
-use crate::{print, save, Stop};
-use mlhe::{Pass, PassList, Rule, Settings};
+use crate::arguments::{Convert, List, ListCommand};
+use crate::list_reasons::{self, counted};
+use crate::reasons::grouped;
+use crate::report::name;
+use crate::{plan, print, save, Stop};
+use mlhe::{Pass, PassList, Refusal, Rule, Settings};
 use std::fmt::Write;
-use std::path::Path;
+use std::path::{Path, PathBuf};
 use std::process::ExitCode;
 use std::str::{FromStr, SplitWhitespace};
 use std::{fs, io};
@@ -12,12 +15,14 @@ use std::{fs, io};
 /// The rules as they stand in a line.
 const RULES: &str = "plain LOW HIGH, limited K, or affine N SMIN SMAX";
 
-/// Why a list is not written to a file.
-const NO_PLACE: &str = "it is not written, for a list file of version 1 has no place for eight neighbours: leave --to \
-                        away to print the list as text";
-
-/// Prints or writes a list.
+/// Prints, writes or converts a list.
 pub fn run(arguments: &List) -> Result<ExitCode, Stop> {
+    if let Some(ListCommand::Convert(arguments)) = &arguments.command {
+        return convert(arguments);
+    }
+    if let Some(place) = &arguments.to {
+        replaceable(place, arguments.file.iter().chain(&arguments.text))?;
+    }
     let list = match (&arguments.file, &arguments.text) {
         (Some(file), _) => read(file).map_err(Stop::Failed)?,
         (_, Some(text)) => of_text(text).map_err(Stop::Failed)?,
@@ -25,22 +30,42 @@ pub fn run(arguments: &List) -> Result<ExitCode, Stop> {
     };
     match &arguments.to {
         None => print(&text(&list))?,
-        Some(file) => {
-            if fs::metadata(file).is_ok_and(|metadata| !metadata.is_file()) {
-                return Err(Stop::Usage(format!("{}: it is there and no file", file.display())));
-            }
-            let failed = |why: String| Stop::Failed(format!("{}: {why}", file.display()));
-            let bytes = list.bytes().ok_or_else(|| failed(NO_PLACE.to_owned()))?;
-            save::save(file, bytes).map_err(|error| failed(error.to_string()))?;
-        }
+        // A list of version 2 that was read is written in version 1 too, where that has a place for all its passes.
+        Some(place) => write(place, &PassList::new(list.passes()).expect("accepted passes make an accepted list"))?,
     }
     Ok(ExitCode::SUCCESS)
 }
 
+/// Converts a list file to the other version.
+fn convert(arguments: &Convert) -> Result<ExitCode, Stop> {
+    let Convert { from, to } = arguments;
+    replaceable(to, [from].into_iter())?;
+    let list = read(from).map_err(Stop::Failed)?;
+    let converted = list.converted().map_err(|refusal| Stop::Failed(refused(from, refusal, list.bytes())))?;
+    write(to, &converted)?;
+    let (passes, bytes) = (counted(converted.passes().len()), grouped(converted.bytes().len()));
+    print(&format!("{}: version {}, {passes}, {bytes} bytes\n", name(to), converted.version()))?;
+    Ok(ExitCode::SUCCESS)
+}
+
+/// A place to write to, which has to be no input and nothing but a file.
+fn replaceable<'a>(place: &Path, inputs: impl Iterator<Item = &'a PathBuf>) -> Result<(), Stop> {
+    plan::replaceable(place, &plan::inputs(inputs)).map_err(Stop::Usage)
+}
+
+fn write(place: &Path, list: &PassList) -> Result<(), Stop> {
+    save::save(place, list.bytes()).map_err(|error| Stop::Failed(format!("{}: {error}", name(place))))
+}
+
 /// The list in a file.
 pub fn read(file: &Path) -> Result<PassList, String> {
-    let bytes = fs::read(file).map_err(|error| format!("{}: {error}", file.display()))?;
-    PassList::from_bytes(&bytes).map_err(|refusal| format!("{}: {refusal}", file.display()))
+    let bytes = fs::read(file).map_err(|error| format!("{}: {error}", name(file)))?;
+    PassList::from_bytes(&bytes).map_err(|refusal| refused(file, refusal, &bytes))
+}
+
+/// That a list file is refused, and why.
+fn refused(file: &Path, refusal: Refusal, bytes: &[u8]) -> String {
+    format!("{}: refused {}: {}", name(file), refusal.number(), list_reasons::reason(refusal, bytes))
 }
 
 /// The list that an enhancement equals: level by level, lower sections first, level 0 with area 1, and the same
@@ -63,16 +88,16 @@ fn of_text(file: &Path) -> Result<PassList, String> {
         Some("-") => io::read_to_string(io::stdin()),
         _ => fs::read_to_string(file),
     };
-    let text = text.map_err(|error| format!("{}: {error}", file.display()))?;
+    let text = text.map_err(|error| format!("{}: {error}", name(file)))?;
     let mut passes = Vec::new();
     for (number, line) in text.lines().enumerate() {
         let line = line.split('#').next().unwrap_or_default();
         if line.trim().is_empty() {
             continue;
         }
-        passes.push(pass(line).map_err(|error| format!("{}, line {}: {error}", file.display(), number + 1))?);
+        passes.push(pass(line).map_err(|error| format!("{}, line {}: {error}", name(file), number + 1))?);
     }
-    PassList::new(&passes).map_err(|refusal| format!("{}: {refusal}", file.display()))
+    PassList::new(&passes).map_err(|refusal| format!("{}: {refusal}", name(file)))
 }
 
 /// The pass of a line, which the library has accepted.
@@ -154,13 +179,12 @@ mod tests {
     }
 
     #[test]
-    fn eight_neighbours_have_a_text_and_no_file() {
+    fn eight_neighbours_have_a_text() {
         let lines = ["0 255 1 plain 80 300", "16 200 3 limited 25 neighbours 8", "0 9 1 affine 5 50 300 neighbours 8"];
         let passes = lines.map(|line| pass(line).unwrap());
         assert_eq!(passes.map(|pass| pass.neighbours), [4, 8, 8]);
         let list = PassList::new(&passes).unwrap();
         assert_eq!(text(&list).lines().skip(1).collect::<Vec<_>>(), lines);
-        assert_eq!(list.bytes(), None);
         assert_eq!(pass("0 255 1 plain 80 300 neighbours 4").unwrap(), passes[0]);
         let eight = of_settings(&Settings::house().with_neighbours(8));
         assert!(text(&eight).lines().skip(1).all(|line| line.ends_with(" plain 80 300 neighbours 8")));

@@ -4,6 +4,7 @@
 mod arguments;
 mod enhance;
 mod frame;
+mod list_reasons;
 mod lists;
 mod plan;
 mod reasons;

@@ -31,6 +31,9 @@ pub struct Plan {
 /// A file is the same by any of its paths: the numbers of its device and in it.
 type Identity = (u64, u64);
 
+/// Files that are read.
+pub type Inputs<'a> = BTreeMap<Identity, &'a PathBuf>;
+
 /// The plan of a command, or what is wrong with it. The folders for the results are made.
 pub fn plan(arguments: &Enhance) -> Result<Plan, String> {
     let mut walk = Walk { arguments, results: resolved(&arguments.to), items: Vec::new(), passed_over: 0 };
@@ -199,20 +202,30 @@ fn distinct(items: Vec<Item>) -> Result<Vec<Item>, String> {
     Ok(kept)
 }
 
+/// The inputs of these paths that are there.
+pub fn inputs<'a>(paths: impl Iterator<Item = &'a PathBuf>) -> Inputs<'a> {
+    paths.filter_map(|path| Some((identity(path)?, path))).collect()
+}
+
+/// A target that is there is no input by any path, and nothing but a file.
+pub fn replaceable(target: &Path, inputs: &Inputs) -> Result<(), String> {
+    let Ok(metadata) = fs::metadata(target) else { return Ok(()) };
+    if let Some(input) = inputs.get(&(metadata.dev(), metadata.ino())) {
+        return Err(format!("{} would be written over the input {}", name(target), name(input)));
+    }
+    if !metadata.is_file() {
+        return Err(format!("{}: it is there and no file", name(target)));
+    }
+    Ok(())
+}
+
 /// No target, and not the report, is an input by any path, or anything but a file; the report is no target.
 fn no_input(items: &[Item], arguments: &Enhance) -> Result<(), String> {
-    let sources = items.iter().map(|item| &item.source).chain(&arguments.list);
-    let inputs: BTreeMap<Identity, &PathBuf> = sources.filter_map(|path| Some((identity(path)?, path))).collect();
+    let inputs = inputs(items.iter().map(|item| &item.source).chain(&arguments.list));
     let targets: Vec<&PathBuf> =
         items.iter().flat_map(|item| std::iter::once(&item.target).chain(&item.plane)).collect();
     for target in targets.iter().copied().chain(&arguments.report) {
-        let Ok(metadata) = fs::metadata(target) else { continue };
-        if let Some(input) = inputs.get(&(metadata.dev(), metadata.ino())) {
-            return Err(format!("{} would be written over the input {}", name(target), name(input)));
-        }
-        if !metadata.is_file() {
-            return Err(format!("{}: it is there and no file", name(target)));
-        }
+        replaceable(target, &inputs)?;
     }
     if let Some(report) = &arguments.report {
         let report = resolved(report);

@@ -170,7 +170,7 @@ fn is_behind_comment(bytes: &[u8]) -> bool {
 }
 
 /// Whether the first bytes are text: no control codes but white space, and characters as UTF-8 has them.
-fn is_text(bytes: &[u8]) -> bool {
+pub fn is_text(bytes: &[u8]) -> bool {
     let first = &bytes[..bytes.len().min(512)];
     let sound = match std::str::from_utf8(first) {
         Ok(_) => true,
@@ -188,7 +188,7 @@ fn trailing(rest: &[u8], length: usize) -> String {
 }
 
 /// A number with commas.
-fn grouped(number: usize) -> String {
+pub fn grouped(number: usize) -> String {
     let digits = number.to_string();
     let groups: Vec<String> =
         digits.as_bytes().rchunks(3).rev().map(|group| group.escape_ascii().to_string()).collect();

@@ -1,8 +1,8 @@
 //! What the tool writes, against the second implementation for small frames and against the library's own calls for
 //! large ones: the frame, the plane beside it, and both counts in the report.
 
-use mlhe_reference::{enhance, intensity, list_bytes, read, recolour, run_list, GREATEST_PIXELS};
-use mlhe_reference::{Counts, Pass, Rule, Settings};
+use mlhe_reference::{convert, enhance, intensity, list_bytes_of, read, recolour, run_list, GREATEST_PIXELS};
+use mlhe_reference::{Counts, Pass, Rule, Settings, Version};
 use std::fs;
 use std::path::{Path, PathBuf};
 use std::process::Command;
@@ -100,23 +100,58 @@ fn settings() {
     }
 }
 
+/// Three passes as lines of text, and as the second implementation has them. The second has so many neighbours.
+fn three(neighbours: u8) -> (String, [Pass; 3]) {
+    let lines = [" 0 255 1 plain 0 25500", "16 200 3 limited 25 neighbours N # clipped", "0 127 2 affine 5 50 300"];
+    let text = format!("# three\n\n{}\n", lines.join("\n")).replace('N', &neighbours.to_string());
+    let passes = [
+        Pass { a: 0, b: 255, area: 1, rule: Rule::Plain { low: 0, high: 25_500 }, neighbours: 4 },
+        Pass { a: 16, b: 200, area: 3, rule: Rule::Limited { k: 25 }, neighbours },
+        Pass { a: 0, b: 127, area: 2, rule: AFFINE, neighbours: 4 },
+    ];
+    (text, passes)
+}
+
+/// Lists are written in version 1 where all passes have four neighbours, and in version 2 otherwise.
 #[test]
 fn lists() {
     let folder = folder("lists");
     let [text, list] = ["list.txt", "list.mlp"].map(|name| folder.join(name));
     let (text, list) = (text.to_str().unwrap(), list.to_str().unwrap());
-    let lines = "# three\n\n 0 255 1 plain 0 25500\n16 200 3 limited 25 # clipped\n0 127 2 affine 5 50 300\n";
-    fs::write(text, lines).unwrap();
-    zopykue(&["list", "--text", text, "--to", list]);
-    let passes = [
-        Pass { a: 0, b: 255, area: 1, rule: Rule::Plain { low: 0, high: 25_500 }, neighbours: 4 },
-        Pass { a: 16, b: 200, area: 3, rule: Rule::Limited { k: 25 }, neighbours: 4 },
-        Pass { a: 0, b: 127, area: 2, rule: AFFINE, neighbours: 4 },
-    ];
-    assert_eq!(fs::read(list).unwrap(), list_bytes(&passes));
-    for name in FRAMES {
-        let bytes = fs::read(corpus(name)).unwrap();
-        assert!(written(&folder, &corpus(name), &["--list", list]) == of_list(&bytes, &list_bytes(&passes)), "{name}");
+    for (neighbours, version) in [(4, Version::One), (8, Version::Two)] {
+        let (lines, passes) = three(neighbours);
+        fs::write(text, lines).unwrap();
+        zopykue(&["list", "--text", text, "--to", list]);
+        let expected = list_bytes_of(version, &passes);
+        assert_eq!(fs::read(list).unwrap(), expected);
+        for name in FRAMES {
+            let bytes = fs::read(corpus(name)).unwrap();
+            let answer = written(&folder, &corpus(name), &["--list", list]);
+            assert!(answer == of_list(&bytes, &expected), "{name} {version:?}");
+        }
+    }
+}
+
+/// Either version becomes what the second implementation's converter makes of it, and both enhance alike.
+#[test]
+fn converted_lists() {
+    let folder = folder("converted-lists");
+    let files = ["first.mlp", "second.mlp", "third.mlp"].map(|name| folder.join(name));
+    let [first, second, third] = files.each_ref().map(|file| file.to_str().unwrap());
+    let passes = three(4).1;
+    for version in Version::BOTH {
+        let bytes = list_bytes_of(version, &passes);
+        let mut expected = vec![0; version.other().length(passes.len())];
+        assert_eq!(convert(&bytes, &mut expected), Ok(expected.len()));
+        fs::write(first, &bytes).unwrap();
+        zopykue(&["list", "convert", first, second]);
+        assert_eq!(fs::read(second).unwrap(), expected);
+        zopykue(&["list", "convert", second, third]);
+        assert_eq!(fs::read(third).unwrap(), bytes);
+        for name in FRAMES {
+            let [one, other] = [first, second].map(|list| written(&folder, &corpus(name), &["--list", list]));
+            assert!(one == other, "{name} {version:?}");
+        }
     }
 }
 
@@ -125,7 +160,12 @@ fn the_list_of_settings_is_the_enhancement() {
     let folder = folder("list-of-settings");
     let list = folder.join("list.mlp");
     let list = list.to_str().unwrap();
-    for words in [&[][..], &["--last", "4", "--area", "3", "--limited", "30"], &["--affine", "5", "50", "300"]] {
+    for words in [
+        &[][..],
+        &["--last", "4", "--area", "3", "--limited", "30"],
+        &["--affine", "5", "50", "300"],
+        &["--neighbours", "8", "--area", "3"],
+    ] {
         zopykue(&[&["list", "--to", list], words].concat());
         let frame = corpus("opencv.ppm");
         assert!(written(&folder, &frame, &["--list", list]) == written(&folder, &frame, words), "{words:?}");

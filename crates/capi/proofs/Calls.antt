@@ -36,7 +36,11 @@ use Rattle.netpbm.specs.declared.Header.the-variants as Header
 use Rattle.netpbm.specs.Reading.{readAnswer}
 use Rattle.texts.specs.declared.Written.{Written}
 use Rattle.texts.specs.Writing.{writtenReply, WritingOutcome}
-use Rattle.texts.proofs.Writing.{wrote-size}
+use Rattle.texts.proofs.Writing.{wrote-none, wrote-size}
+use Rattle.listformat.specs.Format.{other, countOf, editionOf}
+use Rattle.listformat.proofs.Format.{headed, records-low}
+use Rattle.conversion.specs.Conversion.{ConvertOutcome}
+use Rattle.conversion.proofs.Refusals.{length-converted, convertible, head-sound}
 use Rattle.netpbm.specs.Writing.{WriteOutcome}
 use Rattle.netpbm.proofs.Writing.{wrote-writable}
 use Rattle.cnumbers.specs.Numbers.{encoded, numberReply, doneReply, statusNumber, answerNumber, writtenNumber, Short}
@@ -350,4 +354,16 @@ write-short raster w h {output} {output'} s o = record {
       let sides = fits .size in
       let short = heading-short w h (omega (arith, sides .narrow)) (omega (arith, sides .low)) in
       omega (arith, wrote-size wrote, length-append (heading w h) raster, sides .few, fits .filled);
+}
+
+-- a list has at most 1,024 records, so what is written of it is short
+pub convert-short : (list : List ℕ) {output output' : List ℕ} (s : Written)
+    → ConvertOutcome list output (writtenReply s) output' → Short s
+convert-short list {output} {output'} s o = record {
+  short = λ size e.
+      let wrote : ConvertOutcome list output (gives (size ∷ [])) output' =
+      subst (λ (x : Written). ConvertOutcome list output (writtenReply x) output') e o in
+      let head = headed list (head-sound list (convertible list (length output) (wrote-none wrote))) in
+      let low = records-low (other (editionOf list)) (countOf list) (head .few) in
+      omega (arith, wrote-size wrote, length-converted list);
 }

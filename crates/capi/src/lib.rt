@@ -1,15 +1,17 @@
 // The library's calls for C and Rust callers: numbers and slices only. A slice is a pointer and then a length. Every
 // function answers one signed number, a refusal k as -k; include/mlhe.h describes each for its callers.
 //
-// mlhe_intensity   0: the plane holds the intensities of the frame
-// mlhe_pass        0: both counts are in the lent numbers
-// mlhe_run_list    0: the sums of both counts, of all passes, are in the lent numbers
-// mlhe_recolour    0: the output holds the frame, recoloured
-// mlhe_enhance     0: the sums of both counts, of all levels, are in the lent numbers
-// mlhe_read        0: width, height and the raster's offset are in the lent numbers
-// mlhe_write       the number of bytes written
+// mlhe_intensity      0: the plane holds the intensities of the frame
+// mlhe_pass           0: both counts are in the lent numbers
+// mlhe_run_list       0: the sums of both counts, of all passes, are in the lent numbers
+// mlhe_convert_list   the number of bytes written
+// mlhe_recolour       0: the output holds the frame, recoloured
+// mlhe_enhance        0: the sums of both counts, of all levels, are in the lent numbers
+// mlhe_read           0: width, height and the raster's offset are in the lent numbers
+// mlhe_write          the number of bytes written
 ghost use Rattle.colours.specs.Calls.{IntensityOutcome, RecolourOutcome};
 ghost use Rattle.netpbm.specs.Writing.{WriteOutcome};
+ghost use Rattle.conversion.specs.Conversion.{ConvertOutcome};
 ghost use Rattle.cnumbers.specs.Numbers.{numberReply, doneReply};
 ghost use Rattle.capi.specs.Calls.{PassNumber, ListNumber, EnhanceNumber, ReadNumber};
 use enhance::Settings;
@@ -110,6 +112,15 @@ pub extern "C" fn mlhe_run_list(
         counts,
         passlists::run_list(list, plane, marks, queue, shape),
     )
+}
+
+// Writes a list in the other version.
+#[no_mangle]
+pub extern "C" fn mlhe_convert_list(list: &[u8], output: &mut [u8]) -> i64
+    ensures { λ r. ⌜ ConvertOutcome (now (list .entry)) (now (output .entry)) (numberReply r)
+        (now (output .exit)) ⌝ }
+{
+    cnumbers::written_number(passlists::convert(list, output))
 }
 
 // Enhances the frame.

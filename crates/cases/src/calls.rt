@@ -8,10 +8,12 @@ use enhance::Settings;
 use model::Answer;
 use planes::Shape;
 
-// Room for marks and queue, and for an output.
+// Room for marks and queue, and for the output of a frame and of a list.
 const MEMORY: usize = 320;
 
 const OUTPUT: usize = 3200;
+
+const LIST_OUTPUT: usize = 16400;
 
 // What every byte of an output is before the call.
 const FILL: u8 = 170;
@@ -93,6 +95,19 @@ pub fn list(case: Case, bytes: &[u8], plane: &mut [u8]) {
         parts::front(&mut marks, case.marks),
         parts::front_queue(&mut queue, case.queue),
     );
+}
+
+// A conversion to a lent output.
+fn convert_to(list: &[u8], output: &mut [u8]) {
+    let written = passlists::convert(list, output);
+    lines::written(written);
+    lines::bytes(output);
+    lines::end();
+}
+
+pub fn convert(case: Case, list: &[u8]) {
+    let mut output = [FILL; LIST_OUTPUT];
+    convert_to(list, parts::front(&mut output, case.output));
 }
 
 // Passes in memory, with lent working memory.

@@ -17,7 +17,7 @@ use head::Case;
 use head::HEAD;
 
 // Room for a case's bytes and for its plane.
-const BYTES: usize = 13344;
+const BYTES: usize = 16416;
 
 const PLANE: usize = 288;
 
@@ -43,6 +43,7 @@ fn answer(case: Case, bytes: &[u8], plane: &mut [u8]) {
         6 => calls::read(case, bytes),
         7 => calls::write(case, bytes),
         9 => calls::house(case, bytes, plane),
+        10 => calls::convert(case, bytes),
         _ => lines::end(),
     }
 }

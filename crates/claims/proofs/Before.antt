@@ -1,16 +1,20 @@
--- By 4 neighbours passes, lists in files and enhancements are what they were before there was a choice: their effects
--- are those by the four neighbours, and 19 does not apply. Assumes nothing.
-use Prim.Native.Nat.{ℕ, zero, suc}
-use mathlib.Core.Path.{_≡_, refl, ap, _∙_}
+-- By 4 neighbours passes and enhancements are what they were before there was a choice: their effects are those by the
+-- four neighbours, and 19 does not apply. So are lists in files that do not name version 2. Assumes nothing.
+use Prim.Native.Nat.{ℕ, zero, suc, _≤_}
+use mathlib.Core.Path.{_≡_, refl, ap, ap₂, _∙_}
+use mathlib.Core.Bool.{Bool, true, not, cond, _||_, or-false, or-true}
 use mathlib.Core.List.{List, [], _∷_, map}
-use Rattle.planes.specs.Refusals.{_▷_}
-use Rattle.planes.specs.Lists.{from}
+use lib.ListN.{length}
+use lib.Dec.{ltb, eqb}
+use borrow.Author.Tests.{le-ltb, ne-eqb}
+use Rattle.planes.specs.Refusals.{when, _▷_}
+use Rattle.planes.specs.Lists.{from, at}
 use Rattle.planes.specs.Neighbours.{Near}
 use Rattle.planes.specs.Shapes.{neighbours, adjacency}
 use Rattle.planes.specs.declared.Shape.{Shape}
 use Rattle.planes.proofs.Shapes.{adjacency-other}
 use Rattle.tones.specs.Refusals.{ruleRefusal}
-use Rattle.tones.specs.Numbers.{formRefusal}
+use Rattle.tones.specs.Numbers.{malformed}
 use Rattle.colours.specs.Frames.{intensity}
 use Rattle.model.specs.declared.Pass.{Pass}
 use Rattle.model.specs.Neighbourhoods.{passNeighbours}
@@ -23,9 +27,13 @@ use Rattle.model.proofs.Connected.{run-carries}
 use Rattle.levels.specs.declared.Settings.{Settings}
 use Rattle.levels.specs.Levels.{levelRefusal, settingsRefusal}
 use Rattle.enhance.specs.Published.{publishedOf}
-use Rattle.listformat.specs.Format.{countOf, recordStart, numbersAt, passAt, passesOf}
-use Rattle.listformat.specs.Refusals.{recordRefusal}
-use Rattle.claims.specs.Before.{numbersBefore, settingsBefore}
+use Rattle.listformat.specs.declared.Edition.{Edition}
+use Rattle.listformat.specs.declared.Edition.the-variants.{First, Second}
+use Rattle.listformat.specs.Format.{version, headLength, recordStart, versionOf, countOf, editionOf, numbersAt, passAt}
+use Rattle.listformat.specs.Format.{passesOf, greatestCount, misnamed, miscounted, headRefusal}
+use Rattle.listchecks.specs.Refusals.{firstRefusal, recordRefusal, recordRefusals, listRefusal}
+use Rattle.claims.specs.Before.{numbersBefore, settingsBefore, startBefore, passBefore, recordBefore, headBefore}
+use Rattle.claims.specs.Before.{listBefore, passesBefore}
 
 -- the four neighbours are those by 4
 pub by-four : (z : Shape) → adjacency z 4 ≡ neighbours z
@@ -52,30 +60,68 @@ pub pass-before : (z : Shape) (s : Pass) (plane : List ℕ) → Carries 4 s
     → passEffect (passNeighbours z) s plane ≡ passEffect (always (neighbours z)) s plane
 pass-before z s plane e = ap (λ (near : Near). passEffect (always near) s plane) (pass-by z s e ∙ by-four z)
 
--- a record's pass carries 4, and so do all passes of a list in a file
-record-carries : (list : List ℕ) (i : ℕ) → Carries 4 (passAt list i)
-unfolding passAt
-record-carries list i = refl
+-- ## Lists in files
 
-pub file-carries : (list : List ℕ) → All (Carries 4) (passesOf list)
-unfolding passesOf
-file-carries list = go (from 0 (countOf list))
+-- a list that does not name version 2 is of version 1
+of-first : (list : List ℕ) → (versionOf list ≡ 2 → ⊥) → editionOf list ≡ First
+unfolding editionOf
+of-first list other = ap (λ (t : Bool). cond t Second First) (ne-eqb (versionOf list) 2 other)
+
+-- the head, a record and all records of a list, were it of this edition
+abbrev headIn : Edition → List ℕ → ℕ
+headIn e bs =
+    when (ltb (length bs) 7) 16
+    ▷ when (not (eqb (at bs 0) 77) || not (eqb (at bs 1) 76) || not (eqb (at bs 2) 80)
+    || not (eqb (versionOf bs) (version e))) 15
+    ▷ when (ltb greatestCount (countOf bs) || not (eqb (length bs) (recordStart e (countOf bs)))) 16
+
+record-before : (bs : List ℕ) (i : ℕ) → recordRefusal First bs i ≡ recordBefore bs i
+unfolding recordRefusal passAt
+record-before bs i =
+    ap₂ (λ (t : Bool) (k : ℕ). when t 17 ▷ k) (or-false (malformed (numbersAt bs i)))
+    (numbers-before (passBefore bs i) refl)
+
+records-before : (bs js : List ℕ)
+    → map (λ j. recordRefusal First bs (recordStart First j)) js ≡ map (λ j. recordBefore bs (startBefore j)) js
+records-before bs [] = refl
+records-before bs (j ∷ js) = ap₂ _∷_ (record-before bs (startBefore j)) (records-before bs js)
+
+pub refusal-before : (list : List ℕ) → (versionOf list ≡ 2 → ⊥) → listRefusal list ≡ listBefore list
+unfolding listRefusal headRefusal misnamed miscounted recordRefusals
+refusal-before list other =
+    ap (λ (e : Edition). headIn e list
+    ▷ firstRefusal (map (λ j. recordRefusal e list (recordStart e j)) (from 0 (countOf list)))) (of-first list other)
+    ∙ ap (λ (ks : List ℕ). headBefore list ▷ firstRefusal ks) (records-before list (from 0 (countOf list)))
+
+passes-before : (list : List ℕ) → (versionOf list ≡ 2 → ⊥) → passesOf list ≡ passesBefore list
+unfolding passesOf passAt
+passes-before list other =
+    ap (λ (e : Edition). map (λ j. passAt e list (recordStart e j)) (from 0 (countOf list))) (of-first list other)
+
+before-carries : (list : List ℕ) → All (Carries 4) (passesBefore list)
+before-carries list = go (from 0 (countOf list))
   where
-    go : (js : List ℕ) → All (Carries 4) (map (λ j. passAt list (recordStart j)) js)
+    go : (js : List ℕ) → All (Carries 4) (map (λ j. passBefore list (startBefore j)) js)
     go [] = none
-    go (j ∷ js) = more (record-carries list (recordStart j)) (go js)
+    go (j ∷ js) = more refl (go js)
 
-pub list-before : (z : Shape) (list plane : List ℕ)
-    → runEffect (passNeighbours z) (passesOf list) plane ≡ runEffect (always (neighbours z)) (passesOf list) plane
-list-before z list plane =
-    run-carries z 4 (file-carries list) plane
-    ∙ ap (λ (near : Near). runEffect (always near) (passesOf list) plane) (by-four z)
+pub list-before : (z : Shape) (list plane : List ℕ) → (versionOf list ≡ 2 → ⊥)
+    → runEffect (passNeighbours z) (passesOf list) plane ≡ runEffect (always (neighbours z)) (passesBefore list) plane
+list-before z list plane other =
+    ap (λ (ss : List Pass). runEffect (passNeighbours z) ss plane) (passes-before list other)
+    ∙ run-carries z 4 (before-carries list) plane
+    ∙ ap (λ (near : Near). runEffect (always near) (passesBefore list) plane) (by-four z)
 
-pub record-before : (list : List ℕ) (i : ℕ)
-    → recordRefusal list i ≡ formRefusal (numbersAt list i) ▷ numbersBefore (passAt list i)
-unfolding recordRefusal
-record-before list i =
-    ap (formRefusal (numbersAt list i) ▷_) (numbers-before (passAt list i) (record-carries list i))
+-- version 2 got 15
+pub second-before : (list : List ℕ) → versionOf list ≡ 2 → headLength ≤ length list → listBefore list ≡ 15
+second-before list named long =
+    let mark = not (eqb (at list 0) 77) || not (eqb (at list 1) 76) || not (eqb (at list 2) 80) in
+    let unknown : not (eqb (versionOf list) 1) ≡ true = ap (λ (n : ℕ). not (eqb n 1)) named in
+    let misnamed = ap (mark ||_) unknown ∙ or-true mark in
+    ap₂ (λ (s t : Bool). (when s 16 ▷ when t 15
+    ▷ when (ltb 1024 (countOf list) || not (eqb (length list) (startBefore (countOf list)))) 16)
+    ▷ firstRefusal (map (λ j. recordBefore list (startBefore j)) (from 0 (countOf list))))
+    (le-ltb (length list) headLength long) misnamed
 
 pub enhance-before : (z : Shape) (t : Settings) (frame : List ℕ) → t .neighbours ≡ 4
     → publishedOf z t frame ≡ published (neighbours z) (t .last) (t .area) (t .rule) (intensity frame)

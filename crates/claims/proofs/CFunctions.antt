@@ -39,6 +39,7 @@ use Rattle.texts.specs.declared.Written.the-variants as Written
 use Rattle.netpbm.specs.Reading.{readAnswer}
 use Rattle.netpbm.specs.Writing.{WriteOutcome}
 use Rattle.texts.specs.Writing.{writtenReply}
+use Rattle.conversion.specs.Conversion.{ConvertOutcome}
 use Rattle.netpbm.proofs.Replies.{refused-answer, framed-answer, refused-some}
 use Rattle.cnumbers.specs.Numbers.{encoded, numberReply, doneReply, statusNumber, writtenNumber}
 use Rattle.cnumbers.specs.Numbers.{countsRefusal, countsReply}
@@ -319,6 +320,7 @@ c-functions = record {
       (enhance-ruled z (numbersFor rule) t frame plane marks queue output numbers fine
       ∙ too-few number numbers few)
       (some-14 number) O;
+  of-convert = λ list {output} {output'} r O. stands-written (λ y. ConvertOutcome list output y output') r O;
   of-write = λ raster w h {output} {output'} r O.
       stands-written (λ y. WriteOutcome raster w h output y output') r O;
   of-read-refused = λ bytes numbers r k e R. read-refuses bytes numbers r R k (refused-answer bytes greatestPixels e);

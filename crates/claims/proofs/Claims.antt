@@ -1,12 +1,14 @@
--- The demands hold: `demand-1`, `demand-2` and `demand-3`; and `lists-are-chains` and `as-before`. Assumes nothing.
+-- The demands hold: `demand-1`, `demand-2` and `demand-3`; and `lists-are-chains`, `editions` and `as-before`. Assumes
+-- nothing.
 use Prim.Native.Nat.{ℕ, _+_, _-_, _*_, _/_, _≤_}
-use mathlib.Core.Path.{_≡_, refl, sym, ap, subst, _∙_}
+use mathlib.Core.Path.{_≡_, refl, sym, ap, ap₂, subst, _∙_}
 use mathlib.Core.List.{List, [], _∷_}
 use native.Mathlib.Omega.{arith}
 use native.Mathlib.Nat.{le-of-lt, zero-add}
 use lib.ListN.{length, take, drop}
 use lib.Seq.{take-at}
 use Rattle.planes.specs.Lists.{at}
+use Rattle.planes.specs.Refusals.{_▷_}
 use Rattle.planes.specs.Shapes.{pixels, neighbours, adjacency}
 use Rattle.planes.specs.declared.Shape.{Shape}
 use Rattle.planes.proofs.Shapes.{neighbours-sym, adjacency-sym}
@@ -17,7 +19,7 @@ use Rattle.colours.specs.Calls.{intensityRefusal, recolourRefusal, IntensityOut
 use Rattle.colours.proofs.Calls.{intensity-given, intensity-accepted, recolour-accepts, recolour-given, filled-length}
 use Rattle.colours.proofs.Frames.{length-recolour, recolour-at, recolour-bytes, channels-ordered}
 use Rattle.model.specs.declared.Pass.{Pass}
-use Rattle.model.specs.Effects.{Effect, counts}
+use Rattle.model.specs.Effects.{Effect, counts, runEffect}
 use Rattle.model.specs.Outcomes.{Outcome, OutputOutcome}
 use Rattle.model.specs.Neighbourhoods.{passNeighbours}
 use Rattle.model.specs.Calls.{retonedIn, keptIn, total, AllAccepted, State, start, chain, chainEffect, chainSufficient}
@@ -35,18 +37,27 @@ use Rattle.enhance.specs.Calls.{chainOf, sufficientOf, EnhanceOutcome}
 use Rattle.enhance.proofs.Calls.{fine, chain-accepted}
 use Rattle.enhance.proofs.Published.{chain-published}
 use Rattle.netpbm.specs.Reading.{readReply}
-use Rattle.netpbm.specs.Writing.{encoding, writeRefusal}
+use Rattle.texts.specs.Writing.{WritingOutcome}
+use Rattle.texts.proofs.Writing.{wrote-none, wrote-bytes}
 use Rattle.netpbm.proofs.Replies.{malformed-reply, headed-reply, framed-reply}
 use Rattle.netpbm.proofs.Uncommented.{reads-as-before, comments-got-10}
 use Rattle.tones.proofs.Before.{form-before, rule-before, two-refused}
+use Rattle.listformat.specs.declared.Edition.the-variants.{First, Second}
 use Rattle.listformat.specs.Format.{passesOf}
+use Rattle.listformat.proofs.Format.{decodes, passes-encode}
+use Rattle.listchecks.specs.Refusals.{listRefusal}
+use Rattle.listchecks.proofs.Refusals.{accepted-list, encoded-refusal, places-second}
+use Rattle.conversion.proofs.Refusals.{convertible}
+use Rattle.conversion.proofs.Editions.{wider, converted-passes, converted-sound, restored}
+use Rattle.passlists.specs.Outcomes.{slicesRefusal}
+use Rattle.passlists.proofs.Editions.{convert-refuses}
 use Rattle.passlists.proofs.Chains.{list-taken, list-chain, passes-taken, passes-chain}
 use Rattle.frames.specs.Program.{programOutput}
 use Rattle.frames.proofs.Program.{long-output, frame-output, refused-output}
 use Rattle.claims.specs.Claims.{AsListed, ReadAsListed, Writes, Demand1, Had, Demand2, ShapePreserving, Coloured}
-use Rattle.claims.specs.Claims.{Demand3Holds, passesChain, Chained, ListsAreChains, AsBefore}
+use Rattle.claims.specs.Claims.{Demand3Holds, passesChain, Chained, ListsAreChains, Editions, AsBefore}
 use Rattle.claims.proofs.ShapePreserving.{fine-shapes, shapes-fine, grey-file}
-use Rattle.claims.proofs.Before.{pass-before, numbers-before, list-before, record-before}
+use Rattle.claims.proofs.Before.{pass-before, numbers-before, refusal-before, list-before, second-before}
 use Rattle.claims.proofs.Before.{enhance-before, settings-before}
 
 -- ## Demand 1
@@ -84,6 +95,22 @@ module _ {n number : ℕ} {e : Effect} {bytes plane marks queue output plane' ma
       let same = stays number (counts e) output (overwritten output bytes) (O .retoned .answer) (O .output-is) k q in
       (memory .0, (memory .1 .0, (memory .1 .1, same)))
 
+-- a call that writes, refused and accepted
+written-listed : {number : ℕ} {bytes output output' : List ℕ} {reply : Reply}
+    → WritingOutcome number bytes output reply output'
+    → AsListed number reply × ((k : ℕ) → reply ≡ refuses k → output' ≡ output)
+written-listed {number} {bytes} {output} O =
+    let values = length bytes ∷ [] in
+    let new = overwritten output bytes in
+    (as-listed number values (O .answer), stays number values output new (O .answer) (O .output-is))
+
+written-given : {number : ℕ} {bytes output values output' : List ℕ}
+    → WritingOutcome number bytes output (gives values) output'
+    → (values ≡ length bytes ∷ []) × (output' ≡ overwritten output bytes)
+written-given {number} {bytes} {output} O =
+    let given = replied-gives number (length bytes ∷ []) (sym (O .answer)) in
+    (given .1, O .output-is ∙ ap (λ (x : ℕ). after x output (overwritten output bytes)) (given .0))
+
 reads : (bytes : List ℕ) (limit : ℕ) → ReadAsListed bytes limit (readReply bytes limit)
 reads bytes limit = record {
   malformed = malformed-reply bytes limit;
@@ -111,11 +138,8 @@ demand-1 = record {
   of-enhance = λ z t frame O. (outcome-listed (O .retoned), unwritten O);
   of-list = λ z list O. (outcome-listed O, unchanged O);
   of-passes = λ z ss O. (outcome-listed O, unchanged O);
-  of-write = λ raster w h {output} O.
-      let number = writeRefusal w h (length raster) (length output) in
-      let values = length (encoding raster w h) ∷ [] in
-      let new = overwritten output (encoding raster w h) in
-      (as-listed number values (O .answer), stays number values output new (O .answer) (O .output-is));
+  of-convert = λ list O. written-listed O;
+  of-write = λ raster w h O. written-listed O;
   of-read = reads;
   of-program = λ input E. subst (Writes input) (sym (E .written)) (writes input);
 }
@@ -161,10 +185,8 @@ demand-2 = record {
       );
   of-list = λ z list {plane} O. had (run-sufficient (passNeighbours z) (passesOf list) plane) O;
   of-passes = λ z ss {plane} O. had (run-sufficient (passNeighbours z) ss plane) O;
-  of-write = λ raster w h {output} O.
-      let number = writeRefusal w h (length raster) (length output) in
-      let given = replied-gives number (length (encoding raster w h) ∷ []) (sym (O .answer)) in
-      (given .1, O .output-is ∙ ap (λ (x : ℕ). after x output (overwritten output (encoding raster w h))) (given .0));
+  of-convert = λ list O. written-given O;
+  of-write = λ raster w h O. written-given O;
 }
 
 -- ## Demand 3
@@ -304,6 +326,42 @@ lists-are-chains = record {
       chained (passes-taken z plane marks queue ss taken) (passes-chain z plane marks queue _ _ _ _ ss taken O);
 }
 
+-- ## Both editions of a list
+
+-- two outcomes by one refusal and one effect answer and leave the same
+same-answers : {n number₁ number₂ : ℕ} {e₁ e₂ : Effect} → number₁ ≡ number₂ → e₁ ≡ e₂
+    → {plane marks queue plane₁ marks₁ queue₁ plane₂ marks₂ queue₂ : List ℕ} {reply₁ reply₂ : Reply}
+    → Outcome n number₁ e₁ plane marks queue reply₁ plane₁ marks₁ queue₁
+    → Outcome n number₂ e₂ plane marks queue reply₂ plane₂ marks₂ queue₂ → (reply₁ ≡ reply₂) × (plane₁ ≡ plane₂)
+same-answers number e {plane} O P = (
+  O .answer ∙ ap₂ (λ (k : ℕ) (f : Effect). replied k (counts f)) number e ∙ sym (P .answer),
+  O .plane-is ∙ ap₂ (λ (k : ℕ) (f : Effect). after k plane (f .plane)) number e ∙ sym (P .plane-is),
+)
+
+pub editions : Editions
+editions = record {
+  decodes = decodes;
+  accepted = λ list e. accepted-list list e .0;
+  restored = restored;
+  alike = λ list b {output} {output'} {size} C z {plane} {marks} {queue} O P.
+      let fine = convertible list (length output) (wrote-none C) in
+      let read = wrote-bytes C in
+      same-answers
+      (ap (slicesRefusal z plane marks queue ▷_)
+      (fine .sound ∙ sym (ap listRefusal read ∙ converted-sound list b fine)))
+      (ap (λ (ss : List Pass). runEffect (passNeighbours z) ss plane)
+      (sym (ap passesOf read ∙ converted-passes list b fine))) O P;
+  both = λ ss told fit z {plane} {marks} {queue} O P.
+      let wide = all-map (λ s f. wider f) fit in
+      same-answers
+      (ap (slicesRefusal z plane marks queue ▷_)
+      (encoded-refusal First ss told fit ∙ sym (encoded-refusal Second ss told wide)))
+      (ap (λ (ps : List Pass). runEffect (passNeighbours z) ps plane)
+      (passes-encode First ss told fit .0 ∙ sym (passes-encode Second ss told wide .0))) O P;
+  refuses = convert-refuses;
+  never-20 = places-second;
+}
+
 -- ## What is as it was before
 
 pub as-before : AsBefore
@@ -314,6 +372,7 @@ as-before = record {
   of-rule = rule-before;
   affine = two-refused;
   of-pass = λ z s plane e. (pass-before z s plane e, numbers-before s e);
-  of-list = λ z list plane. (list-before z list plane, record-before list);
+  of-list = λ z list plane other. (refusal-before list other, list-before z list plane other);
+  second = second-before;
   of-enhance = λ z t frame e. (enhance-before z t frame e, settings-before t e);
 }

@@ -4,7 +4,7 @@ use Prim.Native.Nat.{ℕ, suc}
 use mathlib.Core.Path.{_≡_, refl}
 use mathlib.Core.List.{List, [], _∷_}
 use native.Mathlib.Omega.{arith}
-use Rattle.planes.specs.Refusals.{sizeRefusal, sideRefusal, pixelRefusal, lengthRefusal, roomRefusal}
+use Rattle.planes.specs.Refusals.{sizeRefusal, sideRefusal, pixelRefusal, lengthRefusal, roomRefusal, outputRefusal}
 use Rattle.planes.specs.Shapes.{neighbours, adjacency, shapeRefusal, lentRefusal}
 use Rattle.planes.specs.Neighbours.{four, eight, linked, component, first}
 use Rattle.planes.specs.Extrema.{flat, extreme, extremes}
@@ -29,9 +29,10 @@ use Rattle.tones.proofs.Examples.{tone-examples}
 use Rattle.model.proofs.PublishedExamples.{published-examples}
 use Rattle.passes.specs.Calls.{none, more}
 use Rattle.tones.specs.Numbers.{malformed}
-use Rattle.listformat.specs.Format.{passAt, passesOf, misnamed, miscounted, headRefusal, encodePass}
-use Rattle.listformat.specs.Format.{encodePasses, encode}
-use Rattle.listformat.specs.Refusals.{recordRefusal, recordRefusals, listRefusal}
+use Rattle.listformat.specs.Format.{editionOf, passAt, passesOf, misnamed, miscounted, headRefusal, encodeFields}
+use Rattle.listformat.specs.Format.{encodePass, encodePasses, encode}
+use Rattle.listchecks.specs.Refusals.{recordRefusal, recordRefusals, listRefusal, placesRefusal}
+use Rattle.conversion.specs.Conversion.{converted, convertRefusal}
 use Rattle.texts.specs.Ascii.{isDigit, decimal}
 use Rattle.texts.specs.Heading.{heading}
 use Rattle.gaps.specs.Bytes.{isWhite, isSign, endsComment}
@@ -107,8 +108,8 @@ unfolding shapeRefusal sizeRefusal sideRefusal pixelRefusal lengthRefusal passNe
     inside componentValues changes keptBack retone newTone passed componentCount runEffect
     roomRefusal areaRefusal ruleRefusal neighbourRefusal numbersRefusal lentRefusal passRefusal call chain
     section level levels passes callOf enhanced
-    passAt passesOf malformed misnamed miscounted headRefusal encodePass encodePasses encode
-    recordRefusal recordRefusals listRefusal
+    editionOf passAt passesOf malformed misnamed miscounted headRefusal encodeFields encodePass encodePasses encode
+    recordRefusal recordRefusals listRefusal placesRefusal outputRefusal converted convertRefusal
     isDigit isWhite isSign endsComment pieces gap mark numeral field headerWith header
     maxvalRefusal rasterRefusal trailingRefusal frameRefusal readAnswer decimal heading enhancedFrame programOutput
 starred = record {
@@ -132,6 +133,16 @@ starred = record {
   Q-is = refl;
   Q-accepted = refl;
   Q = refl;
+  Q2-is = refl;
+  Q2-accepted = refl;
+  Q2 = refl;
+  J2 = refl;
+  Q-up = refl;
+  Q-down = refl;
+  Q-accepts = refl;
+  Q-short = refl;
+  J-twenty = refl;
+  X-five = refl;
   W-is = refl;
   W-accepted = refl;
   W = refl;

@@ -22,6 +22,7 @@ use Rattle.model.specs.Calls.{neighbourRefusal}
 use Rattle.model.specs.Outcomes.{answerReply}
 use Rattle.passes.specs.Calls.{passCallRefusal, PassOutcome}
 use Rattle.enhance.specs.Calls.{memoryRefusal, enhanceCallRefusal, EnhanceOutcome}
+use Rattle.conversion.specs.Conversion.{ConvertOutcome}
 use Rattle.passlists.specs.Outcomes.{runListRefusal, ListOutcome}
 use Rattle.netpbm.specs.Reading.{readReply}
 use Rattle.netpbm.specs.Writing.{WriteOutcome}
@@ -119,6 +120,9 @@ pub record CFunctions : Type 0 where
       ≡ refuses (enhanceCallRefusal (shapeOf w h) (settingsOf last area rule) frame plane marks queue
       output ▷ 14))
       × (((plane' ≡ plane) × ((marks' ≡ marks) × ((queue' ≡ queue) × (output' ≡ output)))) × (numbers' ≡ numbers))
+  pub of-convert : (list : List ℕ) {output output' : List ℕ} (r : ℤ)
+      → ConvertOutcome list output (numberReply r) output'
+      → Stands writtenNumber (λ s. ConvertOutcome list output (writtenReply s) output') r
   pub of-write : (raster : List ℕ) (w h : ℕ) {output output' : List ℕ} (r : ℤ)
       → WriteOutcome raster w h output (numberReply r) output'
       → Stands writtenNumber (λ s. WriteOutcome raster w h output (writtenReply s) output') r

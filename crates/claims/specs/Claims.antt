@@ -28,8 +28,8 @@
 --   chain              the model of a chain of calls: its plane and its replies (model/specs/Calls)
 --   chainOf            the chain of passes that an enhancement stands for (enhance/specs/Calls)
 --   publishedOf        Algorithms 2 to 5 on a frame's intensity, by components (enhance/specs/Published)
---   IntensityOutcome, RecolourOutcome, PassOutcome, EnhanceOutcome, ListOutcome, PassesOutcome, WriteOutcome   what the
---                      calls ensure, by the reply of their answer
+--   IntensityOutcome, RecolourOutcome, PassOutcome, EnhanceOutcome, ListOutcome, PassesOutcome, ConvertOutcome,
+--   WriteOutcome       what the calls ensure, by the reply of their answer
 --   Sequence           calls of `pass`, each lent the plane as the one before left it (passes/specs/Calls)
 --   readReply          what reading replies to some bytes (netpbm/specs/Reading)
 --   IsHeader           a list of bytes begins with a P6 header, by its parts (headers/specs/Headers)
@@ -42,19 +42,27 @@
 --   ruleOf, malformed  their rule, and that they stand for none (tones/specs/Numbers)
 --   ruleBefore, malformedBefore   the same before the affine rule was there (tones/specs/Before)
 --   numbersBefore, settingsBefore   the refusals of a pass and of settings before they had neighbours (specs/Before)
+--   listBefore, passesBefore   the refusal of a list, and its passes, before there was a second version (specs/Before)
 --   Bytes              every member is a byte (listformat/specs/Format)
+--   Edition            version 1 or version 2 of a pass list (listformat/src); its version and the layout of its records
+--                      stand in listformat/specs/Format
+--   encode, decode     passes written as a list in an edition, and what a list of bytes is read as
+--   Storable, Listable passes that an edition can hold
+--   converted          a list in the other edition (conversion/specs/Conversion)
+--   placesRefusal      20, for passes that an edition has no place for (listchecks/specs/Refusals)
 --   Emitted            what the program's function ensures: some bytes at the beginning of the output (printing)
 use Prim.Native.Nat.{ℕ, suc, _+_, _-_, _*_, _/_, _≤_, _<_}
 use mathlib.Core.Path.{_≡_}
 use mathlib.Core.Logic.{_↔_}
 use mathlib.Core.Bool.{true, false}
 use mathlib.Core.List.{List, [], _∷_, map}
+use mathlib.Core.Option.{some}
 use lib.ListN.{length, take, drop}
 use lib.Dec.{ltb}
 use Rattle.planes.specs.Lists.{at, Beyond}
 use Rattle.planes.specs.Replies.{Reply, refuses, gives, replied, overwritten}
 use Rattle.planes.specs.Neighbours.{Near}
-use Rattle.planes.specs.Refusals.{_▷_}
+use Rattle.planes.specs.Refusals.{_▷_, outputRefusal}
 use Rattle.planes.specs.Shapes.{pixels, neighbours, adjacency}
 use Rattle.planes.specs.declared.Shape.{Shape}
 use Rattle.planes.specs.Extrema.{extreme, gtb, maxima, minima, Contains}
@@ -76,18 +84,22 @@ use Rattle.enhance.specs.Published.{publishedOf}
 use Rattle.headers.specs.Headers.{IsHeader}
 use Rattle.headers.specs.Uncommented.{signless, Uncommented}
 use Rattle.tones.specs.declared.RuleNumbers.{RuleNumbers}
-use Rattle.tones.specs.Numbers.{ruleOf, malformed, formRefusal}
+use Rattle.tones.specs.Numbers.{ruleOf, malformed}
 use Rattle.tones.specs.Before.{ruleBefore, malformedBefore}
 use Rattle.netpbm.specs.Reading.{frameRefusal, readReply}
 use Rattle.netpbm.specs.Uncommented.{uncommentedReply}
 use Rattle.netpbm.specs.Frames.{IsFrame}
 use Rattle.netpbm.specs.Writing.{encoding, writeRefusal, WriteOutcome}
-use Rattle.listformat.specs.Format.{Bytes, numbersAt, passAt, passesOf}
-use Rattle.listformat.specs.Refusals.{recordRefusal}
-use Rattle.passlists.specs.Outcomes.{runListRefusal, runPassesRefusal, ListOutcome, PassesOutcome}
+use Rattle.listformat.specs.declared.Edition.{Edition}
+use Rattle.listformat.specs.declared.Edition.the-variants.{First, Second}
+use Rattle.listformat.specs.Format.{other, version, headLength, versionOf, editionOf, passesOf, decode, encode, Bytes}
+use Rattle.listformat.specs.Format.{Storable, Listable}
+use Rattle.listchecks.specs.Refusals.{listRefusal, placesRefusal}
+use Rattle.conversion.specs.Conversion.{converted, convertRefusal, ConvertOutcome}
+use Rattle.passlists.specs.Outcomes.{slicesRefusal, runListRefusal, runPassesRefusal, ListOutcome, PassesOutcome}
 use Rattle.printing.specs.Printing.{greatestFrame, refusalLine, enhancedFrame, Emitted}
 use Rattle.frames.specs.Program.{greatestInput, programOutput}
-use Rattle.claims.specs.Before.{numbersBefore, settingsBefore}
+use Rattle.claims.specs.Before.{numbersBefore, settingsBefore, listBefore, passesBefore}
 
 -- ## Demand 1: exactly what is listed is refused, by its number, and a refusal leaves all lent memory as it was
 
@@ -143,6 +155,9 @@ pub record Demand1 : Type 0 where
       → PassesOutcome z ss plane marks queue reply plane' marks' queue'
       → AsListed (runPassesRefusal z ss plane marks queue) reply
       × ((k : ℕ) → reply ≡ refuses k → (plane' ≡ plane) × ((marks' ≡ marks) × (queue' ≡ queue)))
+  pub of-convert : (list : List ℕ) {output output' : List ℕ} {reply : Reply}
+      → ConvertOutcome list output reply output'
+      → AsListed (convertRefusal list (length output)) reply × ((k : ℕ) → reply ≡ refuses k → output' ≡ output)
   pub of-write : (raster : List ℕ) (w h : ℕ) {output output' : List ℕ} {reply : Reply}
       → WriteOutcome raster w h output reply output'
       → AsListed (writeRefusal w h (length raster) (length output)) reply
@@ -194,6 +209,10 @@ pub record Demand2 : Type 0 where
       → PassesOutcome z ss plane marks queue (gives values) plane' marks' queue'
       → Had (pixels z) (runEffect (passNeighbours z) ss plane) (runSufficient (passNeighbours z) ss plane)
       marks queue values plane' marks' queue'
+  -- the list of the same passes in the other edition
+  pub of-convert : (list : List ℕ) {output values output' : List ℕ}
+      → ConvertOutcome list output (gives values) output'
+      → (values ≡ length (converted list) ∷ []) × (output' ≡ overwritten output (converted list))
   pub of-write : (raster : List ℕ) (w h : ℕ) {output values output' : List ℕ}
       → WriteOutcome raster w h output (gives values) output'
       → (values ≡ length (encoding raster w h) ∷ []) × (output' ≡ overwritten output (encoding raster w h))
@@ -283,12 +302,48 @@ pub record ListsAreChains : Type 0 where
       → PassesOutcome z ss plane marks queue (gives values) plane' marks' queue'
       → Chained z (length marks) (length queue) ss plane values plane'
 
+-- ## Both editions of a list
+
+pub record Editions : Type 0 where
+  -- a list of bytes is read as some passes and names a version exactly when it is what they are written as in it
+  pub decodes : (e : Edition) (list : List ℕ) → Bytes list → (ss : List Pass)
+      → ((decode list ≡ some ss) × (versionOf list ≡ version e)) ↔ (Listable e ss × (list ≡ encode e ss))
+  -- a list that is not refused is read as the passes that are run
+  pub accepted : (list : List ℕ) → listRefusal list ≡ 0 → decode list ≡ some (passesOf list)
+  -- what a conversion wrote, converted again with room for it, is the list, byte for byte: up and down, down and up
+  pub restored : (list : List ℕ) → Bytes list → {output output' : List ℕ} {size : ℕ}
+      → ConvertOutcome list output (gives (size ∷ [])) output' → {lent lent' : List ℕ} {reply : Reply}
+      → length list ≤ length lent → ConvertOutcome (take size output') lent reply lent'
+      → (reply ≡ gives (length list ∷ [])) × (take (length list) lent' ≡ list)
+  -- a list and what a conversion made of it run to equal planes and both counts; refused, they get the same number
+  pub alike : (list : List ℕ) → Bytes list → {output output' : List ℕ} {size : ℕ}
+      → ConvertOutcome list output (gives (size ∷ [])) output'
+      → (z : Shape) {plane marks queue plane₁ marks₁ queue₁ plane₂ marks₂ queue₂ : List ℕ} {reply₁ reply₂ : Reply}
+      → ListOutcome z list plane marks queue reply₁ plane₁ marks₁ queue₁
+      → ListOutcome z (take size output') plane marks queue reply₂ plane₂ marks₂ queue₂
+      → (reply₁ ≡ reply₂) × (plane₁ ≡ plane₂)
+  -- so do both editions of any passes that version 1 can hold, also where the list is refused
+  pub both : (ss : List Pass) → length ss < 65536 → All (Storable First) ss
+      → (z : Shape) {plane marks queue plane₁ marks₁ queue₁ plane₂ marks₂ queue₂ : List ℕ} {reply₁ reply₂ : Reply}
+      → ListOutcome z (encode First ss) plane marks queue reply₁ plane₁ marks₁ queue₁
+      → ListOutcome z (encode Second ss) plane marks queue reply₂ plane₂ marks₂ queue₂
+      → (reply₁ ≡ reply₂) × (plane₁ ≡ plane₂)
+  -- a conversion refuses what running the list refuses where the lent memory is sound, with the same number; then 20,
+  -- where a pass with eight neighbours is to become version 1; then 14
+  pub refuses : (z : Shape) (plane marks queue : List ℕ) → slicesRefusal z plane marks queue ≡ 0
+      → (list : List ℕ) (output : ℕ) → convertRefusal list output
+      ≡ runListRefusal z list plane marks queue
+      ▷ placesRefusal (other (editionOf list)) (passesOf list) ▷ outputRefusal output (length (converted list))
+  -- version 2 has a place for every pass
+  pub never-20 : (ss : List Pass) → placesRefusal Second ss ≡ 0
+
 -- ## What is as it was before
 
 -- frames without comments are read as before comments were read; a header with a number sign was refused with 10. The
 -- numbers of a rule, in lists and from C, are read as before the affine rule was there, unless their code is 2; these
--- got 17. A pass, a list in a file and an enhancement by 4 neighbours have the effects and the refusals that they had
--- before there was a choice: those by the four neighbours
+-- got 17. A pass and an enhancement by 4 neighbours, and a list in a file that does not name version 2, have the effects
+-- and the refusals that they had before there was a choice: those by the four neighbours. Lists that name version 2 got
+-- 15, if they were long enough to name a version
 pub record AsBefore : Type 0 where
   pub of-read : (bytes : List ℕ) (limit : ℕ) → Uncommented bytes
       → readReply bytes limit ≡ uncommentedReply bytes limit
@@ -300,9 +355,11 @@ pub record AsBefore : Type 0 where
   pub of-pass : (z : Shape) (s : Pass) (plane : List ℕ) → Carries 4 s
       → (passEffect (passNeighbours z) s plane ≡ passEffect (always (neighbours z)) s plane)
       × (numbersRefusal s ≡ numbersBefore s)
-  pub of-list : (z : Shape) (list plane : List ℕ)
-      → (runEffect (passNeighbours z) (passesOf list) plane ≡ runEffect (always (neighbours z)) (passesOf list) plane)
-      × ((i : ℕ) → recordRefusal list i ≡ formRefusal (numbersAt list i) ▷ numbersBefore (passAt list i))
+  pub of-list : (z : Shape) (list plane : List ℕ) → (versionOf list ≡ 2 → ⊥)
+      → (listRefusal list ≡ listBefore list)
+      × (runEffect (passNeighbours z) (passesOf list) plane
+      ≡ runEffect (always (neighbours z)) (passesBefore list) plane)
+  pub second : (list : List ℕ) → versionOf list ≡ 2 → headLength ≤ length list → listBefore list ≡ 15
   pub of-enhance : (z : Shape) (t : Settings) (frame : List ℕ) → t .neighbours ≡ 4
       → (publishedOf z t frame ≡ published (neighbours z) (t .last) (t .area) (t .rule) (intensity frame))
       × (settingsRefusal t ≡ settingsBefore t)

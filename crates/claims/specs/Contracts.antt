@@ -30,6 +30,9 @@ use Rattle.enhance.proofs.enhance.Reads as enhance-reads
 use Rattle.passlists.specs.Outcomes.{ListOutcome, PassesOutcome}
 use Rattle.passlists.proofs.run_list as run-list
 use Rattle.passlists.proofs.run_list.Reads as run-list-reads
+use Rattle.conversion.specs.Conversion.{ConvertOutcome}
+use Rattle.passlists.proofs.convert as convert
+use Rattle.passlists.proofs.convert.Reads as convert-reads
 use Rattle.passarrays.proofs.run_array as run-array
 use Rattle.passarrays.proofs.run_array.Reads as run-array-reads
 use Rattle.netpbm.specs.Reading.{headerReply, readReply}
@@ -55,6 +58,8 @@ use Rattle.capi.proofs.mlhe_pass as mlhe-pass
 use Rattle.capi.proofs.mlhe_pass.Reads as mlhe-pass-reads
 use Rattle.capi.proofs.mlhe_run_list as mlhe-run-list
 use Rattle.capi.proofs.mlhe_run_list.Reads as mlhe-run-list-reads
+use Rattle.capi.proofs.mlhe_convert_list as mlhe-convert-list
+use Rattle.capi.proofs.mlhe_convert_list.Reads as mlhe-convert-list-reads
 use Rattle.capi.proofs.mlhe_enhance as mlhe-enhance
 use Rattle.capi.proofs.mlhe_enhance.Reads as mlhe-enhance-reads
 use Rattle.capi.proofs.mlhe_read as mlhe-read
@@ -103,6 +108,11 @@ pub record Contracts : Type 0 where
       (now (a .1 .1 .0)) (now (a .1 .1 .1 .0)) (now (a .1 .1 .1 .1 .0)) (answerReply r)
       (now (s .1 .1 .0)) (now (s .1 .1 .1 .0)) (now (s .1 .1 .1 .1 .0))
   pub passes-asks : (κs : Lfts 3) (a : ArgsD run-array.signature κs) → run-array-reads.Asked κs a
+  -- convert(list, output)
+  pub of-convert : (κs : Lfts 2) (a : ArgsD convert.signature κs) (r : ResD convert.signature κs)
+      (s : AtExit convert.ended κs) → convert-reads.Learnt κs a r s
+      → ConvertOutcome (now (a .0)) (now (a .1 .0)) (writtenReply r) (now (s .1 .0))
+  pub convert-asks : (κs : Lfts 2) (a : ArgsD convert.signature κs) → convert-reads.Asked κs a
   -- read(bytes), read_within(bytes, limit)
   pub of-read : (κs : Lfts 1) (a : ArgsD read.signature κs) (r : ResD read.signature κs) (s : AtExit read.ended κs)
       → read-reads.Learnt κs a r s → headerReply r ≡ readReply (now (a .0)) greatestPixels
@@ -152,6 +162,11 @@ pub record CContracts : Type 0 where
       (now (a .1 .0)) (now (a .1 .1 .0)) (now (a .1 .1 .1 .0)) (now (a .1 .1 .1 .1 .1 .1 .0)) r
       (now (s .1 .0)) (now (s .1 .1 .0)) (now (s .1 .1 .1 .0)) (now (s .1 .1 .1 .1 .1 .1 .0))
   pub list-asks : (κs : Lfts 5) (a : ArgsD mlhe-run-list.signature κs) → mlhe-run-list-reads.Asked κs a
+  -- mlhe_convert_list(list, output)
+  pub of-convert : (κs : Lfts 2) (a : ArgsD mlhe-convert-list.signature κs) (r : ResD mlhe-convert-list.signature κs)
+      (s : AtExit mlhe-convert-list.ended κs) → mlhe-convert-list-reads.Learnt κs a r s
+      → ConvertOutcome (now (a .0)) (now (a .1 .0)) (numberReply r) (now (s .1 .0))
+  pub convert-asks : (κs : Lfts 2) (a : ArgsD mlhe-convert-list.signature κs) → mlhe-convert-list-reads.Asked κs a
   -- mlhe_enhance(frame, w, h, last, area, rule, plane, marks, queue, output, counts)
   pub of-enhance : (κs : Lfts 7) (a : ArgsD mlhe-enhance.signature κs) (r : ResD mlhe-enhance.signature κs)
       (s : AtExit mlhe-enhance.ended κs) → mlhe-enhance-reads.Learnt κs a r s → (

@@ -6,7 +6,7 @@
 --   Extrema, ExtremaExamples  how many regional maxima and minima a plane has
 --   Enhancing                 an enhancement leaves a plane and both counts: examples K and L, and planes of one value
 --   Starred                   all of them, with the published recursion on K, L and M, recolouring (N, O), the program
---                             (P, and P with comments) and a list (Q)
+--                             (P, and P with comments) and lists (Q in both versions, J in version 2, conversions)
 --   Demand3Met                an accepted frame, and calls from its plane of which one is accepted and two are refused
 use Prim.Native.Nat.{ℕ}
 use mathlib.Core.Path.{_≡_}
@@ -28,8 +28,10 @@ use Rattle.model.specs.Enhancement.{enhanced}
 use Rattle.tones.specs.Examples.{anyRatio, rowA, ToneExamples}
 use Rattle.model.specs.PublishedExamples.{PublishedExamples}
 use Rattle.passes.specs.Calls.{callOn, Sequence}
+use Rattle.listformat.specs.declared.Edition.the-variants.{First, Second}
 use Rattle.listformat.specs.Format.{passesOf, encode}
-use Rattle.listformat.specs.Refusals.{listRefusal}
+use Rattle.listchecks.specs.Refusals.{listRefusal}
+use Rattle.conversion.specs.Conversion.{converted, convertRefusal}
 use Rattle.texts.specs.Ascii.{ascii}
 use Rattle.frames.specs.Program.{programOutput}
 
@@ -182,6 +184,24 @@ commentedP = ascii "P6# by hand\n2#1\r1 #\n# 15\n255\n" ++ greyK
 abbrev pub listQ : List ℕ
 listQ = 77 ∷ 76 ∷ 80 ∷ 1 ∷ 0 ∷ 1 ∷ 0 ∷ 0 ∷ 127 ∷ 0 ∷ 0 ∷ 1 ∷ 0 ∷ 0 ∷ 0 ∷ 0 ∷ 0 ∷ 156 ∷ 99 ∷ []
 
+-- the same in version 2, and example J's pass by eight neighbours
+abbrev pub listQ2 : List ℕ
+listQ2 =
+    77 ∷ 76 ∷ 80 ∷ 2 ∷ 0 ∷ 1 ∷ 0
+    ∷ 0 ∷ 127 ∷ 0 ∷ 0 ∷ 1 ∷ 0 ∷ 0 ∷ 0 ∷ 0 ∷ 0 ∷ 156 ∷ 99 ∷ 4 ∷ 0 ∷ 0 ∷ 0 ∷ []
+
+abbrev pub listJ2 : List ℕ
+listJ2 =
+    77 ∷ 76 ∷ 80 ∷ 2 ∷ 0 ∷ 1 ∷ 0
+    ∷ 0 ∷ 127 ∷ 0 ∷ 0 ∷ 1 ∷ 0 ∷ 0 ∷ 0 ∷ 0 ∷ 0 ∷ 156 ∷ 99 ∷ 8 ∷ 0 ∷ 0 ∷ 0 ∷ []
+
+-- J's pass, then one whose interval is out of order
+abbrev pub listX2 : List ℕ
+listX2 =
+    77 ∷ 76 ∷ 80 ∷ 2 ∷ 0 ∷ 2 ∷ 0
+    ∷ 0 ∷ 127 ∷ 0 ∷ 0 ∷ 1 ∷ 0 ∷ 0 ∷ 0 ∷ 0 ∷ 0 ∷ 156 ∷ 99 ∷ 8 ∷ 0 ∷ 0 ∷ 0
+    ∷ 9 ∷ 8 ∷ 0 ∷ 0 ∷ 1 ∷ 0 ∷ 0 ∷ 0 ∷ 0 ∷ 0 ∷ 156 ∷ 99 ∷ 4 ∷ 0 ∷ 0 ∷ 0 ∷ []
+
 -- one pass of each rule, as a list
 abbrev pub passesW : List Pass
 passesW = on 0 127 1 anyRatio ∷ on 128 255 1 (Limited 10) ∷ on 0 255 1 (Affine 2 100 10000) ∷ []
@@ -219,12 +239,26 @@ pub record Starred : Type 0 where
   -- comments are read as whitespace, and none is written
   pub P-commented : programOutput commentedP ≡ fileP
   -- the list is that of E's pass, is not refused, and does E
-  pub Q-is : encode (on 0 127 1 anyRatio ∷ []) ≡ listQ
+  pub Q-is : encode First (on 0 127 1 anyRatio ∷ []) ≡ listQ
   pub Q-accepted : listRefusal listQ ≡ 0
   pub Q : runEffect (passNeighbours (row 5)) (passesOf listQ) rowE
       ≡ record { plane = 64 ∷ 127 ∷ 200 ∷ 10 ∷ 10 ∷ []; retoned = 1; kept = 1 }
+  -- in version 2 it does E too, by four neighbours, and J's does J by eight
+  pub Q2-is : encode Second (on 0 127 1 anyRatio ∷ []) ≡ listQ2
+  pub Q2-accepted : listRefusal listQ2 ≡ 0
+  pub Q2 : runEffect (passNeighbours (row 5)) (passesOf listQ2) rowE
+      ≡ record { plane = 64 ∷ 127 ∷ 200 ∷ 10 ∷ 10 ∷ []; retoned = 1; kept = 1 }
+  pub J2 : runEffect (passNeighbours (shapeOf 2 2)) (passesOf listJ2) planeJ
+      ≡ record { plane = 64 ∷ 200 ∷ 200 ∷ 127 ∷ []; retoned = 1; kept = 0 }
+  -- converted; 20, before 14 and after a later record's 5; 14
+  pub Q-up : converted listQ ≡ listQ2
+  pub Q-down : converted listQ2 ≡ listQ
+  pub Q-accepts : convertRefusal listQ 23 ≡ 0
+  pub Q-short : convertRefusal listQ 22 ≡ 14
+  pub J-twenty : convertRefusal listJ2 0 ≡ 20
+  pub X-five : convertRefusal listX2 0 ≡ 5
   -- a list of all three rules
-  pub W-is : encode passesW ≡ listW
+  pub W-is : encode First passesW ≡ listW
   pub W-accepted : listRefusal listW ≡ 0
   pub W : runEffect (passNeighbours (row 5)) (passesOf listW) rowE
       ≡ record { plane = 123 ∷ 184 ∷ 255 ∷ 19 ∷ 19 ∷ []; retoned = 3; kept = 1 }

@@ -1,5 +1,2 @@
 pub mod Numbers
 pub mod Format
-pub mod First
-pub mod Refusals
-pub mod Examples

@@ -1,3 +1,1 @@
 pub mod Format
-pub mod Refusals
-pub mod Examples

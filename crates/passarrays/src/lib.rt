@@ -10,7 +10,7 @@ ghost use lib.ListN.{take};
 ghost use Rattle.model.specs.Outcomes.{answerReply};
 ghost use Rattle.passlists.specs.Outcomes.{PassesOutcome};
 ghost use Rattle.passarrays.specs.Arrays.{arrayLength};
-use listformat::COUNT;
+use listchecks::COUNT;
 use model::Answer;
 use model::Pass;
 use planes::Shape;

@@ -24,8 +24,8 @@ use Rattle.model.proofs.Recursion.{all-map, nothing-then}
 use Rattle.model.proofs.Enhancement.{chain-calls, chain-taken}
 use Rattle.passes.specs.Calls.{callOn}
 use Rattle.listformat.specs.Format.{passesOf}
-use Rattle.listformat.specs.Refusals.{firstRefusal, listRefusal, passesRefusal}
-use Rattle.listformat.proofs.Refusals.{accepted-list}
+use Rattle.listchecks.specs.Refusals.{firstRefusal, listRefusal, passesRefusal}
+use Rattle.listchecks.proofs.Refusals.{accepted-list}
 use Rattle.passlists.specs.Outcomes.{slicesRefusal, runListRefusal, runPassesRefusal, ListOutcome}
 use Rattle.passlists.specs.Outcomes.{PassesOutcome}
 use Rattle.passlists.proofs.Refusals.{fine-passes}

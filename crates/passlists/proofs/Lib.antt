@@ -3,6 +3,7 @@ pub mod Runs
 pub mod Lists
 pub mod Chains
 pub mod Recursion
+pub mod Editions
 pub mod Turns
 pub mod Plans
 pub mod Walks

@@ -19,12 +19,12 @@ use Rattle.planes.proofs.Shapes.{lent-fits}
 use Rattle.model.specs.declared.Pass.{Pass}
 use Rattle.model.specs.Calls.{numbersRefusal}
 use Rattle.model.proofs.Outcomes.{outcome-number}
-use Rattle.listformat.specs.Format.{recordStart, countOf, passAt, passesOf, greatestCount, headRefusal}
-use Rattle.listformat.specs.Refusals.{firstRefusal, recordAt, recordRefusal, recordRefusals, listRefusal, passesRefusal}
-use Rattle.listformat.specs.declared.Record.{Record}
+use Rattle.listformat.specs.Format.{countOf, passHere, passesOf, greatestCount, headRefusal}
+use Rattle.listchecks.specs.Refusals.{firstRefusal, recordAt, recordRefusals, listRefusal, passesRefusal}
+use Rattle.listchecks.specs.declared.Record.{Record}
 use Rattle.listformat.proofs.Numbers.{map-at}
 use Rattle.listformat.proofs.Format.{length-passesOf}
-use Rattle.listformat.proofs.Refusals.{accepted-list, records-length, records-at}
+use Rattle.listchecks.proofs.Refusals.{accepted-list, records-length, record-told}
 use Rattle.passturns.specs.Steps.{soFar, countsSoFar, StepReady, Runnable, begun, TurnOutcome}
 use Rattle.passturns.specs.declared.Progress.{Progress}
 use Rattle.passlists.specs.Outcomes.{slicesRefusal, ListOutcome, PassesOutcome}
@@ -114,16 +114,11 @@ module _ (z : Shape) (bs : List ℕ) (plane₀ marks₀ queue₀ : List ℕ) whe
         (▷-none (slicesRefusal z plane₀ marks₀ queue₀) (headRefusal bs) none .1, counted l)
 
     module _ {rec : Record} (l : s .at < s .end) (is : rec ≡ recordAt bs (s .at)) where
-      refusal-is : rec .form ▷ numbersRefusal (rec .pass) ≡ at (recordRefusals bs) (s .at)
-      unfolding recordRefusal
-      refusal-is =
-          ap (λ (r : Record). r .form ▷ numbersRefusal (r .pass)) is ∙ sym (records-at bs (s .at) (counted l))
-
       pass-is : rec .pass ≡ getD (passesOf bs) (s .at) noPass
       unfolding passesOf
       pass-is =
           ap (λ (r : Record). r .pass) is
-          ∙ sym (map-at (λ j. passAt bs (recordStart j)) noPass (countOf bs) (s .at) (counted l))
+          ∙ sym (map-at (passHere bs) noPass (countOf bs) (s .at) (counted l))
 
       pub file-asks : s .running ≡ true → StepReady z (rec .pass) (soFar s plane) marks queue
       file-asks y =
@@ -134,7 +129,7 @@ module _ (z : Shape) (bs : List ℕ) (plane₀ marks₀ queue₀ : List ℕ) whe
           → TurnOutcome z (rec .form ▷ numbersRefusal (rec .pass)) (rec .pass) s plane marks queue r
           plane' marks' queue'
           → Inv filePlan r plane' marks' queue' × (μ filePlan r < μ filePlan s)
-      file-turns = turns filePlan s plane marks queue inv l refusal-is pass-is _ _ _ _
+      file-turns = turns filePlan s plane marks queue inv l (record-told bs is (counted l)) pass-is _ _ _ _
 
     pub file-ends : s .end ≤ s .at
         → ListOutcome z bs plane₀ marks₀ queue₀ (replied (s .refusal) (countsSoFar s)) plane marks queue

@@ -1,7 +1,7 @@
 -- The passes of an enhancement, run as a list on a plane, as the intensity of a frame, give the plane and both counts
 -- of the enhancement: level by level, and also in the order of the recursion, each section before its lower and its
--- upper half. In memory with 4 and with 8 neighbours, as a file with 4, since a record means 4. All levels together are
--- 255 passes. Assumes nothing.
+-- upper half. In memory and as a file of version 2 with 4 and with 8 neighbours, as a file of version 1 with 4. All
+-- levels together are 255 passes. Assumes nothing.
 --
 --   sections-255            the full recursion has 255 sections
 --   passes-enhances         the outcome of the list in memory, level by level, is the enhancement's plane and counts
@@ -35,13 +35,13 @@ use Rattle.model.specs.Effects.{Effect, counts, runEffect, Same}
 use Rattle.model.specs.Calls.{areaRefusal, neighbourRefusal, numbersRefusal, passRefusal, chainEffect}
 use Rattle.model.specs.Runs.{All, none, more}
 use Rattle.model.specs.Enhancement.{section, level, levels, passes, enhanced, callOf, deep, recursive}
-use Rattle.model.proofs.Neighbourhoods.{four-accepted}
 use Rattle.model.proofs.Recursion.{all-append, all-map, double, recursion-listed}
 use Rattle.model.proofs.Enhancement.{start-runs}
 use Rattle.tones.specs.Numbers.{RuleFits}
 use Rattle.tones.proofs.Numbers.{accepted-fits}
-use Rattle.listformat.specs.Format.{greatestCount, encode, Storable}
-use Rattle.listformat.specs.Refusals.{firstRefusal, passesRefusal}
+use Rattle.listformat.specs.declared.Edition.{Edition}
+use Rattle.listformat.specs.Format.{greatestCount, encode, NeighboursFit, Storable}
+use Rattle.listchecks.specs.Refusals.{firstRefusal, passesRefusal}
 use Rattle.passlists.specs.Outcomes.{runPassesRefusal, ListOutcome, PassesOutcome}
 use Rattle.passlists.proofs.Lists.{same-outcomes}
 
@@ -150,13 +150,13 @@ module _ (area : ℕ) (rule : Rule) (number : ℕ) (area-fine : areaRefusal area
         (le-ltb (s .b) (s .a) (p .order)) (accepted-area (s .area) (p .area-is))
         ∙ ap₂ _▷_ (ap ruleRefusal (p .rule-is) ∙ rule-fine) (ap neighbourRefusal (p .number-is) ∙ number-fine)
 
-    storable-pass : number ≡ 4 → (s : Pass) → Proper area rule number s → Storable s
-    storable-pass four s p = record {
+    storable-pass : (e : Edition) → NeighboursFit e number → (s : Pass) → Proper area rule number s → Storable e s
+    storable-pass e fits s p = record {
       a-fits = omega (arith, p .order, p .top);
       b-fits = p .top;
       area-fits = small (s .area) (accepted-area (s .area) (p .area-is));
       rule-fits = subst RuleFits (sym (p .rule-is)) (accepted-fits rule rule-fine);
-      neighbours-are = p .number-is ∙ four;
+      neighbours-fit = subst (NeighboursFit e) (sym (p .number-is)) fits;
     }
 
 -- ## The list
@@ -245,31 +245,31 @@ module _ (z : Shape) (last area : ℕ) (rule : Rule) (number : ℕ) (levels-fine
         (proper-recursive area rule number last levels-fine)
         (recursion-listed (passNeighbours z) last area rule number levels-fine)
 
-  -- ## As a file
+  -- ## As a file: in version 2 by either number, in version 1 by 4
 
-  module _ (four : number ≡ 4) where
+  module _ (e : Edition) (fits : NeighboursFit e number) (number-fine : neighbourRefusal number ≡ 0) where
     -- a file of the sections has the outcome of the list in memory
     in-memory : (ss : List Pass) → length ss ≤ 255 → All (Proper area rule number) ss
         → {reply : Reply} {plane' marks' queue' : List ℕ}
-        → ListOutcome z (encode ss) plane marks queue reply plane' marks' queue'
+        → ListOutcome z (encode e ss) plane marks queue reply plane' marks' queue'
         → PassesOutcome z ss plane marks queue reply plane' marks' queue'
     in-memory ss l p {reply} {plane'} {marks'} {queue'} out =
-        let fit = all-map (storable-pass area rule number area-fine rule-fine four) p in
+        let fit = all-map (storable-pass area rule number area-fine rule-fine e fits) p in
         subst (λ (T : Type 0). T)
-        (same-outcomes ss (omega arith) fit z plane marks queue reply plane' marks' queue') out
+        (same-outcomes e ss (omega arith) fit z plane marks queue reply plane' marks' queue') out
 
     pub list-enhances : (reply : Reply) (plane' marks' queue' : List ℕ)
-        → ListOutcome z (encode (passes last area rule number)) plane marks queue reply plane' marks' queue'
+        → ListOutcome z (encode e (passes last area rule number)) plane marks queue reply plane' marks' queue'
         → Enhances reply plane'
     list-enhances reply plane' marks' queue' out =
-        passes-enhances (four-accepted four) reply plane' marks' queue'
+        passes-enhances number-fine reply plane' marks' queue'
         (in-memory (passes last area rule number) (few last area rule number levels-fine .0)
         (proper area rule number last levels-fine) out)
 
     pub recursion-enhances : (reply : Reply) (plane' marks' queue' : List ℕ)
-        → ListOutcome z (encode (recursive last area rule number)) plane marks queue reply plane' marks' queue'
+        → ListOutcome z (encode e (recursive last area rule number)) plane marks queue reply plane' marks' queue'
         → Enhances reply plane'
     recursion-enhances reply plane' marks' queue' out =
-        recursion-in-memory (four-accepted four) reply plane' marks' queue'
+        recursion-in-memory number-fine reply plane' marks' queue'
         (in-memory (recursive last area rule number) (few last area rule number levels-fine .1)
         (proper-recursive area rule number last levels-fine) out)

@@ -13,8 +13,8 @@ use Rattle.tones.specs.declared.Rule.the-variants.{Limited}
 use Rattle.model.specs.declared.Pass.{Pass}
 use Rattle.model.specs.Calls.{numbersRefusal}
 use Rattle.listformat.specs.Format.{greatestCount}
-use Rattle.listformat.specs.Refusals.{firstRefusal, passesRefusal}
-use Rattle.listformat.proofs.First.{clear-each}
+use Rattle.listchecks.specs.Refusals.{firstRefusal, passesRefusal}
+use Rattle.listchecks.proofs.First.{clear-each}
 
 -- what stands past the end of a list of passes
 abbrev pub noPass : Pass

@@ -28,12 +28,12 @@ use Rattle.model.specs.Neighbourhoods.{passNeighbours}
 use Rattle.model.specs.Effects.{Effect, nothing, runEffect}
 use Rattle.model.specs.Outcomes.{Outcome}
 use Rattle.model.proofs.Outcomes.{refused-by, done-by}
-use Rattle.listformat.specs.Refusals.{firstRefusal}
+use Rattle.listchecks.specs.Refusals.{firstRefusal}
 use Rattle.passturns.specs.Steps.{soFar, countsSoFar, further, StepReady, StepOutcome, Runnable, stopped, begun}
 use Rattle.passturns.specs.Steps.{checked}
 use Rattle.passturns.specs.Steps.{TurnOutcome, checks, steps}
 use Rattle.passturns.specs.declared.Progress.{Progress}
-use Rattle.listformat.proofs.First.{Clear, clear-none, clear-more, clear-stop, clear-all}
+use Rattle.listchecks.proofs.First.{Clear, clear-none, clear-more, clear-stop, clear-all}
 use Rattle.passlists.proofs.Refusals.{noPass}
 use Rattle.passlists.proofs.Runs.{Along, along-none, along-more, along-all, along-ready}
 

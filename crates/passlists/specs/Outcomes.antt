@@ -17,7 +17,7 @@ use Rattle.model.specs.Neighbourhoods.{passNeighbours}
 use Rattle.model.specs.Effects.{runEffect}
 use Rattle.model.specs.Outcomes.{Outcome}
 use Rattle.listformat.specs.Format.{passesOf}
-use Rattle.listformat.specs.Refusals.{listRefusal, passesRefusal}
+use Rattle.listchecks.specs.Refusals.{listRefusal, passesRefusal}
 
 abbrev pub slicesRefusal : Shape → List ℕ → List ℕ → List ℕ → ℕ
 slicesRefusal z plane marks queue = lentRefusal z (length plane) (length marks) (length queue)

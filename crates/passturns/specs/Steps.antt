@@ -25,7 +25,7 @@ use Rattle.planes.specs.declared.Shape.{Shape}
 use Rattle.model.specs.declared.Pass.{Pass}
 use Rattle.model.specs.Neighbourhoods.{passNeighbours}
 use Rattle.model.specs.Effects.{Effect, counts, then, passEffect}
-use Rattle.listformat.specs.Refusals.{passesRefusal}
+use Rattle.listchecks.specs.Refusals.{passesRefusal}
 use Rattle.passturns.specs.declared.Progress.{Progress}
 
 -- ## What a run has come to

@@ -15,11 +15,11 @@ ghost use Rattle.planes.specs.Replies.{replied};
 ghost use Rattle.model.specs.Outcomes.{answerReply};
 ghost use Rattle.model.specs.Calls.{numbersRefusal};
 ghost use Rattle.listformat.specs.Format.{countOf, headRefusal};
-ghost use Rattle.listformat.specs.Refusals.{countRefusal};
+ghost use Rattle.listchecks.specs.Refusals.{countRefusal};
 ghost use Rattle.passturns.specs.Steps.{soFar, countsSoFar, StepReady, StepOutcome, stopped, started, begun};
 ghost use Rattle.passturns.specs.Steps.{checked};
 ghost use Rattle.passturns.specs.Steps.{TurnOutcome};
-use listformat::COUNT;
+use listchecks::COUNT;
 use model::Answer;
 use model::Counts;
 use model::Pass;
@@ -89,7 +89,7 @@ pub fn begin_list(list: &[u8], shape: Shape, plane: usize, marks: usize, queue: 
     if lent != 0 {
         return stop(lent);
     }
-    let head = listformat::head_refusal(list);
+    let head = listchecks::head_refusal(list);
     if head != 0 {
         return stop(head);
     }
@@ -120,7 +120,7 @@ fn step<'a>(
     }
 }
 
-// The run after the pass that is due has been checked: the refusal of its form, where it has one, then 5 to 8, 18; or
+// The run after the pass that is due has been checked: the refusal of its form, where it has one, then 5 to 8, 18, 19; or
 // the next pass is due, or after the last one the first is to run.
 fn check(form: u8, pass: Pass, s: Progress) -> Progress
     requires { ⌜ s .at < s .end ⌝ }

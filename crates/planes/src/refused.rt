@@ -57,3 +57,6 @@ pub const SLOPES: u8 = 18;
 
 // The number of neighbours is neither 4 nor 8.
 pub const NEIGHBOURS: u8 = 19;
+
+// Version 1 of a list has no place for a pass with eight neighbours.
+pub const NO_PLACE: u8 = 20;

@@ -2,6 +2,7 @@
 //! guards have to agree; and on what is accepted the order of neighbours, the regional maxima and minima, the channels,
 //! and both counts together with the components of sufficient area.
 
+use crate::convert;
 use crate::guarded::Guarded;
 use crate::in_memory;
 use crate::inputs::{self, one_in, PassNumbers, SettingsNumbers};
@@ -10,11 +11,11 @@ use mlhe::ffi;
 use mlhe_reference as reference;
 use mlhe_reference::extrema::{keeps_shapes, reversed_channels};
 use mlhe_reference::random::Random;
-use mlhe_reference::{Counts, Pass, Refusal, Rule, Settings, EIGHT, FOUR};
+use mlhe_reference::{Counts, Pass, Refusal, Rule, Settings, Version, EIGHT, FOUR};
 
 /// The kinds of case, in the order of `case`.
-pub const KINDS: [&str; 10] =
-    ["intensity", "pass", "recolour", "enhance", "list", "read", "write", "chain", "levels", "passes"];
+pub const KINDS: [&str; 11] =
+    ["intensity", "pass", "recolour", "enhance", "list", "read", "write", "chain", "levels", "passes", "convert"];
 
 /// What a call that counts answered: its counts, or the refusal.
 pub type Counted = Result<Counts, Refusal>;
@@ -41,7 +42,7 @@ impl Outcome {
         outcome
     }
 
-    fn add(&mut self, answer: Counted) {
+    pub fn add(&mut self, answer: Counted) {
         self.answers.push(status(answer));
         self.counts = [self.counts, answer.unwrap_or_default()].into_iter().sum();
     }
@@ -62,12 +63,13 @@ pub fn case(kind: usize, random: &mut Random) -> Compared {
         6 => write(random),
         7 => chain(random),
         8 => levels(random),
-        _ => in_memory::passes(random),
+        9 => in_memory::passes(random),
+        _ => convert::there_and_back(random),
     }
 }
 
 /// An answer as the C functions give it.
-fn encoded<T: Into<u64>>(answer: Result<T, Refusal>) -> i64 {
+pub fn encoded<T: Into<u64>>(answer: Result<T, Refusal>) -> i64 {
     match answer {
         Ok(value) => value.into() as i64,
         Err(number) => -i64::from(number),
@@ -87,7 +89,7 @@ pub fn require(holds: bool, what: &str) -> Result<(), String> {
     }
 }
 
-fn same_answer(library: i64, expected: i64) -> Result<(), String> {
+pub fn same_answer(library: i64, expected: i64) -> Result<(), String> {
     require(library == expected, &format!("the answer is {library} and should be {expected}"))
 }
 
@@ -99,7 +101,7 @@ pub fn sufficient(counts: Counts, passes: &[Pass], first: &[u8], w: usize, h: us
 }
 
 /// The lent memory holds what it should, and its guards are untouched.
-fn same_content(name: &str, memory: &Guarded<u8>, expected: &[u8]) -> Result<(), String> {
+pub fn same_content(name: &str, memory: &Guarded<u8>, expected: &[u8]) -> Result<(), String> {
     require(memory.kept_beyond(memory.len()), &format!("the guards of the {name} are not kept"))?;
     require(memory.now() == expected, &format!("the {name} differs"))
 }
@@ -268,14 +270,34 @@ fn single_list(random: &mut Random) -> Compared {
     let length = inputs::exact_length(random, w * h);
     let mut plane = Guarded::holding(&inputs::values(random, w, length), random);
     let mut work = Work::new(random, w * h);
-    let list = if long { inputs::long_list(random) } else { inputs::list_bytes(random, 6, w * h) };
+    let neighbours = inputs::neighbours(random);
+    let list = if long { inputs::long_list(random) } else { inputs::list_bytes(random, 6, w * h, neighbours) };
     let list = Guarded::holding(&list, random);
     let (w, h) = inputs::told_sides(random, w, h);
     let answer = list_call(&list, &mut plane, &mut work, w, h)?;
+    let mut outcome = Outcome::counted(answer);
     if answer.is_ok() {
-        same_shapes(plane.then(), plane.now(), w, h, false)?;
+        outcome.by_eight = same_shapes(plane.then(), plane.now(), w, h, list_has_eight(&list))?;
     }
-    Ok(Outcome::counted(answer))
+    Ok(outcome)
+}
+
+/// Whether a list is sound and all its passes have eight neighbours.
+fn list_has_eight(list: &Guarded<u8>) -> bool {
+    reference::list_passes(list.now()).is_ok_and(|passes| passes.iter().all(|pass| pass.neighbours == EIGHT))
+}
+
+/// The plane that a list leaves of a first plane, and its answer.
+pub fn listed(
+    list: &Guarded<u8>,
+    first: &[u8],
+    w: usize,
+    h: usize,
+    random: &mut Random,
+) -> Result<(Vec<u8>, Counted), String> {
+    let (mut plane, mut work) = (Guarded::holding(first, random), Work::exact(random, w * h));
+    let answer = list_call(list, &mut plane, &mut work, w, h)?;
+    Ok((plane.now().to_vec(), answer))
 }
 
 fn list_call(
@@ -435,7 +457,7 @@ pub fn greatest(w: usize, h: usize, neighbours: u16, random: &mut Random) -> Com
 }
 
 /// Enhancements of a grey frame with many components of one value, at every last level. The library's own list of the
-/// same passes, in memory where they have eight neighbours, leaves the same plane and the same counts.
+/// same passes, of version 2 where they have eight neighbours, leaves the same plane and the same counts.
 fn levels(random: &mut Random) -> Compared {
     let (w, h) = (random.between(1, 12), random.between(1, 12));
     let n = w * h;
@@ -451,7 +473,9 @@ fn levels(random: &mut Random) -> Compared {
         let mut work = Work::exact(random, n);
         let enhanced = enhance_call(&frame, w, h, &settings, &mut plane, &mut work, &mut output)?;
         let settings = settings_of(&settings).ok_or("there is no such rule")?;
-        let (listed, run) = listed_levels(&settings, &greys, w, h, random)?;
+        let version = if settings.neighbours == EIGHT { Version::Two } else { random.one_of(&Version::BOTH) };
+        let list = reference::list_bytes_of(version, &reference::level_by_level(&settings));
+        let (listed, run) = listed(&Guarded::holding(&list, random), &greys, w, h, random)?;
         require(enhanced == run, &format!("an enhancement answers {enhanced:?}, and its list {run:?}"))?;
         require(plane.now() == listed, "an enhancement and its list leave different planes")?;
         outcome.by_eight |= same_shapes(&greys, &listed, w, h, settings.neighbours == EIGHT)?;
@@ -459,24 +483,6 @@ fn levels(random: &mut Random) -> Compared {
         outcome.add(run);
     }
     Ok(outcome)
-}
-
-/// The plane that the list of an enhancement's passes leaves, and its answer.
-fn listed_levels(
-    settings: &Settings,
-    greys: &[u8],
-    w: usize,
-    h: usize,
-    random: &mut Random,
-) -> Result<(Vec<u8>, Counted), String> {
-    let passes = reference::level_by_level(settings);
-    if settings.neighbours == EIGHT {
-        return in_memory::run(&passes, greys, w, h);
-    }
-    let list = Guarded::holding(&reference::list_bytes(&passes), random);
-    let (mut plane, mut work) = (Guarded::holding(greys, random), Work::exact(random, w * h));
-    let answer = list_call(&list, &mut plane, &mut work, w, h)?;
-    Ok((plane.now().to_vec(), answer))
 }
 
 fn read(random: &mut Random) -> Compared {
@@ -525,8 +531,8 @@ fn write(random: &mut Random) -> Compared {
     Ok(Outcome::of(answer))
 }
 
-/// One call of a chain: a pass with one of these numbers of neighbours, or a list. Answers also whether all its passes
-/// have eight.
+/// One call of a chain: a pass with one of these numbers of neighbours, or a list of such. Answers also whether all its
+/// passes have eight.
 fn link(
     plane: &mut Guarded<u8>,
     w: usize,
@@ -536,10 +542,9 @@ fn link(
 ) -> Result<(Counted, bool), String> {
     let n = w * h;
     let mut work = Work::new(random, n);
-    if neighbours.contains(&4) && one_in(random, 6) {
-        let list = Guarded::holding(&inputs::list_bytes(random, 4, n), random);
-        let none = reference::list_passes(list.now()).is_ok_and(|passes| passes.is_empty());
-        return Ok((list_call(&list, plane, &mut work, w, h)?, none));
+    if one_in(random, 6) {
+        let list = Guarded::holding(&inputs::list_bytes(random, 4, n, neighbours), random);
+        return Ok((list_call(&list, plane, &mut work, w, h)?, list_has_eight(&list)));
     }
     let pass = inputs::pass_numbers(random, n, neighbours);
     Ok((pass_call(plane, &mut work, w, h, &pass)?, has_eight(&pass)))

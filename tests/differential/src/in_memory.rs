@@ -1,12 +1,11 @@
-//! Lists in memory, which the Rust crate checks and runs pass by pass where a pass has eight neighbours, beside those
-//! of the second implementation.
+//! Lists in memory, which the Rust crate makes files of, beside those of the second implementation.
 
 use crate::calls::{require, same_shapes, sufficient, Compared, Counted, Outcome};
 use crate::inputs::{self, one_in};
 use mlhe::{Memory, PassList, Plane};
 use mlhe_reference as reference;
 use mlhe_reference::random::Random;
-use mlhe_reference::{Counts, Pass, Rule, EIGHT};
+use mlhe_reference::{Counts, Pass, Rule, Version, EIGHT, FOUR};
 
 /// Passes with four neighbours, with eight or mixed, most of them sound, on a plane.
 pub fn passes(random: &mut Random) -> Compared {
@@ -30,7 +29,7 @@ pub fn passes(random: &mut Random) -> Compared {
 
 /// The plane that the Rust crate's list of these passes leaves of a first plane, and its answer. Both counts together
 /// are the components of sufficient area.
-pub fn run(passes: &[Pass], first: &[u8], w: usize, h: usize) -> Result<(Vec<u8>, Counted), String> {
+fn run(passes: &[Pass], first: &[u8], w: usize, h: usize) -> Result<(Vec<u8>, Counted), String> {
     let mut plane = Plane::new(w, h, first.to_vec()).map_err(|refusal| refusal.to_string())?;
     let list: Vec<mlhe::Pass> = passes.iter().map(pass_of).collect();
     let list = match PassList::new(&list) {
@@ -44,14 +43,22 @@ pub fn run(passes: &[Pass], first: &[u8], w: usize, h: usize) -> Result<(Vec<u8>
     Ok((plane.values().to_vec(), Ok(counts)))
 }
 
-/// A list has the file of its passes, and none where a pass has eight neighbours.
+/// A list has the file of its passes, of version 1 if all of them have four neighbours and else of version 2, which
+/// reads back. It is converted, and back again, if they have four, and else refused with 20.
 fn same_file(list: &PassList, passes: &[Pass]) -> Result<(), String> {
-    let all_four = passes.iter().all(|pass| pass.neighbours != EIGHT);
-    let expected = all_four.then(|| reference::list_bytes(passes));
-    require(list.bytes() == expected.as_deref(), "the list has another file")?;
-    let Some(bytes) = list.bytes() else { return Ok(()) };
-    let back = PassList::from_bytes(bytes).map_err(|refusal| refusal.to_string())?;
-    require(back.passes() == list.passes(), "the list does not read back")
+    let all_four = passes.iter().all(|pass| pass.neighbours == FOUR);
+    let version = if all_four { Version::One } else { Version::Two };
+    require(list.bytes() == reference::list_bytes_of(version, passes), "the list has another file")?;
+    let back = PassList::from_bytes(list.bytes()).map_err(|refusal| refusal.to_string())?;
+    require(back == *list, "the list does not read back")?;
+    match list.converted() {
+        Ok(other) => {
+            let expected = all_four.then(|| reference::list_bytes_of(Version::Two, passes));
+            require(Some(other.bytes()) == expected.as_deref(), "the converted list has another file")?;
+            require(other.converted().as_ref() == Ok(list), "the list is not converted back")
+        }
+        Err(refusal) => require(!all_four && refusal.number() == 20, "the list is not converted"),
+    }
 }
 
 /// The pass as the Rust crate has it.

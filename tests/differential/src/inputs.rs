@@ -2,7 +2,7 @@
 
 use crate::guarded::Guarded;
 use mlhe_reference::random::Random;
-use mlhe_reference::{Pass, Rule};
+use mlhe_reference::{list_bytes_of, Pass, Rule, Version};
 
 /// One time in so many.
 pub fn one_in(random: &mut Random, times: usize) -> bool {
@@ -303,12 +303,28 @@ pub fn many_passes(random: &mut Random) -> Vec<Pass> {
     (0..count).map(|_| Pass { a: 0, b: 255, area, rule, neighbours: random.one_of(&[4, 8]) }).collect()
 }
 
-/// A pass list for a plane of n pixels, often with something wrong in it. Of codes and segments a record has the low
-/// byte.
-pub fn list_bytes(random: &mut Random, greatest: usize, n: usize) -> Vec<u8> {
+/// The head of a pass list of this version with so many passes.
+fn list_head(version: Version, count: usize) -> Vec<u8> {
+    let mut bytes = list_bytes_of(version, &[]);
+    bytes[5..].copy_from_slice(&(count as u16).to_le_bytes());
+    bytes
+}
+
+/// The three zero bytes of a record of version 2. Seldom one of them is set.
+fn zero_bytes(random: &mut Random) -> [u8; 3] {
+    let mut bytes = [0; 3];
+    if one_in(random, 60) {
+        bytes[random.below(3)] = random.one_of(&[1, 4, 8, 255]);
+    }
+    bytes
+}
+
+/// A pass list for a plane of n pixels, often with something wrong in it. It is of version 2 with these numbers of
+/// neighbours, or of version 1 if four is one of them. Of codes, segments and neighbours a record has the low byte.
+pub fn list_bytes(random: &mut Random, greatest: usize, n: usize, neighbours: Neighbours) -> Vec<u8> {
     let count = random.between(0, greatest);
-    let mut bytes = b"MLP\x01\x00".to_vec();
-    bytes.extend((count as u16).to_le_bytes());
+    let version = if neighbours.contains(&4) { random.one_of(&Version::BOTH) } else { Version::Two };
+    let mut bytes = list_head(version, count);
     for _ in 0..count {
         let (a, b) = interval(random);
         let area = area(random, n);
@@ -317,23 +333,34 @@ pub fn list_bytes(random: &mut Random, greatest: usize, n: usize) -> Vec<u8> {
         bytes.extend(area.to_le_bytes());
         bytes.extend(first.to_le_bytes());
         bytes.extend(second.to_le_bytes());
+        if version == Version::Two {
+            bytes.push(neighbours_number(random, neighbours) as u8);
+            bytes.extend(zero_bytes(random));
+        }
     }
-    if one_in(random, 3) {
-        damage(random, &mut bytes);
+    match random.below(60) {
+        // Said to be of the other version.
+        0 => bytes[3] = 3 - bytes[3],
+        1..=20 => damage(random, &mut bytes),
+        _ => {}
     }
     bytes
 }
 
-/// A list of very many passes, which come to the whole plane or to nothing, for the limit of 1,024.
+/// A list of very many passes of either version, which come to the whole plane or to nothing, for the limit of 1,024.
 pub fn long_list(random: &mut Random) -> Vec<u8> {
-    let count = random.one_of(&[1_023u16, 1_024, 1_025]);
+    let count = random.one_of(&[1_023, 1_024, 1_025]);
     let area: u32 = random.one_of(&[1, 1_048_576]);
-    let mut bytes = b"MLP\x01\x00".to_vec();
-    bytes.extend(count.to_le_bytes());
+    let version = random.one_of(&Version::BOTH);
+    let numbers = random.one_of(&[&[4][..], &[8], &[4, 8]]);
+    let mut bytes = list_head(version, count);
     for _ in 0..count {
         bytes.extend([0, 255, 0, 0]);
         bytes.extend(area.to_le_bytes());
         bytes.extend([0, 0, 0x9c, 0x63]);
+        if version == Version::Two {
+            bytes.extend([random.one_of(numbers), 0, 0, 0]);
+        }
     }
     bytes
 }
@@ -391,7 +418,7 @@ pub fn p6_bytes(random: &mut Random) -> Vec<u8> {
 #[cfg(test)]
 mod tests {
     use super::*;
-    use mlhe_reference::{list_passes, read, run_passes, GREATEST_PIXELS};
+    use mlhe_reference::{convert, list_passes, read, run_passes, GREATEST_PIXELS};
 
     /// Many files have comments that are skipped, and many are malformed with number signs in them.
     #[test]
@@ -416,7 +443,7 @@ mod tests {
         let (mut retoned, mut kept, mut refused) = (0, 0, 0);
         for _ in 0..2_000 {
             let plane = values(&mut random, 9, 72);
-            match list_passes(&list_bytes(&mut random, 3, 72)) {
+            match list_passes(&list_bytes(&mut random, 3, 72, &[4, 8])) {
                 Ok(passes) => {
                     let affine = passes.iter().filter(|pass| matches!(pass.rule, Rule::Affine { .. }));
                     for &pass in affine {
@@ -431,6 +458,33 @@ mod tests {
         }
         assert!(retoned > 100 && kept > 100 && refused > 20, "{retoned}, {kept} and {refused} of 2,000");
     }
+
+    /// Lists of version 2 have passes whose neighbours decide, wrong numbers of them, and zero bytes that are set. Many
+    /// lists of both versions are converted, and many of version 2 are not, for an eight.
+    #[test]
+    fn lists_of_version_2_are_common() {
+        let mut random = Random::new(4);
+        let (mut telling, mut converted, mut answers) = (0, [0; 2], [0; 21]);
+        for _ in 0..4_000 {
+            let plane = values(&mut random, 9, 72);
+            let list = list_bytes(&mut random, 3, 72, &[4, 8]);
+            let run = |passes: &[Pass]| {
+                let mut last = plane.clone();
+                run_passes(passes, &mut last, 72, 72, 9, 8).map(|counts| (last, counts))
+            };
+            if let Ok(passes) = list_passes(&list) {
+                let four: Vec<Pass> = passes.iter().map(|&pass| Pass { neighbours: 4, ..pass }).collect();
+                telling += usize::from(run(&passes) != run(&four));
+            }
+            match convert(&list, &mut [0; 99]) {
+                Ok(_) => converted[usize::from(list[3]) - 1] += 1,
+                Err(number) => answers[usize::from(number)] += 1,
+            }
+        }
+        assert!(telling > 40 && converted[0] > 400 && converted[1] > 400, "{telling} and {converted:?} of 4,000");
+        assert!([15, 16, 17, 19, 20].iter().all(|&number| answers[number] > 20), "{answers:?} of 4,000");
+    }
+
     /// Many lists in memory have passes whose neighbours decide, and many are refused for their number.
     #[test]
     fn eight_neighbours_are_common() {

@@ -5,17 +5,19 @@
 //!     cargo run --release -- --cases N --seed S    so many, from another seed
 //!     cargo run --release -- --case K --seed S     one case again
 //!
-//! Every case is random from its seed and its number: sides, frames, planes, files and lists, sound and damaged; chains
-//! of passes with four neighbours and with eight, with refused calls among them; lengths short, exact and long; any
-//! content in marks and queue; guards around all lent memory. Compared are answers, counts, planes, outputs and every
-//! byte that has to stay; on all that is accepted the order of neighbours, the regional maxima and minima, and the
-//! components of sufficient area, each counted from its definition, by four neighbours, and by eight where all accepted
-//! passes have eight; and enhancements with the lists of passes that they equal. Ends with status 1 at the first
+//! Every case is random from its seed and its number: sides, frames, planes, files and lists of both versions, sound and
+//! damaged; chains of passes and lists with four neighbours and with eight, with refused calls among them; lengths
+//! short, exact and long; any content in marks and queue; guards around all lent memory. Compared are answers, counts,
+//! planes, outputs and every byte that has to stay; on all that is accepted the order of neighbours, the regional maxima
+//! and minima, and the components of sufficient area, each counted from its definition, by four neighbours, and by eight
+//! where all accepted passes have eight; enhancements with the lists of passes that they equal; and lists with their
+//! conversions, which are turned back into them and leave equal planes and counts. Ends with status 1 at the first
 //! difference. At the end it has to have seen every refusal, accepted calls of every kind, components retoned and kept
 //! back by every kind that counts, and planes changed and held against the first by eight neighbours. Each processor
 //! tries a share of the cases.
 
 mod calls;
+mod convert;
 mod guarded;
 mod in_memory;
 mod inputs;
@@ -37,10 +39,10 @@ const SEED: u64 = 20_260;
 const TOLD: u64 = 100_000;
 
 /// The kinds of case whose calls count components.
-const COUNTING: [&str; 6] = ["pass", "enhance", "list", "chain", "levels", "passes"];
+const COUNTING: [&str; 7] = ["pass", "enhance", "list", "chain", "levels", "passes", "convert"];
 
 /// Those whose calls may have eight neighbours.
-const BY_EIGHT: [&str; 5] = ["pass", "enhance", "chain", "levels", "passes"];
+const BY_EIGHT: [&str; 6] = ["pass", "enhance", "list", "chain", "levels", "passes"];
 
 /// How often each kind of case was tried, accepted, held against the first plane by eight neighbours, and refused with
 /// each number, and what its calls counted.
@@ -51,7 +53,7 @@ struct Tally {
     accepted: [u64; KINDS.len()],
     by_eight: [u64; KINDS.len()],
     counts: [Counts; KINDS.len()],
-    refused: [u64; 20],
+    refused: [u64; 21],
 }
 
 impl Tally {
@@ -93,7 +95,7 @@ impl Tally {
             }
             println!("{name:10} {tried:8} cases, {accepted:8} of them with no refusal{counted}");
         }
-        let refused: Vec<String> = (1..=19).map(|number| format!("{number}: {}", self.refused[number])).collect();
+        let refused: Vec<String> = (1..=20).map(|number| format!("{number}: {}", self.refused[number])).collect();
         println!("refusals   {}", refused.join(", "));
     }
 

@@ -22,7 +22,7 @@ fn the_limits_of_its_numbers() {
     let list = |segments, smin, smax| {
         let rule = Rule::Affine { segments, smin, smax };
         let list = PassList::new(&[Pass::new(0, 255, 1, rule)])?;
-        Ok(list.bytes().expect("four neighbours")[9..].to_vec())
+        Ok(list.bytes()[9..].to_vec())
     };
     let [low, high] = GREATEST_SLOPE.to_le_bytes();
     let written = vec![2, GREATEST_SEGMENTS, 1, 0, 0, 0, low, high, low, high];

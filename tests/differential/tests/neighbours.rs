@@ -1,6 +1,6 @@
 //! The Rust crate's numbers of neighbours are the library's: the stored passes, enhancements and lists in memory that
 //! have not four throughout have the same answers when they are run by the crate's calls, refusals too; and so have the
-//! stored lists in files, on many of which eight would tell.
+//! stored lists in files, on many of which eight tell or would tell.
 
 mod lines;
 mod stored;

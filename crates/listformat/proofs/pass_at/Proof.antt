@@ -1,7 +1,7 @@
 -- `listformat::pass_at` meets its contract: its fields are what the calls answer. Assumes nothing.
 use mathlib.Core.Path.{refl}
-use borrow.Author.Needs.{needs}
 use Rattle.listformat.specs.Format.{passAt}
+use borrow.Author.Needs.{needs}
 use Rattle.listformat.proofs.pass_at.Statement.{statement}
 use Rattle.listformat.proofs.pass_at.Tie as tie
 
@@ -26,12 +26,16 @@ numbers-at-requires c κs = search needs
 rule-of-requires : tie.Need-rule-of-requires
 rule-of-requires c κs = search needs
 
+neighbours-at-requires : tie.Need-neighbours-at-requires
+neighbours-at-requires c κs = search needs
+
 returns : tie.Need-returns
 unfolding passAt
 returns c =
-    let area = c .before .before .number32-at .ensures in
-    let numbers = c .before .numbers-at .ensures in
-    rw (c .rule-of .ensures) (rw numbers (rw area refl))
+    let rule = c .before .rule-of .ensures in
+    let numbers = c .before .before .numbers-at .ensures in
+    let area = c .before .before .before .number32-at .ensures in
+    rw (c .neighbours-at .ensures) (rw rule (rw numbers (rw area refl)))
 
 pub pass-at-spec : {M : Type 1} → statement M
 pass-at-spec =
@@ -44,4 +48,5 @@ pass-at-spec =
     number32-at-requires
     numbers-at-requires
     rule-of-requires
+    neighbours-at-requires
     returns)

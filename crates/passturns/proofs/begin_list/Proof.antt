@@ -1,9 +1,8 @@
 -- `passturns::begin_list` meets its contract: each answer follows from the tests that led to it. Assumes nothing.
 use mathlib.Core.Path.{sym, ap, _∙_}
-use native.Mathlib.Omega.{arith}
 use borrow.Author.Needs.{needs}
 use Rattle.planes.proofs.Refusals.{▷-both}
-use Rattle.listformat.proofs.Format.{headed}
+use Rattle.listformat.proofs.Format.{headed-long}
 use Rattle.passturns.specs.Steps.{started}
 use Rattle.passturns.proofs.States.{applies, passes-on, stopped-begun, started-begun}
 use Rattle.passturns.proofs.begin_list.Statement.{statement}
@@ -34,9 +33,7 @@ returns-2 c =
     c .stop2 .ensures ∙ stopped-begun _ (passes-on lent (c .before .before .head-refusal .ensures)) some
 
 count-of-requires : tie.Need-count-of-requires
-count-of-requires c κs =
-    let head = headed _ (sym (c .before .head-refusal .ensures) ∙ c .if2 .left) in
-    omega (arith, head .size)
+count-of-requires c κs = headed-long _ (sym (c .before .head-refusal .ensures) ∙ c .if2 .left)
 
 start-requires : tie.Need-start-requires
 start-requires c κs = search needs

@@ -1,4 +1,4 @@
-//! Cases of the calls that take eight neighbours, and of those that mean four where eight would tell.
+//! Cases of the calls that take eight neighbours, and of lists of version 1, which mean four, where eight would tell.
 
 use crate::affine::affine;
 use crate::chain::chains;
@@ -13,7 +13,7 @@ use mlhe_reference::random::Random;
 use mlhe_reference::{level_by_level, Pass, Rule, Settings};
 
 /// Rows of pixels, by what they show.
-const PICTURES: [&[&str]; 32] = [
+pub const PICTURES: [&[&str]; 32] = [
     // Example J: a dark and a light wire that cross at a corner.
     &["1.", ".2"],
     // Wires from corner to corner of the plane, one way and the other.
@@ -188,7 +188,7 @@ fn in_memory(random: &mut Random) -> Vec<Case> {
     cases
 }
 
-/// Lists in files, which mean four neighbours, on planes where eight would tell.
+/// Lists of version 1, which mean four neighbours, on planes where eight would tell.
 fn in_files(random: &mut Random) -> Vec<Case> {
     let tells = |w, h, list: &[Pass], plane: &[u8]| {
         let eight: Vec<Pass> = list.iter().map(|&pass| Pass { neighbours: 8, ..pass }).collect();

@@ -5,10 +5,12 @@ use mlhe_reference::cases::{answers, encode, Case};
 /// One test of a call: the number of its refusal and ways to fail it.
 pub type Test = (u8, Vec<fn(&mut Case)>);
 
-/// The sound call with these faults. The answer is checked: it is the refusal of this number.
+/// The sound call with these faults. The answer is checked: it is the refusal of this number. A list of version 1 that
+/// is said to be of version 2 has not a wrong version, but a wrong length.
 fn refused(sound: &Case, number: u8, faults: &[fn(&mut Case)]) -> Case {
     let mut case = sound.clone();
     faults.iter().for_each(|fault| fault(&mut case));
+    let number = if number == 15 && case.bytes.starts_with(b"MLP\x02\0") { 16 } else { number };
     let line = answers(&encode(&case));
     let answered = line.trim_end().split(' ').next().map(str::to_string);
     assert_eq!(answered, Some(format!("-{number}")), "{case:?}");
@@ -42,6 +44,11 @@ pub fn faulty_last(sound: &Case, earlier: &[Test], (last, faults): &Test) -> Vec
     made.extend(faults.iter().map(|&fault| refused(sound, *last, &[fault])));
     made.extend(earlier.iter().map(|(number, earlier)| refused(sound, *number, &[faults[0], earlier[0]])));
     made
+}
+
+/// The sound call with the first fault of a test before that of each later test.
+pub fn faulty_before(sound: &Case, (first, faults): &Test, later: &[Test]) -> Vec<Case> {
+    later.iter().map(|(_, later)| refused(sound, *first, &[later[0], faults[0]])).collect()
 }
 
 /// The sound call with a fault of each test of a first record and one of each test of a second. The answers are checked:

@@ -1,4 +1,4 @@
-//! Cases of `run_list`, and lists that `run_passes` runs too.
+//! Cases of `run_list` with version 1, and lists that `run_passes` runs too.
 
 use crate::chance::{random_plane, random_rule, random_section, random_sides};
 use crate::faults::{faulty, faulty_records, memory_test, plane_test, size_tests, Test};

@@ -16,6 +16,7 @@
 mod affine;
 mod chain;
 mod chance;
+mod convert;
 mod eight;
 mod enhance;
 mod faults;
@@ -30,16 +31,17 @@ mod read;
 mod recolour;
 mod slopes;
 mod sound;
+mod versions;
 mod write;
 
-use mlhe_reference::cases::{self, answers, encode, Case};
+use mlhe_reference::cases::{self, answers, encode, Case, Kind};
 use std::io::{self, Read, Write};
 use std::path::Path;
 use std::{env, fs, process};
 
-/// What makes the cases of each call. A chain mixes calls, and so do the cases of the affine rule and of eight
-/// neighbours, which come last.
-const CALLS: [fn() -> Vec<Case>; 12] = [
+/// What makes the cases of each call. A chain mixes calls, and so do the cases of the affine rule, of eight neighbours
+/// and of both versions of lists, which come last.
+const CALLS: [fn() -> Vec<Case>; 14] = [
     intensity::cases,
     pass::cases,
     chain::cases,
@@ -52,6 +54,8 @@ const CALLS: [fn() -> Vec<Case>; 12] = [
     write::cases,
     affine::cases,
     eight::cases,
+    versions::cases,
+    convert::cases,
 ];
 
 fn main() -> io::Result<()> {
@@ -104,7 +108,9 @@ impl Stored {
         for case in &self.cases {
             assert!(case.bytes.len() <= cases::GREATEST_BYTES && case.plane.len() <= cases::GREATEST_PLANE, "{case:?}");
             assert!(usize::from(case.marks.max(case.queue)) <= cases::GREATEST_MEMORY, "{case:?}");
-            assert!(usize::from(case.output) <= cases::GREATEST_OUTPUT, "{case:?}");
+            let converts = case.kind == Kind::Convert;
+            let greatest = if converts { cases::GREATEST_CONVERTED } else { cases::GREATEST_OUTPUT };
+            assert!(usize::from(case.output) <= greatest, "{case:?}");
         }
         file
     }

@@ -1,4 +1,4 @@
-//! Cases of refusal 19.
+//! Cases of refusal 19, but for those of lists of bytes.
 
 use crate::affine::affine;
 use crate::faults::{area_test, faulty_last, faulty_records, lengths_test, memory_test, output_test, plane_test};
@@ -11,7 +11,7 @@ use mlhe_reference::cases::{Case, PASS};
 use mlhe_reference::Pass;
 
 /// Example J's plane, of two columns.
-const CORNERS: [u8; 4] = [10, 200, 200, 20];
+pub const CORNERS: [u8; 4] = [10, 200, 200, 20];
 
 pub fn cases() -> Vec<Case> {
     let eight = |case: Case| Case { neighbours: 8, ..ruled(case, affine([2, 100, 10_000])) };

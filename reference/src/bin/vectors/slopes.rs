@@ -72,7 +72,7 @@ pub fn other_rules_tests<const AT: usize>() -> Vec<Test> {
 }
 
 /// 17 in a record with the affine rule: its rule becomes another, and its N is no zero byte.
-fn form_test<const AT: usize>() -> Test {
+pub fn form_test<const AT: usize>() -> Test {
     (17, vec![|case| case.bytes[AT + 2] = 3, |case| case.bytes[AT + 2] = 0, |case| case.bytes[AT + 2] = 1])
 }
 
