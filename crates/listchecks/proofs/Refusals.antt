@@ -24,7 +24,7 @@ use Rattle.model.specs.declared.Pass.{Pass}
 use Rattle.model.specs.Calls.{numbersRefusal}
 use Rattle.model.specs.Runs.{All}
 use Rattle.listformat.specs.declared.Edition.{Edition}
-use Rattle.listformat.specs.declared.Edition.the-variants.{First, Second}
+use Rattle.listformat.specs.declared.Edition.the-variants.{Second}
 use Rattle.listformat.specs.Format.{editionOf, recordStart, countOf, passHere, passesOf, greatestCount, malformedAt, well}
 use Rattle.listformat.specs.Format.{headRefusal, decode, encode, Storable}
 use Rattle.listformat.proofs.Format.{headed, decoded, length-passesOf, head-encode, passes-encode}

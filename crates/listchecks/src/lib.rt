@@ -83,14 +83,22 @@ pub fn head_refusal(list: &[u8]) -> u8
     0
 }
 
+// The first of two refusals that applies, or 0.
+fn first_of(refusal: u8, next: u8) -> u8
+    ensures { λ r. ⌜ r ≡ refusal ▷ next ⌝ }
+{
+    if refusal != 0 {
+        return refusal;
+    }
+    next
+}
+
 // 17, then 5 to 8, 18, 19, for a record, or 0.
 fn record_refusal(found: Record) -> u8
     ensures { λ r. ⌜ r ≡ found .form ▷ numbersRefusal (found .pass) ⌝ }
 {
-    if found.form != 0 {
-        return found.form;
-    }
-    model::pass_refusal(found.pass)
+    let numbers = model::pass_refusal(found.pass);
+    first_of(found.form, numbers)
 }
 
 // 20 where the edition has no place for the pass's neighbours, or 0.
@@ -111,16 +119,6 @@ fn eight_refusal(neighbours: u8) -> u8
         return refused::NO_PLACE;
     }
     0
-}
-
-// The first of two refusals that applies, or 0.
-fn first_of(refusal: u8, next: u8) -> u8
-    ensures { λ r. ⌜ r ≡ refusal ▷ next ⌝ }
-{
-    if refusal != 0 {
-        return refusal;
-    }
-    next
 }
 
 // Of a list whose head is not refused: the refusal of the first record that is; where none is, 20 for a pass that the

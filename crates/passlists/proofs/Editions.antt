@@ -7,7 +7,7 @@
 --                      number, then 20, then 14
 use Prim.Native.Nat.{ℕ, _<_}
 use mathlib.Core.Path.{_≡_, sym, ap, ap₂, _∙_}
-use mathlib.Core.List.{List, [], _∷_}
+use mathlib.Core.List.{List}
 use lib.ListN.{length}
 use Rattle.planes.specs.Refusals.{_▷_, outputRefusal}
 use Rattle.planes.specs.Shapes.{pixels}
@@ -24,7 +24,7 @@ use Rattle.listformat.specs.declared.Edition.the-variants.{First, Second}
 use Rattle.listformat.specs.Format.{other, editionOf, passesOf, encode, Bytes, Storable}
 use Rattle.listchecks.specs.Refusals.{listRefusal, placesRefusal}
 use Rattle.conversion.specs.Conversion.{converted, convertRefusal}
-use Rattle.conversion.proofs.Refusals.{Convertible, convertible}
+use Rattle.conversion.proofs.Refusals.{convertible}
 use Rattle.conversion.proofs.Editions.{wider, converted-passes, converted-sound}
 use Rattle.passlists.specs.Outcomes.{slicesRefusal, runListRefusal, ListOutcome}
 use Rattle.passlists.proofs.Lists.{same-outcomes}

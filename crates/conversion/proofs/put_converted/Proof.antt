@@ -15,14 +15,6 @@ use Rattle.conversion.proofs.Refusals.{length-converted, Convertible, c
 use Rattle.conversion.proofs.Putting.{Putting, putting-none, putting-all, put-same, turn-asks, turn-puts}
 use Rattle.conversion.proofs.put_converted.Statement.{statement}
 use Rattle.conversion.proofs.put_converted.Tie as tie
-use Rattle.conversion.proofs.put_converted.Reads as reads
-use Rattle.conversion.proofs.put_converted.Lts as lts
-use Rattle.conversion.proofs.put_head.Reads as put-head-reads
-use Rattle.conversion.proofs.put_record.Reads as put-record-reads
-use Rattle.listformat.proofs.count_of.Reads as count-of-reads
-use Rattle.listformat.proofs.edition_of.Reads as edition-of-reads
-use Rattle.listformat.proofs.other.Reads as other-reads
-use Rattle.listformat.proofs.record_start.Reads as record-start-reads
 
 abbrev Inv-loop : tie.InvT-loop
 Inv-loop output₀ list edition target count at₀ j₀ output at j =

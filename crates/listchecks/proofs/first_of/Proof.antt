@@ -1,7 +1,6 @@
 -- `listchecks::first_of` meets its contract: by its test. Assumes nothing.
 use mathlib.Core.Path.{sym}
 use Rattle.planes.proofs.Refusals.{▷-left, ▷-right}
-use borrow.Author.Needs.{needs}
 use Rattle.listchecks.proofs.first_of.Statement.{statement}
 use Rattle.listchecks.proofs.first_of.Tie as tie
 
