@@ -9,14 +9,10 @@ cd "$(dirname "$0")/.."
 # shellcheck source=tests/common.sh
 . tests/common.sh
 out=$PWD/target/python
-python=/usr/bin/python3 # another python3 may stand before it on the path, without Debian's packages
+python=/usr/bin/python3 # Debian's own
 mkdir -p "$out"
 
-missing=()
-"$python" -c 'import numpy' 2> /dev/null || missing+=(python3-numpy)
-"$python" -c 'import distributed' 2> /dev/null || missing+=(python3-distributed)
-packages "$out" "${missing[@]}"
-
+tests/packages.sh python
 library "$out"
 make --quiet --always-make -C examples/python MLHE_LIBRARY="$MLHE_LIBRARY" SHARED="$out/libmlhe.so"
 

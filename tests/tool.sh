@@ -16,14 +16,7 @@ out=$PWD/target/tool-test
 mkdir -p "$out"
 exec < /dev/null
 
-needed=(librust-clap-dev librust-ctrlc-dev librust-indicatif-dev librust-rayon-dev librust-tempfile-dev)
-missing=()
-for package in "${needed[@]}"; do
-    state=$(dpkg-query --show --showformat='${db:Status-Status}' "$package" 2> /dev/null || true)
-    [ "$state" = installed ] || missing+=("$package")
-done
-packages "$out" "${missing[@]}"
-
+tests/packages.sh tool
 library "$out"
 unset CARGO_TARGET_DIR
 

@@ -7,14 +7,13 @@
 // have exactly the lengths that the case names. (Where there is less room, a part has what there is, and the line shows
 // it.) The run ends with the input. What is read and printed is tested and not proved.
 mod calls;
-mod head;
-mod lines;
-mod memory;
-mod parts;
 mod records;
 
-use head::Case;
-use head::HEAD;
+use caseparts::head;
+use caseparts::head::Case;
+use caseparts::head::HEAD;
+use caseparts::lines;
+use caseparts::parts;
 
 // Room for a case's bytes and for its plane.
 const BYTES: usize = 16416;

@@ -1,7 +1,7 @@
 // Passes by value: of a case, and of the records of 13 bytes that stand for a list in memory.
 ghost use Prim.Native.Nat.{_<_};
-use crate::head;
-use crate::head::Case;
+use caseparts::head;
+use caseparts::head::Case;
 use model::Pass;
 use passarrays::ROOM;
 use tones::Rule;

@@ -1,27 +1,30 @@
--- `cases::memory::fill_marks` is safe and ends. The loop's invariant: marks keep their length. The measure is what is
--- left of it. Assumes nothing.
+-- `caseparts::memory::fill_queue` is safe and ends. The loop's invariant: the queue keeps its length. The measure is what
+-- is left of it. Assumes nothing.
 use Prim.Native.Nat.{_-_}
 use mathlib.Core.Path.{_≡_}
 use native.Mathlib.Omega.{arith}
 use borrow.Author.Needs.{needs}
 use lib.ListN.{length, length-set}
-use Rattle.cases.proofs.memory.fill_marks.Statement.{statement}
-use Rattle.cases.proofs.memory.fill_marks.Tie as tie
+use Rattle.caseparts.proofs.memory.fill_queue.Statement.{statement}
+use Rattle.caseparts.proofs.memory.fill_queue.Tie as tie
 
 abbrev Inv-loop : tie.InvT-loop
-Inv-loop marks₀ i₀ i-end marks i = length marks ≡ length marks₀
+Inv-loop queue₀ i₀ i-end queue i = length queue ≡ length queue₀
 
 abbrev μ-loop : tie.MeasureT-loop
-μ-loop marks₀ i₀ i-end marks i = i-end - i
+μ-loop queue₀ i₀ i-end queue i = i-end - i
 
 loop-holds : tie.Need-loop-holds Inv-loop μ-loop
 loop-holds c = search needs
 
-mark-at-requires : tie.Need-mark-at-requires Inv-loop μ-loop
-mark-at-requires c κs = search needs
+queued-at-requires : tie.Need-queued-at-requires Inv-loop μ-loop
+queued-at-requires c κs = search needs
 
-slice-write-marks : tie.Need-slice-write-marks Inv-loop μ-loop
-slice-write-marks c = omega arith
+mul-queue : tie.Need-mul-queue Inv-loop μ-loop
+mul-queue c = search needs
+
+slice-write-queue : tie.Need-slice-write-queue Inv-loop μ-loop
+slice-write-queue c = omega arith
 
 add-i : tie.Need-add-i Inv-loop μ-loop
 add-i c = omega arith
@@ -38,15 +41,16 @@ same-length c = search needs
 returns : tie.Need-returns Inv-loop μ-loop
 returns c = search needs
 
-pub fill-marks-spec : {M : Type 1} → statement M
-fill-marks-spec =
+pub fill-queue-spec : {M : Type 1} → statement M
+fill-queue-spec =
     tie.close
     (tie.spec
     Inv-loop
     μ-loop
     loop-holds
-    mark-at-requires
-    slice-write-marks
+    queued-at-requires
+    mul-queue
+    slice-write-queue
     add-i
     loop-less
     loop-again

@@ -1,11 +1,11 @@
--- `cases::memory::stray_marks` meets its contract. The loop's invariant: the count is at most the number of marks
+-- `caseparts::memory::stray_marks` meets its contract. The loop's invariant: the count is at most the number of marks
 -- passed, and at most the length. The measure is what is left of the length. Assumes nothing.
 use Prim.Native.Nat.{_-_, _≤_}
 use native.Mathlib.Omega.{arith}
 use borrow.Author.Needs.{needs}
 use lib.ListN.{length}
-use Rattle.cases.proofs.memory.stray_marks.Statement.{statement}
-use Rattle.cases.proofs.memory.stray_marks.Tie as tie
+use Rattle.caseparts.proofs.memory.stray_marks.Statement.{statement}
+use Rattle.caseparts.proofs.memory.stray_marks.Tie as tie
 
 abbrev Inv-loop : tie.InvT-loop
 Inv-loop marks from count₀ i₀ i-end count i = (count ≤ i) × (count ≤ length marks)

@@ -1,9 +1,9 @@
--- `cases::lines::bytes` is safe and ends. Nothing has to hold from turn to turn. The measure is what is left of the
+-- `caseparts::lines::bytes` is safe and ends. Nothing has to hold from turn to turn. The measure is what is left of the
 -- length. Assumes nothing.
 use Prim.Native.Nat.{_-_}
 use native.Mathlib.Omega.{arith}
-use Rattle.cases.proofs.lines.bytes.Statement.{statement}
-use Rattle.cases.proofs.lines.bytes.Tie as tie
+use Rattle.caseparts.proofs.lines.bytes.Statement.{statement}
+use Rattle.caseparts.proofs.lines.bytes.Tie as tie
 
 abbrev Inv-loop : tie.InvT-loop
 Inv-loop bytes i₀ i-end i = Unit {0}
