@@ -315,18 +315,23 @@ pub record Editions : Type 0 where
       → ConvertOutcome list output (gives (size ∷ [])) output' → {lent lent' : List ℕ} {reply : Reply}
       → length list ≤ length lent → ConvertOutcome (take size output') lent reply lent'
       → (reply ≡ gives (length list ∷ [])) × (take (length list) lent' ≡ list)
-  -- a list and what a conversion made of it run to equal planes and both counts; refused, they get the same number
+  -- a list and what a conversion made of it, run with marks and queue of equal lengths, come to equal planes and both
+  -- counts; refused, they get the same number
   pub alike : (list : List ℕ) → Bytes list → {output output' : List ℕ} {size : ℕ}
       → ConvertOutcome list output (gives (size ∷ [])) output'
-      → (z : Shape) {plane marks queue plane₁ marks₁ queue₁ plane₂ marks₂ queue₂ : List ℕ} {reply₁ reply₂ : Reply}
+      → (z : Shape) (plane : List ℕ) {marks queue marks′ queue′ : List ℕ}
+      → length marks ≡ length marks′ → length queue ≡ length queue′
+      → {plane₁ marks₁ queue₁ plane₂ marks₂ queue₂ : List ℕ} {reply₁ reply₂ : Reply}
       → ListOutcome z list plane marks queue reply₁ plane₁ marks₁ queue₁
-      → ListOutcome z (take size output') plane marks queue reply₂ plane₂ marks₂ queue₂
+      → ListOutcome z (take size output') plane marks′ queue′ reply₂ plane₂ marks₂ queue₂
       → (reply₁ ≡ reply₂) × (plane₁ ≡ plane₂)
   -- so do both editions of any passes that version 1 can hold, also where the list is refused
   pub both : (ss : List Pass) → length ss < 65536 → All (Storable First) ss
-      → (z : Shape) {plane marks queue plane₁ marks₁ queue₁ plane₂ marks₂ queue₂ : List ℕ} {reply₁ reply₂ : Reply}
+      → (z : Shape) (plane : List ℕ) {marks queue marks′ queue′ : List ℕ}
+      → length marks ≡ length marks′ → length queue ≡ length queue′
+      → {plane₁ marks₁ queue₁ plane₂ marks₂ queue₂ : List ℕ} {reply₁ reply₂ : Reply}
       → ListOutcome z (encode First ss) plane marks queue reply₁ plane₁ marks₁ queue₁
-      → ListOutcome z (encode Second ss) plane marks queue reply₂ plane₂ marks₂ queue₂
+      → ListOutcome z (encode Second ss) plane marks′ queue′ reply₂ plane₂ marks₂ queue₂
       → (reply₁ ≡ reply₂) × (plane₁ ≡ plane₂)
   -- a conversion refuses what running the list refuses where the lent memory is sound, with the same number; then 20,
   -- where a pass with eight neighbours is to become version 1; then 14

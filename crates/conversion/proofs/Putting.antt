@@ -14,15 +14,15 @@ use lib.Seq.{drop-cons, length-take-le}
 use Rattle.planes.specs.Lists.{at}
 use Rattle.texts.specs.Placing.{Put}
 use Rattle.texts.proofs.Placing.{put-more, put-length}
-use Rattle.tones.specs.declared.Rule.the-variants.{Limited}
 use Rattle.model.specs.declared.Pass.{Pass}
 use Rattle.listformat.specs.declared.Edition.{Edition}
 use Rattle.listformat.specs.declared.Edition.the-variants.{First, Second}
 use Rattle.listformat.specs.Format.{other, version, recordLength, fieldsLength, recordStart, countOf, editionOf, passAt, passHere}
 use Rattle.listformat.specs.Format.{passesOf, encodeFields, encodeRest, encodePass, encodePasses, encodeHead, encode}
 use Rattle.listformat.specs.Format.{bytes16, Bytes}
-use Rattle.listformat.proofs.Numbers.{split16, map-at}
-use Rattle.listformat.proofs.Format.{written-fields, length-pass, length-passesOf, record-inside, fields-within}
+use Rattle.listformat.proofs.Numbers.{split16}
+use Rattle.listformat.proofs.Format.{written-fields, length-pass, length-passesOf, noPass, passesOf-at}
+use Rattle.listformat.proofs.Format.{record-inside, fields-within}
 use Rattle.listchecks.proofs.Refusals.{formed-each}
 use Rattle.conversion.specs.Conversion.{converted}
 use Rattle.conversion.proofs.Refusals.{Convertible, head-sound}
@@ -89,21 +89,13 @@ module _ (bs : List ℕ) {output : ℕ} (fine : Convertible bs output) where
 
 -- ## Record by record
 
--- what stands past the end of a list of passes
-abbrev noPass : Pass
-noPass = record { a = 0; b = 0; area = 0; rule = Limited 0; neighbours = 4 }
-
-pass-is : (bs : List ℕ) (j : ℕ) → j < countOf bs → getD (passesOf bs) j noPass ≡ passHere bs j
-unfolding passesOf
-pass-is bs j h = map-at (passHere bs) noPass (countOf bs) j h
-
 next-pass : (bs : List ℕ) (j : ℕ) → j < countOf bs
     → drop j (passesOf bs) ≡ passHere bs j ∷ drop (j + 1) (passesOf bs)
 next-pass bs j h =
     let inside : j < length (passesOf bs) = subst (j <_) (sym (length-passesOf bs)) h in
     let split : drop j (passesOf bs) ≡ getD (passesOf bs) j noPass ∷ drop (j + 1) (passesOf bs) =
     rw add-one (drop-cons (passesOf bs) j noPass inside) in
-    split ∙ ap (_∷ drop (j + 1) (passesOf bs)) (pass-is bs j h)
+    split ∙ ap (_∷ drop (j + 1) (passesOf bs)) (passesOf-at bs j h)
 
 -- the records from record j on, in the other edition
 abbrev left : List ℕ → ℕ → List ℕ

@@ -16,7 +16,7 @@ use mathlib.Core.Option.{none, some}
 use mathlib.Mathlib.Data.Bool.Basic.{and-elim-left, and-elim-right, and-intro}
 use native.Mathlib.Nat.{mod-eq-of-lt, add-zero, zero-add, le-refl}
 use native.Mathlib.Omega.{arith}
-use lib.ListN.{length, take, drop, length-append, length-drop, take-append-drop, drop-of-length-le, length-map}
+use lib.ListN.{length, getD, take, drop, length-append, length-drop, take-append-drop, drop-of-length-le, length-map}
 use lib.Seq.{drop-drop, drop-at}
 use lib.Dec.{ltb, eqb}
 use borrow.Author.Tests.{ltb-false, eqb-true, not-true, not-false, le-ltb, eq-eqb}
@@ -26,6 +26,7 @@ use Rattle.planes.proofs.Tests.{or-none}
 use Rattle.planes.proofs.Counts.{length-from}
 use Rattle.planes.proofs.Refusals.{when-none, ▷-none}
 use Rattle.tones.specs.declared.Rule.{Rule}
+use Rattle.tones.specs.declared.Rule.the-variants.{Limited}
 use Rattle.tones.specs.declared.RuleNumbers.{RuleNumbers}
 use Rattle.tones.specs.Numbers.{ruleOf, malformed, formRefusal, numbersOf}
 use Rattle.tones.proofs.Numbers.{read-rule, formed-rule, written-rule, rule-numbers, numbers-rule}
@@ -38,7 +39,7 @@ use Rattle.listformat.specs.Format.{versionOf, countOf, editionOf, numbe
 use Rattle.listformat.specs.Format.{passesOf, greatestCount, zeroSet, malformedAt, formAt, well, misnamed, miscounted}
 use Rattle.listformat.specs.Format.{headRefusal, decode, bytes16, encodeFields, encodeRest, encodePass}
 use Rattle.listformat.specs.Format.{encodePasses, encodeHead, encode, Bytes, NeighboursFit, Storable, Listable}
-use Rattle.listformat.proofs.Numbers.{join16, join32, split16, split32, at-drop, take-at}
+use Rattle.listformat.proofs.Numbers.{join16, join32, split16, split32, at-drop, take-at, map-at}
 
 -- ## A record
 
@@ -439,6 +440,15 @@ decoded bs ss e = go (accepted bs) refl e
 pub length-passesOf : (bs : List ℕ) → length (passesOf bs) ≡ countOf bs
 unfolding passesOf
 length-passesOf bs = length-map (from 0 (countOf bs)) (passHere bs) ∙ length-from 0 (countOf bs)
+
+-- what stands past the end of a list of passes
+abbrev pub noPass : Pass
+noPass = record { a = 0; b = 0; area = 0; rule = Limited 0; neighbours = 4 }
+
+-- among the passes stands that of each record
+pub passesOf-at : (bs : List ℕ) (j : ℕ) → j < countOf bs → getD (passesOf bs) j noPass ≡ passHere bs j
+unfolding passesOf
+passesOf-at bs j h = map-at (passHere bs) noPass (countOf bs) j h
 
 -- the head of a list that is not refused
 pub head-written : (bs : List ℕ) → Bytes bs → Headed bs

@@ -19,16 +19,15 @@ use Rattle.planes.proofs.Shapes.{lent-fits}
 use Rattle.model.specs.declared.Pass.{Pass}
 use Rattle.model.specs.Calls.{numbersRefusal}
 use Rattle.model.proofs.Outcomes.{outcome-number}
-use Rattle.listformat.specs.Format.{countOf, passHere, passesOf, greatestCount, headRefusal}
+use Rattle.listformat.specs.Format.{countOf, passesOf, greatestCount, headRefusal}
 use Rattle.listchecks.specs.Refusals.{firstRefusal, recordAt, recordRefusals, listRefusal, passesRefusal}
 use Rattle.listchecks.specs.declared.Record.{Record}
-use Rattle.listformat.proofs.Numbers.{map-at}
-use Rattle.listformat.proofs.Format.{length-passesOf}
+use Rattle.listformat.proofs.Format.{length-passesOf, noPass, passesOf-at}
 use Rattle.listchecks.proofs.Refusals.{accepted-list, records-length, record-told}
 use Rattle.passturns.specs.Steps.{soFar, countsSoFar, StepReady, Runnable, begun, TurnOutcome}
 use Rattle.passturns.specs.declared.Progress.{Progress}
 use Rattle.passlists.specs.Outcomes.{slicesRefusal, ListOutcome, PassesOutcome}
-use Rattle.passlists.proofs.Refusals.{noPass, passes-at}
+use Rattle.passlists.proofs.Refusals.{passes-at}
 use Rattle.passlists.proofs.Turns.{Plan, Inv, μ, within, under-way, asks, begins, turns, ends}
 
 -- ## Passes in memory
@@ -115,10 +114,9 @@ module _ (z : Shape) (bs : List ℕ) (plane₀ marks₀ queue₀ : List ℕ) whe
 
     module _ {rec : Record} (l : s .at < s .end) (is : rec ≡ recordAt bs (s .at)) where
       pass-is : rec .pass ≡ getD (passesOf bs) (s .at) noPass
-      unfolding passesOf
       pass-is =
           ap (λ (r : Record). r .pass) is
-          ∙ sym (map-at (passHere bs) noPass (countOf bs) (s .at) (counted l))
+          ∙ sym (passesOf-at bs (s .at) (counted l))
 
       pub file-asks : s .running ≡ true → StepReady z (rec .pass) (soFar s plane) marks queue
       file-asks y =

@@ -9,16 +9,12 @@ use borrow.Author.Tests.{ltb-false}
 use Rattle.planes.specs.Lists.{at}
 use Rattle.planes.specs.Refusals.{when, _▷_}
 use Rattle.planes.proofs.Refusals.{when-none, ▷-none}
-use Rattle.tones.specs.declared.Rule.the-variants.{Limited}
 use Rattle.model.specs.declared.Pass.{Pass}
 use Rattle.model.specs.Calls.{numbersRefusal}
 use Rattle.listformat.specs.Format.{greatestCount}
+use Rattle.listformat.proofs.Format.{noPass}
 use Rattle.listchecks.specs.Refusals.{firstRefusal, passesRefusal}
 use Rattle.listchecks.proofs.First.{clear-each}
-
--- what stands past the end of a list of passes
-abbrev pub noPass : Pass
-noPass = record { a = 0; b = 0; area = 0; rule = Limited 0; neighbours = 4 }
 
 pub passes-at : (ss : List Pass) (i : ℕ) → i < length ss
     → at (map numbersRefusal ss) i ≡ numbersRefusal (getD ss i noPass)

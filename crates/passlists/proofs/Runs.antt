@@ -23,7 +23,8 @@ use Rattle.model.proofs.Recursion.{then-assoc, nothing-then, then-nothing}
 use Rattle.model.proofs.Sufficient.{run-few}
 use Rattle.listformat.specs.Format.{greatestCount}
 use Rattle.passturns.specs.Steps.{further, Countable, StepReady, Runnable}
-use Rattle.passlists.proofs.Refusals.{noPass, fine-passes, fine-pass}
+use Rattle.listformat.proofs.Format.{noPass}
+use Rattle.passlists.proofs.Refusals.{fine-passes, fine-pass}
 
 -- ## Sums of counts
 

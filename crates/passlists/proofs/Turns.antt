@@ -34,7 +34,7 @@ use Rattle.passturns.specs.Steps.{checked}
 use Rattle.passturns.specs.Steps.{TurnOutcome, checks, steps}
 use Rattle.passturns.specs.declared.Progress.{Progress}
 use Rattle.listchecks.proofs.First.{Clear, clear-none, clear-more, clear-stop, clear-all}
-use Rattle.passlists.proofs.Refusals.{noPass}
+use Rattle.listformat.proofs.Format.{noPass}
 use Rattle.passlists.proofs.Runs.{Along, along-none, along-more, along-all, along-ready}
 
 pub record Plan (z : Shape) (plane₀ marks₀ queue₀ : List ℕ) : Type 0 where

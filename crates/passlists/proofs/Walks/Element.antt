@@ -25,7 +25,7 @@ use denote.Slice.{sliceVal, ShrSlice, Room}
 use denote.Index.{place as placed, place-is, elem-out, elem-back, looks-slice, shuts-slice}
 use denote.Struct.Laws as LL
 use Rattle.model.specs.declared.Pass.{Pass}
-use Rattle.passlists.proofs.Refusals.{noPass}
+use Rattle.listformat.proofs.Format.{noPass}
 use Rattle.model.proofs.Pass as pass-type
 use Rattle.model.proofs.Pass.Laws as pass-laws
 use Rattle.passlists.proofs.Walks.Lent.{Loan, ref}

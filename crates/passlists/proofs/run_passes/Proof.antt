@@ -72,7 +72,7 @@ use Rattle.passturns.specs.Steps.{soFar, countsSoFar, StepReady, begun, TurnOut
 use Rattle.passlists.specs.Outcomes.{PassesOutcome}
 use Rattle.passturns.proofs.Progress as progress-type
 use Rattle.passturns.proofs.Progress.Laws as progress-laws
-use Rattle.passlists.proofs.Refusals.{noPass}
+use Rattle.listformat.proofs.Format.{noPass}
 use Rattle.passlists.proofs.Turns.{Plan, Inv, μ, within, asks, begins}
 use Rattle.passlists.proofs.Plans.{memoryPlan, memory-turns, memory-ends}
 use Rattle.passlists.proofs.Walks.Locals.{Blocks, curried, stand, envOf, rest, enters-all, frees-all, last, Ends}
