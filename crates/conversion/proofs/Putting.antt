@@ -18,7 +18,7 @@ use Rattle.model.specs.declared.Pass.{Pass}
 use Rattle.listformat.specs.declared.Edition.{Edition}
 use Rattle.listformat.specs.declared.Edition.the-variants.{First, Second}
 use Rattle.listformat.specs.Format.{other, version, recordLength, fieldsLength, recordStart, countOf, editionOf, passAt, passHere}
-use Rattle.listformat.specs.Format.{passesOf, encodeFields, encodeRest, encodePass, encodePasses, encodeHead, encode}
+use Rattle.listformat.specs.Format.{passesOf, encodeRest, encodePass, encodePasses, encodeHead, encode}
 use Rattle.listformat.specs.Format.{bytes16, Bytes}
 use Rattle.listformat.proofs.Numbers.{split16}
 use Rattle.listformat.proofs.Format.{written-fields, length-pass, length-passesOf, noPass, passesOf-at}
