@@ -196,8 +196,8 @@ listJ2 =
     ∷ 0 ∷ 127 ∷ 0 ∷ 0 ∷ 1 ∷ 0 ∷ 0 ∷ 0 ∷ 0 ∷ 0 ∷ 156 ∷ 99 ∷ 8 ∷ 0 ∷ 0 ∷ 0 ∷ []
 
 -- J's pass, then one whose interval is out of order
-abbrev pub listX2 : List ℕ
-listX2 =
+abbrev pub listY2 : List ℕ
+listY2 =
     77 ∷ 76 ∷ 80 ∷ 2 ∷ 0 ∷ 2 ∷ 0
     ∷ 0 ∷ 127 ∷ 0 ∷ 0 ∷ 1 ∷ 0 ∷ 0 ∷ 0 ∷ 0 ∷ 0 ∷ 156 ∷ 99 ∷ 8 ∷ 0 ∷ 0 ∷ 0
     ∷ 9 ∷ 8 ∷ 0 ∷ 0 ∷ 1 ∷ 0 ∷ 0 ∷ 0 ∷ 0 ∷ 0 ∷ 156 ∷ 99 ∷ 4 ∷ 0 ∷ 0 ∷ 0 ∷ []
@@ -256,7 +256,7 @@ pub record Starred : Type 0 where
   pub Q-accepts : convertRefusal listQ 23 ≡ 0
   pub Q-short : convertRefusal listQ 22 ≡ 14
   pub J-twenty : convertRefusal listJ2 0 ≡ 20
-  pub X-five : convertRefusal listX2 0 ≡ 5
+  pub Y-five : convertRefusal listY2 0 ≡ 5
   -- a list of all three rules
   pub W-is : encode First passesW ≡ listW
   pub W-accepted : listRefusal listW ≡ 0
