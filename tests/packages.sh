@@ -1,6 +1,6 @@
 #!/usr/bin/env bash
-# Installs those of Debian's packages that are missing for the tests of the tool and of Python. Only root can; anyone else
-# is told what to install. Nothing is written to the repository.
+# Installs those of Debian's packages that are missing for the tests of the tool and of Python. Only root can; anyone
+# else is told what to install. Nothing is written to the repository.
 #
 #   tests/packages.sh [tool] [python]     those of the named tests; both, unless one is named
 set -euo pipefail

@@ -44,8 +44,8 @@
 --   numbersBefore, settingsBefore   the refusals of a pass and of settings before they had neighbours (specs/Before)
 --   listBefore, passesBefore   the refusal of a list, and its passes, before there was a second version (specs/Before)
 --   Bytes              every member is a byte (listformat/specs/Format)
---   Edition            version 1 or version 2 of a pass list (listformat/src); its version and the layout of its records
---                      stand in listformat/specs/Format
+--   Edition            version 1 or version 2 of a pass list (listformat/src); its version and the layout of its
+--                      records stand in listformat/specs/Format
 --   encode, decode     passes written as a list in an edition, and what a list of bytes is read as
 --   Storable, Listable passes that an edition can hold
 --   converted          a list in the other edition (conversion/specs/Conversion)
@@ -346,9 +346,9 @@ pub record Editions : Type 0 where
 
 -- frames without comments are read as before comments were read; a header with a number sign was refused with 10. The
 -- numbers of a rule, in lists and from C, are read as before the affine rule was there, unless their code is 2; these
--- got 17. A pass and an enhancement by 4 neighbours, and a list in a file that does not name version 2, have the effects
--- and the refusals that they had before there was a choice: those by the four neighbours. Lists that name version 2 got
--- 15, if they were long enough to name a version
+-- got 17. A pass and an enhancement by 4 neighbours, and a list in a file that does not name version 2, have the
+-- effects and the refusals that they had before there was a choice: those by the four neighbours. Lists that name
+-- version 2 got 15, if they were long enough to name a version
 pub record AsBefore : Type 0 where
   pub of-read : (bytes : List ℕ) (limit : ℕ) → Uncommented bytes
       → readReply bytes limit ≡ uncommentedReply bytes limit

@@ -17,9 +17,9 @@ use Rattle.texts.proofs.Placing.{put-more, put-length}
 use Rattle.model.specs.declared.Pass.{Pass}
 use Rattle.listformat.specs.declared.Edition.{Edition}
 use Rattle.listformat.specs.declared.Edition.the-variants.{First, Second}
-use Rattle.listformat.specs.Format.{other, version, recordLength, fieldsLength, recordStart, countOf, editionOf, passAt, passHere}
-use Rattle.listformat.specs.Format.{passesOf, encodeRest, encodePass, encodePasses, encodeHead, encode}
-use Rattle.listformat.specs.Format.{bytes16, Bytes}
+use Rattle.listformat.specs.Format.{other, version, recordLength, fieldsLength, recordStart, countOf, editionOf}
+use Rattle.listformat.specs.Format.{passAt, passHere, passesOf, bytes16, encodeRest, encodePass, encodePasses}
+use Rattle.listformat.specs.Format.{encodeHead, encode, Bytes}
 use Rattle.listformat.proofs.Numbers.{split16}
 use Rattle.listformat.proofs.Format.{written-fields, length-pass, length-passesOf, noPass, passesOf-at}
 use Rattle.listformat.proofs.Format.{record-inside, fields-within}
@@ -55,14 +55,17 @@ pub rest-long : (e : Edition) → fieldsLength + length (encodeRest e 4) ≡ rec
 rest-long First = refl
 rest-long Second = refl
 
-pub fields-long : (bs : List ℕ) (i : ℕ) → i + fieldsLength ≤ length bs → length (take fieldsLength (drop i bs)) ≡ fieldsLength
-fields-long bs i h = length-take-le fieldsLength (drop i bs) (omega (arith, length-drop i bs))
-
 pub fields-taken : (bs : List ℕ) (i : ℕ) → take (i + fieldsLength - i) (drop i bs) ≡ take fieldsLength (drop i bs)
 fields-taken bs i = let e : i + fieldsLength - i ≡ fieldsLength = omega arith in ap (λ (n : ℕ). take n (drop i bs)) e
 
--- a record of version 1 takes the four neighbours, and one of version 1 has no place for them
-rest-same : (e : Edition) (bs : List ℕ) (i : ℕ) → encodeRest (other e) 4 ≡ encodeRest (other e) (passAt e bs i .neighbours)
+pub fields-long : (bs : List ℕ) (i : ℕ) → i + fieldsLength ≤ length bs
+    → length (take (i + fieldsLength - i) (drop i bs)) ≡ fieldsLength
+fields-long bs i h =
+    ap length (fields-taken bs i) ∙ length-take-le fieldsLength (drop i bs) (omega (arith, length-drop i bs))
+
+-- what becomes version 2 is of version 1, and takes the four neighbours; what becomes version 1 has no place for any
+rest-same : (e : Edition) (bs : List ℕ) (i : ℕ)
+    → encodeRest (other e) 4 ≡ encodeRest (other e) (passAt e bs i .neighbours)
 unfolding passAt
 rest-same First bs i = refl
 rest-same Second bs i = refl
@@ -109,8 +112,8 @@ pub record Putting (bs output₀ : List ℕ) (j at : ℕ) (output : List ℕ) : 
   pub whole : done ++ left bs j ≡ converted bs
 
 module _ {bs output₀ : List ℕ} where
-  pub putting-none : {at : ℕ} {output : List ℕ} → Put output₀ 0 (encodeHead (other (editionOf bs)) (countOf bs)) at output
-      → Putting bs output₀ 0 at output
+  pub putting-none : {at : ℕ} {output : List ℕ}
+      → Put output₀ 0 (encodeHead (other (editionOf bs)) (countOf bs)) at output → Putting bs output₀ 0 at output
   unfolding converted encode
   putting-none p = record {
     done = encodeHead (other (editionOf bs)) (countOf bs);
@@ -119,7 +122,8 @@ module _ {bs output₀ : List ℕ} where
     whole = ap (λ (n : ℕ). encodeHead (other (editionOf bs)) n ++ left bs 0) (sym (length-passesOf bs));
   }
 
-  module _ (fine : Convertible bs (length output₀)) {j at : ℕ} {output : List ℕ} (p : Putting bs output₀ j at output) where
+  module _ (fine : Convertible bs (length output₀)) {j at : ℕ} {output : List ℕ}
+      (p : Putting bs output₀ j at output) where
     -- what is put is no longer than the output
     size : at + length (left bs j) ≡ length (converted bs)
     size =
@@ -158,7 +162,9 @@ module _ {bs output₀ : List ℕ} where
   unfolding encodePasses
   putting-all {j} {at} {output} p h =
       let none = drop-of-length-le (passesOf bs) {i = j} (subst (_≤ j) (sym (length-passesOf bs)) h) in
-      let all = sym (append-nil (p .done)) ∙ ap (λ (l : List Pass). p .done ++ encodePasses (other (editionOf bs)) l) (sym none) ∙ p .whole in
+      let all =
+      sym (append-nil (p .done))
+      ∙ ap (λ (l : List Pass). p .done ++ encodePasses (other (editionOf bs)) l) (sym none) ∙ p .whole in
       subst (λ (u : List ℕ). Put output₀ 0 u at output) all (p .put)
 
 -- ## A turn of the loop, by what the calls in it answer

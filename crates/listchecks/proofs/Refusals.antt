@@ -25,12 +25,12 @@ use Rattle.model.specs.Calls.{numbersRefusal}
 use Rattle.model.specs.Runs.{All}
 use Rattle.listformat.specs.declared.Edition.{Edition}
 use Rattle.listformat.specs.declared.Edition.the-variants.{Second}
-use Rattle.listformat.specs.Format.{editionOf, recordStart, countOf, passHere, passesOf, greatestCount, malformedAt, well}
-use Rattle.listformat.specs.Format.{headRefusal, decode, encode, Storable}
+use Rattle.listformat.specs.Format.{editionOf, recordStart, countOf, passHere, passesOf, greatestCount, malformedAt}
+use Rattle.listformat.specs.Format.{well, headRefusal, decode, encode, Storable}
 use Rattle.listformat.proofs.Format.{headed, decoded, length-passesOf, head-encode, passes-encode}
 use Rattle.listchecks.specs.declared.Record.{Record}
-use Rattle.listchecks.specs.Refusals.{firstRefusal, recordAt, recordRefusal, recordRefusals, listRefusal, passesRefusal}
-use Rattle.listchecks.specs.Refusals.{placeRefusal, placesRefusal}
+use Rattle.listchecks.specs.Refusals.{firstRefusal, recordAt, recordRefusal, recordRefusals, listRefusal}
+use Rattle.listchecks.specs.Refusals.{passesRefusal, placeRefusal, placesRefusal}
 use Rattle.listchecks.proofs.First.{clear-each}
 
 module _ (bs : List ℕ) where

@@ -36,8 +36,8 @@ use Rattle.listformat.specs.declared.Edition.{Edition}
 use Rattle.listformat.specs.declared.Edition.the-variants.{First, Second}
 use Rattle.listformat.specs.Format.{version, recordLength, fieldsLength, number16, headLength, recordStart}
 use Rattle.listformat.specs.Format.{versionOf, countOf, editionOf, numbersAt, neighboursAt, passAt, passHere}
-use Rattle.listformat.specs.Format.{passesOf, greatestCount, zeroSet, malformedAt, formAt, well, misnamed, miscounted}
-use Rattle.listformat.specs.Format.{headRefusal, decode, bytes16, encodeFields, encodeRest, encodePass}
+use Rattle.listformat.specs.Format.{passesOf, greatestCount, zeroSet, malformedAt, formAt, well, misnamed}
+use Rattle.listformat.specs.Format.{miscounted, headRefusal, decode, bytes16, encodeFields, encodeRest, encodePass}
 use Rattle.listformat.specs.Format.{encodePasses, encodeHead, encode, Bytes, NeighboursFit, Storable, Listable}
 use Rattle.listformat.proofs.Numbers.{join16, join32, split16, split32, at-drop, take-at, map-at}
 
@@ -195,11 +195,14 @@ written-fields e bs o b m h =
 
 -- 17 where a zero byte is set, and else what the rule's numbers are refused for
 module _ (e : Edition) (bs : List ℕ) (i : ℕ) where
+  abbrev unruled : Bool
+  unruled = malformed (numbersAt bs i)
+
   pub form-set : zeroSet e bs i ≡ true → 17 ≡ formAt e bs i
-  form-set z = sym (ap (λ (t : Bool). when t 17) (ap (malformed (numbersAt bs i) ||_) z ∙ or-true (malformed (numbersAt bs i))))
+  form-set z = sym (ap (λ (t : Bool). when t 17) (ap (unruled ||_) z ∙ or-true unruled))
 
   pub form-unset : zeroSet e bs i ≡ false → formRefusal (numbersAt bs i) ≡ formAt e bs i
-  form-unset z = sym (ap (λ (t : Bool). when t 17) (ap (malformed (numbersAt bs i) ||_) z ∙ or-false (malformed (numbersAt bs i))))
+  form-unset z = sym (ap (λ (t : Bool). when t 17) (ap (unruled ||_) z ∙ or-false unruled))
 
 -- ## The records of a list
 
@@ -273,7 +276,8 @@ module _ (e : Edition) (bs : List ℕ) where
       → every wellIn (from j m) ≡ true → drop (recordStart e j) bs ≡ encodePasses e (map passIn (from j m))
   unfolding encodePasses
   written-passes b j zero l d =
-      drop-of-length-le bs {i = recordStart e j} (subst (_≤ recordStart e j) (sym (l ∙ ap (recordStart e) (add-zero j))) (le-refl (recordStart e j)))
+      let ends : length bs ≡ recordStart e j = l ∙ ap (recordStart e) (add-zero j) in
+      drop-of-length-le bs {i = recordStart e j} (subst (_≤ recordStart e j) (sym ends) (le-refl (recordStart e j)))
   written-passes b j (suc m) l d =
       let o = recordStart e j in
       let fine : malformedAt e (drop o bs) 0 ≡ false =
@@ -517,7 +521,8 @@ decodes e bs b ss = (read, write)
         let named = edition-named e bs (r .1) in (
           record {
             few = subst (_≤ greatestCount) (sym (length-passesOf bs) ∙ ap length (d .passes)) few;
-            each = subst (λ (f : Edition). Fit f ss) named (subst (Fit (editionOf bs)) (d .passes) (storable-passes bs b));
+            each = subst (λ (f : Edition). Fit f ss) named
+                (subst (Fit (editionOf bs)) (d .passes) (storable-passes bs b));
           },
           encode-decode bs b ss (r .0) ∙ ap (λ (f : Edition). encode f ss) named,
         )

@@ -6,7 +6,8 @@
 -- comes first. There are two editions: in version 1 a record has these 12 bytes, and its pass takes the four
 -- neighbours; in version 2 the number of neighbours and three zero bytes follow them.
 --
---   Layout, layout      what an edition lays down: version, length of a record, and places of what version 2 has besides
+--   Layout, layout      what an edition lays down: version, length of a record, and places of what version 2 has
+--                       besides
 --   upperPlace, …       the places of the fields that both editions have
 --   number16, number32  the number that stands at an index of a byte list
 --   headLength, recordStart

@@ -54,5 +54,6 @@ pub convert-refuses : (z : Shape) (plane marks queue : List ℕ) → slicesRefus
     ▷ placesRefusal (other (editionOf bs)) (passesOf bs) ▷ outputRefusal output (length (converted bs))
 unfolding convertRefusal
 convert-refuses z plane marks queue lent bs output =
-    ap (λ (k : ℕ). k ▷ placesRefusal (other (editionOf bs)) (passesOf bs) ▷ outputRefusal output (length (converted bs)))
+    ap (λ (k : ℕ). k
+    ▷ placesRefusal (other (editionOf bs)) (passesOf bs) ▷ outputRefusal output (length (converted bs)))
     (sym (▷-right (slicesRefusal z plane marks queue) (listRefusal bs) lent))

@@ -1,7 +1,7 @@
 // Lists of passes: chains of passes that are kept in a file or in memory.
 //
-// run_list      the passes of a list of bytes, of either version, or the refusal that it meets with: 1 to 4, 16 for fewer
-//               bytes than a head has, 15, 16, then for each record 17, 5, 6, 7, 8, 18, 19
+// run_list      the passes of a list of bytes, of either version, or the refusal that it meets with: 1 to 4, 16 for
+//               fewer bytes than a head has, 15, 16, then for each record 17, 5, 6, 7, 8, 18, 19
 // run_passes    lent passes, or the refusal that they meet with: 1 to 4, 16, then for each pass 5, 6, 7, 8, 18, 19
 // list_refusal  the refusal that a list of bytes meets with, and nothing is run
 // convert       a list of bytes in the other version, into a lent output, or the refusal that it meets with

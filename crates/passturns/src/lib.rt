@@ -120,8 +120,8 @@ fn step<'a>(
     }
 }
 
-// The run after the pass that is due has been checked: the refusal of its form, where it has one, then 5 to 8, 18, 19; or
-// the next pass is due, or after the last one the first is to run.
+// The run after the pass that is due has been checked: the refusal of its form, where it has one, then 5 to 8, 18, 19;
+// or the next pass is due, or after the last one the first is to run.
 fn check(form: u8, pass: Pass, s: Progress) -> Progress
     requires { ⌜ s .at < s .end ⌝ }
     ensures { λ r. ⌜ r ≡ checked s (form ▷ numbersRefusal pass) ⌝ }

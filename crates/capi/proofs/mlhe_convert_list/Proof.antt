@@ -1,5 +1,5 @@
--- `capi::mlhe_convert_list` meets its contract: as the call. What is written is short enough for a signed number. Assumes
--- nothing.
+-- `capi::mlhe_convert_list` meets its contract: as the call. What is written is short enough for a signed number.
+-- Assumes nothing.
 use Rattle.cnumbers.proofs.Numbers.{returned}
 use Rattle.capi.proofs.Calls.{write-coded, convert-short}
 use borrow.Author.Needs.{needs}

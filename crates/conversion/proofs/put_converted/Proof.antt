@@ -30,10 +30,12 @@ begun : (c : tie.After-put-head Inv-loop μ-loop)
     (c .put-head .result) (c .put-head .last .0)
 begun c =
     let start = c .before .before .before .before .before .before .before in
-    let turned = c .before .before .before .other .ensures ∙ ap other (c .before .before .before .before .edition-of .ensures) in
+    let list = now (start .args .list) in
+    let named = c .before .before .before .before .edition-of .ensures in
+    let turned = c .before .before .before .other .ensures ∙ ap other named in
     putting-none
-    (subst (λ (e : Edition). Put (now (start .args .output)) 0 (encodeHead e (countOf (now (start .args .list)))) (c .put-head .result)
-    (c .put-head .last .0)) turned (c .put-head .ensures))
+    (subst (λ (e : Edition). Put (now (start .args .output)) 0 (encodeHead e (countOf list))
+    (c .put-head .result) (c .put-head .last .0)) turned (c .put-head .ensures))
 
 edition-of-requires : tie.Need-edition-of-requires Inv-loop μ-loop
 edition-of-requires c κs = headed-long _ (head-sound _ (convertible _ _ (c .before .before .pre)))
@@ -100,7 +102,8 @@ loop-again c = λ lent fine p.
     let turned = calls .before .before .before .other .ensures in
     let due : loop .loop .j < countOf list =
     omega (arith, started .before .loop-test .taken, calls .before .before .count-of .ensures) in
-    let bytes : Bytes list = record { each = λ i. omega (arith, calls .before .before .before .before .before .shared-slice-known .given i) } in
+    let known = calls .before .before .before .before .before .shared-slice-known in
+    let bytes : Bytes list = record { each = λ i. omega (arith, known .given i) } in
     turn-puts fine named turned (started .record-start .ensures) due (loop .loop .inv lent fine p) bytes
     (c .before .before .put-record .ensures)
 
@@ -119,7 +122,8 @@ returns c =
     let start = calls .before .before .before .before .before .before .before in
     let list = now (start .args .list) in
     let fine = convertible list (length (now (start .args .output))) (start .pre) in
-    let over : countOf list ≤ loop .loop .j = omega (arith, c .loop-test .left, calls .before .before .count-of .ensures) in
+    let over : countOf list ≤ loop .loop .j =
+    omega (arith, c .loop-test .left, calls .before .before .count-of .ensures) in
     putting-all (loop .loop .inv (now (start .args .output)) fine (begun calls)) over
 
 pub put-converted-spec : {M : Type 1} → statement M

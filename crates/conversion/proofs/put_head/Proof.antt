@@ -40,10 +40,11 @@ returns c =
     let named = c .before .before .before .before .before .before .before in
     let known = named .before in
     let args = known .before .before .args in
-    subst (λ (bytes : List ℕ). Put (now (args .output)) 0 bytes (putting .put-bytes .result) (putting .put-bytes .last .0))
+    let put = putting .put-bytes in
+    subst (λ (bytes : List ℕ). Put (now (args .output)) 0 bytes (put .result) (put .last .0))
     (head-put (args .edition) (now (args .list)) (named .version .ensures)
     (omega (arith, known .shared-slice-known .given 5)) (omega (arith, known .shared-slice-known .given 6)))
-    (putting .put-bytes .ensures)
+    (put .ensures)
 
 pub put-head-spec : {M : Type 1} → statement M
 put-head-spec =

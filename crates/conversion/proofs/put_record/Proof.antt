@@ -1,9 +1,8 @@
 -- `conversion::put_record` meets its contract: the fields, and what follows them. Assumes nothing.
 use Prim.Native.Nat.{ℕ}
-use mathlib.Core.Path.{ap, subst, _∙_}
+use mathlib.Core.Path.{subst}
 use mathlib.Core.List.{List, _++_}
 use native.Mathlib.Omega.{arith}
-use lib.ListN.{length}
 use denote.Ref.{now}
 use Rattle.texts.specs.Placing.{Put}
 use Rattle.texts.proofs.Placing.{put-more}
@@ -29,7 +28,7 @@ put-bytes-requires : tie.Need-put-bytes-requires
 put-bytes-requires c κs =
     let start = c .before .before .before .before in
     let args = start .args in
-    let long = ap length (fields-taken (now (args .list)) (args .i)) ∙ fields-long (now (args .list)) (args .i) (start .pre .1) in
+    let long = fields-long (now (args .list)) (args .i) (start .pre .1) in
     omega (arith, long, rest-long (args .edition), start .pre .0)
 
 put-rest-requires : tie.Need-put-rest-requires
@@ -37,8 +36,9 @@ put-rest-requires c κs =
     let putting = c .before .before .before in
     let start = putting .before .before .before .before .before in
     let args = start .args in
-    let long = ap length (fields-taken (now (args .list)) (args .i)) ∙ fields-long (now (args .list)) (args .i) (start .pre .1) in
-    omega (arith, putting .put-bytes .ensures .next, putting .put-bytes .kept .0, long, rest-long (args .edition), start .pre .0)
+    let long = fields-long (now (args .list)) (args .i) (start .pre .1) in
+    let put = putting .put-bytes in
+    omega (arith, put .ensures .next, put .kept .0, long, rest-long (args .edition), start .pre .0)
 
 same-length : tie.Need-same-length
 same-length c = search needs
@@ -49,7 +49,7 @@ returns c =
     let putting = resting .before .before .before .before in
     let start = putting .before .before .before .before .before in
     let args = start .args in
-    let long = ap length (fields-taken (now (args .list)) (args .i)) ∙ fields-long (now (args .list)) (args .i) (start .pre .1) in
+    let long = fields-long (now (args .list)) (args .i) (start .pre .1) in
     let both =
     put-more (putting .put-bytes .ensures) (resting .put-rest .ensures)
     (omega (arith, long, rest-long (args .edition), start .pre .0)) in

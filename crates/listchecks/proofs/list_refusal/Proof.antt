@@ -1,5 +1,5 @@
--- `listchecks::list_refusal` meets its contract: the refusal of the head, then those of the records, since version 2 has
--- a place for every pass. Assumes nothing.
+-- `listchecks::list_refusal` meets its contract: the refusal of the head, then those of the records, since version 2
+-- has a place for every pass. Assumes nothing.
 use mathlib.Core.Path.{sym, ap, _∙_}
 use denote.Ref.{now}
 use Rattle.planes.specs.Refusals.{_▷_}

@@ -1,6 +1,6 @@
--- `listchecks::records_refusal` meets its contract. The invariant: none of the first j records is refused (`Clear`), and
--- what their passes are refused for their places is known (`Seen`). The measure is what is left of the count. Assumes
--- nothing.
+-- `listchecks::records_refusal` meets its contract. The invariant: none of the first j records is refused (`Clear`),
+-- and what their passes are refused for their places is known (`Seen`). The measure is what is left of the count.
+-- Assumes nothing.
 use Prim.Native.Nat.{_+_, _-_, _≤_, _<_}
 use mathlib.Core.Path.{_≡_, sym, ap, subst, _∙_}
 use native.Mathlib.Omega.{arith}
