@@ -1,15 +1,14 @@
 -- The demands hold: `demand-1`, `demand-2` and `demand-3`; and `lists-are-chains`, `editions` and `as-before`. Assumes
 -- nothing.
 use Prim.Native.Nat.{ℕ, _+_, _-_, _*_, _/_, _≤_}
-use mathlib.Core.Path.{_≡_, refl, sym, ap, ap₂, subst, _∙_}
+use mathlib.Core.Path.{_≡_, refl, sym, ap, subst, _∙_}
 use mathlib.Core.List.{List, [], _∷_}
 use native.Mathlib.Omega.{arith}
 use native.Mathlib.Nat.{le-of-lt, zero-add}
 use lib.ListN.{length, take, drop}
 use lib.Seq.{take-at}
 use Rattle.planes.specs.Lists.{at}
-use Rattle.planes.specs.Refusals.{_▷_}
-use Rattle.planes.specs.Shapes.{pixels, neighbours, adjacency, lentRefusal}
+use Rattle.planes.specs.Shapes.{pixels, neighbours, adjacency}
 use Rattle.planes.specs.declared.Shape.{Shape}
 use Rattle.planes.proofs.Shapes.{neighbours-sym, adjacency-sym}
 use Rattle.planes.specs.Replies.{Reply, refuses, gives, replied, after, overwritten}
@@ -19,7 +18,7 @@ use Rattle.colours.specs.Calls.{intensityRefusal, recolourRefusal, IntensityOut
 use Rattle.colours.proofs.Calls.{intensity-given, intensity-accepted, recolour-accepts, recolour-given, filled-length}
 use Rattle.colours.proofs.Frames.{length-recolour, recolour-at, recolour-bytes, channels-ordered}
 use Rattle.model.specs.declared.Pass.{Pass}
-use Rattle.model.specs.Effects.{Effect, counts, runEffect}
+use Rattle.model.specs.Effects.{Effect, counts}
 use Rattle.model.specs.Outcomes.{Outcome, OutputOutcome}
 use Rattle.model.specs.Neighbourhoods.{passNeighbours}
 use Rattle.model.specs.Calls.{retonedIn, keptIn, total, AllAccepted, State, start, chain, chainEffect, chainSufficient}
@@ -38,19 +37,14 @@ use Rattle.enhance.proofs.Calls.{fine, chain-accepted}
 use Rattle.enhance.proofs.Published.{chain-published}
 use Rattle.netpbm.specs.Reading.{readReply}
 use Rattle.texts.specs.Writing.{WritingOutcome}
-use Rattle.texts.proofs.Writing.{wrote-none, wrote-bytes}
 use Rattle.netpbm.proofs.Replies.{malformed-reply, headed-reply, framed-reply}
 use Rattle.netpbm.proofs.Uncommented.{reads-as-before, comments-got-10}
 use Rattle.tones.proofs.Before.{form-before, rule-before, two-refused}
-use Rattle.listformat.specs.declared.Edition.the-variants.{First, Second}
-use Rattle.listformat.specs.Format.{passesOf, encode}
-use Rattle.listformat.proofs.Format.{decodes, passes-encode}
-use Rattle.listchecks.specs.Refusals.{listRefusal}
-use Rattle.listchecks.proofs.Refusals.{accepted-list, encoded-refusal, places-second}
-use Rattle.conversion.proofs.Refusals.{convertible}
-use Rattle.conversion.proofs.Editions.{wider, converted-passes, converted-sound, restored}
-use Rattle.passlists.specs.Outcomes.{slicesRefusal, runListRefusal, ListOutcome}
-use Rattle.passlists.proofs.Editions.{convert-refuses}
+use Rattle.listformat.specs.Format.{passesOf}
+use Rattle.listformat.proofs.Format.{decodes}
+use Rattle.listchecks.proofs.Refusals.{accepted-list, places-second}
+use Rattle.conversion.proofs.Editions.{restored}
+use Rattle.passlists.proofs.Editions.{converted-alike, editions-alike, convert-refuses}
 use Rattle.passlists.proofs.Chains.{list-taken, list-chain, passes-taken, passes-chain}
 use Rattle.frames.specs.Program.{programOutput}
 use Rattle.frames.proofs.Program.{long-output, frame-output, refused-output}
@@ -328,38 +322,13 @@ lists-are-chains = record {
 
 -- ## Both editions of a list
 
--- two runs of lists with one refusal and the same passes answer and leave the same
-same-runs : (z : Shape) (list other : List ℕ) → listRefusal list ≡ listRefusal other → passesOf list ≡ passesOf other
-    → (plane : List ℕ) {marks queue marks′ queue′ : List ℕ}
-    → length marks ≡ length marks′ → length queue ≡ length queue′
-    → {plane₁ marks₁ queue₁ plane₂ marks₂ queue₂ : List ℕ} {reply₁ reply₂ : Reply}
-    → ListOutcome z list plane marks queue reply₁ plane₁ marks₁ queue₁
-    → ListOutcome z other plane marks′ queue′ reply₂ plane₂ marks₂ queue₂ → (reply₁ ≡ reply₂) × (plane₁ ≡ plane₂)
-same-runs z list other refusal passes plane {marks} {queue} {marks′} {queue′} m q O P =
-    let number : runListRefusal z list plane marks queue ≡ runListRefusal z other plane marks′ queue′ =
-    ap₂ (λ (i j : ℕ). lentRefusal z (length plane) i j ▷ listRefusal list) m q
-    ∙ ap (slicesRefusal z plane marks′ queue′ ▷_) refusal in
-    let e = ap (λ (ss : List Pass). runEffect (passNeighbours z) ss plane) passes in (
-      O .answer ∙ ap₂ (λ (k : ℕ) (f : Effect). replied k (counts f)) number e ∙ sym (P .answer),
-      O .plane-is ∙ ap₂ (λ (k : ℕ) (f : Effect). after k plane (f .plane)) number e ∙ sym (P .plane-is),
-    )
-
 pub editions : Editions
 editions = record {
   decodes = decodes;
   accepted = λ list e. accepted-list list e .0;
   restored = restored;
-  alike = λ list b {output} {output'} {size} C z plane m q O P.
-      let fine = convertible list (length output) (wrote-none C) in
-      let read = wrote-bytes C in
-      same-runs z list (take size output')
-      (fine .sound ∙ sym (ap listRefusal read ∙ converted-sound list b fine))
-      (sym (ap passesOf read ∙ converted-passes list b fine)) plane m q O P;
-  both = λ ss told fit z plane m q O P.
-      let wide = all-map (λ s f. wider f) fit in
-      same-runs z (encode First ss) (encode Second ss)
-      (encoded-refusal First ss told fit ∙ sym (encoded-refusal Second ss told wide))
-      (passes-encode First ss told fit .0 ∙ sym (passes-encode Second ss told wide .0)) plane m q O P;
+  alike = converted-alike;
+  both = editions-alike;
   refuses = convert-refuses;
   never-20 = places-second;
 }

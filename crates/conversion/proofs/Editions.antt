@@ -3,7 +3,6 @@
 --   converted-passes   a list that may be converted has the same passes in the other edition, and is not refused there
 --   there-and-back     converted, it may be converted again, and that restores it byte for byte
 --   restored           so two calls of `convert`, one on what the other wrote, restore the list
---   up-accepted        a list of version 1 that is accepted is never refused with 20
 use Prim.Native.Nat.{ℕ, _≤_}
 use mathlib.Core.Path.{_≡_, refl, sym, ap, ap₂, subst, _∙_}
 use mathlib.Core.Bool.{not, _||_, or-false}
@@ -13,9 +12,9 @@ use native.Mathlib.Omega.{arith}
 use lib.ListN.{length, take}
 use lib.Dec.{eqb}
 use borrow.Author.Tests.{eqb-true, not-false}
-use Rattle.planes.specs.Refusals.{when, outputRefusal}
+use Rattle.planes.specs.Refusals.{when}
 use Rattle.planes.specs.Replies.{Reply, gives}
-use Rattle.planes.proofs.Refusals.{when-none, ▷-none, ▷-both, ▷-right}
+use Rattle.planes.proofs.Refusals.{when-none, ▷-none, ▷-both}
 use Rattle.planes.proofs.Replies.{replied-none}
 use Rattle.texts.proofs.Writing.{wrote-none, wrote-bytes}
 use Rattle.model.specs.declared.Pass.{Pass}
@@ -29,8 +28,8 @@ use Rattle.listformat.proofs.Format.{headed, length-passesOf, storable-passes, 
 use Rattle.listformat.proofs.Format.{encode-decode}
 use Rattle.listchecks.specs.Refusals.{firstRefusal, listRefusal, countRefusal, passesRefusal, placeRefusal}
 use Rattle.listchecks.specs.Refusals.{placesRefusal}
-use Rattle.listchecks.proofs.Refusals.{accepted-list, encoded-refusal, places-second}
-use Rattle.conversion.specs.Conversion.{converted, convertRefusal, ConvertOutcome}
+use Rattle.listchecks.proofs.Refusals.{accepted-list, encoded-refusal}
+use Rattle.conversion.specs.Conversion.{converted, ConvertOutcome}
 use Rattle.conversion.proofs.Refusals.{Convertible, convertible, convertible-none, head-sound}
 
 -- ## Passes that both editions can store
@@ -153,11 +152,3 @@ restored bs b {output} {output'} {size} there {lent} {lent'} {reply} room again 
     second .answer ∙ replied-none _ _ accepted ∙ ap (λ (l : List ℕ). gives (length l ∷ [])) (back bs b fine) in
     let wrote = subst (λ (r : Reply). ConvertOutcome (converted bs) lent r lent') given second in
     (given, wrote-bytes wrote ∙ back bs b fine)
-
--- a list of version 1 that is accepted meets with 14 alone
-pub up-accepted : (bs : List ℕ) (output : ℕ) → editionOf bs ≡ First → listRefusal bs ≡ 0
-    → convertRefusal bs output ≡ outputRefusal output (length (converted bs))
-unfolding convertRefusal
-up-accepted bs output first sound =
-    ▷-right _ _ sound
-    ∙ ▷-right _ _ (ap (λ (d : Edition). placesRefusal (other d) (passesOf bs)) first ∙ places-second (passesOf bs))

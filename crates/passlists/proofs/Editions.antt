@@ -1,52 +1,78 @@
 -- Both editions of a list are run alike, and the converter refuses what running refuses. Assumes nothing.
 --
---   editions-alike     passes that version 1 can store: the contract of `run_list` is one for both editions, refused or
---                      not
---   converted-alike    a list that is not refused by the converter: it is one for the list and for what it becomes
+--   converted-alike    a list and what a conversion made of it, run with marks and queue of equal lengths, answer and
+--                      leave the same
+--   editions-alike     so do both editions of passes that version 1 can store, refused or not
 --   convert-refuses    where the lent memory is sound, the converter refuses what `run_list` refuses, with the same
 --                      number, then 20, then 14
 use Prim.Native.Nat.{ℕ, _<_}
 use mathlib.Core.Path.{_≡_, sym, ap, ap₂, _∙_}
-use mathlib.Core.List.{List}
-use lib.ListN.{length}
+use mathlib.Core.List.{List, [], _∷_}
+use lib.ListN.{length, take}
 use Rattle.planes.specs.Refusals.{_▷_, outputRefusal}
-use Rattle.planes.specs.Shapes.{pixels}
+use Rattle.planes.specs.Shapes.{lentRefusal}
 use Rattle.planes.specs.declared.Shape.{Shape}
-use Rattle.planes.specs.Replies.{Reply}
+use Rattle.planes.specs.Replies.{Reply, gives, replied, after}
 use Rattle.planes.proofs.Refusals.{▷-right}
+use Rattle.texts.proofs.Writing.{wrote-none, wrote-bytes}
 use Rattle.model.specs.declared.Pass.{Pass}
 use Rattle.model.specs.Neighbourhoods.{passNeighbours}
-use Rattle.model.specs.Effects.{runEffect}
-use Rattle.model.specs.Outcomes.{Outcome}
+use Rattle.model.specs.Effects.{Effect, counts, runEffect}
 use Rattle.model.specs.Runs.{All}
 use Rattle.model.proofs.Recursion.{all-map}
 use Rattle.listformat.specs.declared.Edition.the-variants.{First, Second}
 use Rattle.listformat.specs.Format.{other, editionOf, passesOf, encode, Bytes, Storable}
+use Rattle.listformat.proofs.Format.{passes-encode}
 use Rattle.listchecks.specs.Refusals.{listRefusal, placesRefusal}
-use Rattle.conversion.specs.Conversion.{converted, convertRefusal}
+use Rattle.listchecks.proofs.Refusals.{encoded-refusal}
+use Rattle.conversion.specs.Conversion.{converted, convertRefusal, ConvertOutcome}
 use Rattle.conversion.proofs.Refusals.{convertible}
 use Rattle.conversion.proofs.Editions.{wider, converted-passes, converted-sound}
 use Rattle.passlists.specs.Outcomes.{slicesRefusal, runListRefusal, ListOutcome}
-use Rattle.passlists.proofs.Lists.{same-outcomes}
 
-module _ (z : Shape) (plane marks queue : List ℕ) (reply : Reply) (plane' marks' queue' : List ℕ) where
-  -- the contract of `run_list` for a list
-  abbrev Runs : List ℕ → Type 0
-  Runs list = ListOutcome z list plane marks queue reply plane' marks' queue'
+-- two runs of lists with one refusal and the same passes answer and leave the same
+same-runs : (z : Shape) (list list′ : List ℕ) → listRefusal list ≡ listRefusal list′ → passesOf list ≡ passesOf list′
+    → (plane : List ℕ) {marks queue marks′ queue′ : List ℕ}
+    → length marks ≡ length marks′ → length queue ≡ length queue′
+    → {plane₁ marks₁ queue₁ plane₂ marks₂ queue₂ : List ℕ} {reply₁ reply₂ : Reply}
+    → ListOutcome z list plane marks queue reply₁ plane₁ marks₁ queue₁
+    → ListOutcome z list′ plane marks′ queue′ reply₂ plane₂ marks₂ queue₂ → (reply₁ ≡ reply₂) × (plane₁ ≡ plane₂)
+same-runs z list list′ refusal passes plane {marks} {queue} {marks′} {queue′} m q O P =
+    let number : runListRefusal z list plane marks queue ≡ runListRefusal z list′ plane marks′ queue′ =
+    ap₂ (λ (i j : ℕ). lentRefusal z (length plane) i j ▷ listRefusal list) m q
+    ∙ ap (slicesRefusal z plane marks′ queue′ ▷_) refusal in
+    let e = ap (λ (ss : List Pass). runEffect (passNeighbours z) ss plane) passes in (
+      O .answer ∙ ap₂ (λ (k : ℕ) (f : Effect). replied k (counts f)) number e ∙ sym (P .answer),
+      O .plane-is ∙ ap₂ (λ (k : ℕ) (f : Effect). after k plane (f .plane)) number e ∙ sym (P .plane-is),
+    )
 
-  pub editions-alike : (ss : List Pass) → length ss < 65536 → All (Storable First) ss
-      → Runs (encode First ss) ≡ Runs (encode Second ss)
-  editions-alike ss told fit =
-      same-outcomes First ss told fit z plane marks queue reply plane' marks' queue'
-      ∙ sym (same-outcomes Second ss told (all-map (λ s f. wider f) fit) z plane marks queue reply plane' marks' queue')
+pub converted-alike : (list : List ℕ) → Bytes list → {output output' : List ℕ} {size : ℕ}
+    → ConvertOutcome list output (gives (size ∷ [])) output'
+    → (z : Shape) (plane : List ℕ) {marks queue marks′ queue′ : List ℕ}
+    → length marks ≡ length marks′ → length queue ≡ length queue′
+    → {plane₁ marks₁ queue₁ plane₂ marks₂ queue₂ : List ℕ} {reply₁ reply₂ : Reply}
+    → ListOutcome z list plane marks queue reply₁ plane₁ marks₁ queue₁
+    → ListOutcome z (take size output') plane marks′ queue′ reply₂ plane₂ marks₂ queue₂
+    → (reply₁ ≡ reply₂) × (plane₁ ≡ plane₂)
+converted-alike list b {output} {output'} {size} wrote z =
+    let fine = convertible list (length output) (wrote-none wrote) in
+    let read = wrote-bytes wrote in
+    same-runs z list (take size output')
+    (fine .sound ∙ sym (ap listRefusal read ∙ converted-sound list b fine))
+    (sym (ap passesOf read ∙ converted-passes list b fine))
 
-  pub converted-alike : (bs : List ℕ) → Bytes bs → (output : ℕ) → convertRefusal bs output ≡ 0
-      → Runs bs ≡ Runs (converted bs)
-  converted-alike bs b output accepted =
-      let fine = convertible bs output accepted in
-      ap₂ (λ (k : ℕ) (ps : List Pass). Outcome (pixels z) (slicesRefusal z plane marks queue ▷ k)
-      (runEffect (passNeighbours z) ps plane) plane marks queue reply plane' marks' queue')
-      (fine .sound ∙ sym (converted-sound bs b fine)) (sym (converted-passes bs b fine))
+pub editions-alike : (ss : List Pass) → length ss < 65536 → All (Storable First) ss
+    → (z : Shape) (plane : List ℕ) {marks queue marks′ queue′ : List ℕ}
+    → length marks ≡ length marks′ → length queue ≡ length queue′
+    → {plane₁ marks₁ queue₁ plane₂ marks₂ queue₂ : List ℕ} {reply₁ reply₂ : Reply}
+    → ListOutcome z (encode First ss) plane marks queue reply₁ plane₁ marks₁ queue₁
+    → ListOutcome z (encode Second ss) plane marks′ queue′ reply₂ plane₂ marks₂ queue₂
+    → (reply₁ ≡ reply₂) × (plane₁ ≡ plane₂)
+editions-alike ss told fit z =
+    let wide = all-map (λ s f. wider f) fit in
+    same-runs z (encode First ss) (encode Second ss)
+    (encoded-refusal First ss told fit ∙ sym (encoded-refusal Second ss told wide))
+    (passes-encode First ss told fit .0 ∙ sym (passes-encode Second ss told wide .0))
 
 pub convert-refuses : (z : Shape) (plane marks queue : List ℕ) → slicesRefusal z plane marks queue ≡ 0
     → (bs : List ℕ) (output : ℕ) → convertRefusal bs output
