@@ -50,9 +50,9 @@
 
 /* The version of this header and of the library that it was made with. The library itself does not tell its version. */
 #define MLHE_VERSION_MAJOR 0
-#define MLHE_VERSION_MINOR 5
+#define MLHE_VERSION_MINOR 6
 #define MLHE_VERSION_PATCH 0
-#define MLHE_VERSION "0.5.0"
+#define MLHE_VERSION "0.6.0"
 
 #ifdef __cplusplus
 extern "C" {
@@ -75,7 +75,7 @@ enum mlhe_refusal {
     MLHE_REFUSED_TRAILING = 13,         /* there are bytes after the raster */
     MLHE_REFUSED_OUTPUT = 14,           /* the output, the numbers of mlhe_read or the counts are shorter than needed */
     MLHE_REFUSED_LIST_MARK = 15,        /* a pass list's mark or version is wrong */
-    MLHE_REFUSED_LIST_LENGTH = 16,      /* a pass list's count or length is wrong */
+    MLHE_REFUSED_LIST_LENGTH = 16,      /* a list has more than MLHE_GREATEST_PASSES passes, or its length is wrong */
     MLHE_REFUSED_RULE = 17,             /* no such rule, a number set that has to be 0, or not 4 or 5 lent numbers */
     MLHE_REFUSED_SLOPES = 18,           /* affine: 0 or more than 16 segments, smin above smax, or smax above 10,000 */
     MLHE_REFUSED_NEIGHBOURS = 19,       /* the number of neighbours is neither 4 nor 8 */
@@ -137,8 +137,8 @@ enum {
     /* The most bytes that mlhe_write puts before the raster: P6, LF, width, space, height, LF, 255, LF. */
     MLHE_GREATEST_HEADER = 17,
     /* The most passes of a list, and the most bytes: those of as many passes in version 2. */
-    MLHE_GREATEST_PASSES = 1024,
-    MLHE_GREATEST_LIST = 16391,
+    MLHE_GREATEST_PASSES = 320,
+    MLHE_GREATEST_LIST = 7 + 16 * MLHE_GREATEST_PASSES,
     /* The greatest last level, the greatest numbers of the rules. */
     MLHE_GREATEST_LEVEL = 7,
     MLHE_GREATEST_HIGH = 25500,
@@ -180,7 +180,7 @@ static inline const char *mlhe_reason(int64_t answer) {
     case MLHE_REFUSED_TRAILING: return "there are bytes after the raster";
     case MLHE_REFUSED_OUTPUT: return "the output is too short";
     case MLHE_REFUSED_LIST_MARK: return "it is no pass list of version 1 or 2";
-    case MLHE_REFUSED_LIST_LENGTH: return "the pass list's count or length is wrong";
+    case MLHE_REFUSED_LIST_LENGTH: return "there are more than 320 passes, or the pass list's length is wrong";
     case MLHE_REFUSED_RULE: return "there is no such tone rule, or a number that has to be 0 is set";
     case MLHE_REFUSED_SLOPES:
         return "there are 0 segments or more than 16, smin is above smax, or smax is above 10,000";
@@ -253,10 +253,10 @@ int64_t mlhe_pass(uint8_t *plane, size_t plane_length, uint8_t *marks, size_t ma
  * of version 2 are read: in version 2 each pass has its own number of neighbours; version 1 has no place for it, and
  * each pass has four.
  *
- * list      the bytes MLP, the version and the count of passes (0 to 1,024), both 16-bit, then a record for each pass.
- *           In version 1 it has 12 bytes: a, b, the rule's code, segments (0 but for affine), area (32-bit), first and
- *           second (16-bit); of each number the low byte first. In version 2 it has 16: the same 12, the number of
- *           neighbours (one of enum mlhe_neighbours), and three bytes that are 0
+ * list      the bytes MLP, the version and the count of passes (0 to MLHE_GREATEST_PASSES), both 16-bit, then a record
+ *           for each pass. In version 1 it has 12 bytes: a, b, the rule's code, segments (0 but for affine), area
+ *           (32-bit), first and second (16-bit); of each number the low byte first. In version 2 it has 16: the same
+ *           12, the number of neighbours (one of enum mlhe_neighbours), and three bytes that are 0
  * plane, marks, queue   as for mlhe_pass
  * counts    as for mlhe_pass: the sums of the passes' counts, 0 and 0 for a list of no passes
  *

@@ -348,6 +348,28 @@ ends 1 'lines.txt, line 1: refused 18' \
     bash -c "echo '0 9 1 affine 17 0 100' > lines.txt && exec '$zopykue' list --text lines.txt"
 ends 2 'it is there and no file' "$zopykue" list --to /dev/null
 
+# A list has at most 320 passes, from text and from a file of the right length.
+lines() { # COUNT: so many times a line of text
+    seq "$1" | sed 's/.*/0 255 1 plain 80 300/'
+}
+lines 320 | "$zopykue" list --text - --to most.mlp
+"$zopykue" list most.mlp | diff <(echo '# 320 passes: first value, last value, least area, rule' && lines 320) - ||
+    fail "the longest list as text"
+"$zopykue" list convert most.mlp again.mlp |
+    diff <(echo 'again.mlp: version 2, 320 passes, 5,127 bytes') - || fail "the longest list in version 2"
+"$zopykue" enhance --to most --list again.mlp lists/g.ppm > /dev/null || fail "a run of the longest list"
+for _ in 1 2 3 4; do tail -c +8 most.mlp; done > records
+for count in 321 1,024; do
+    number=${count/,/}
+    too_many="refused 16: it is to have $count passes, and 320 fit"
+    lines "$number" > many.txt
+    ends 1 "many.txt: $too_many" "$zopykue" list --text many.txt
+    { printf 'MLP\1\0' && dots $((number % 256)) $((number / 256)) && head -c $((12 * number)) records; } > many.mlp
+    ends 1 "many.mlp: $too_many" "$zopykue" list many.mlp
+    ends 1 "many.mlp: $too_many" "$zopykue" list convert many.mlp other.mlp
+    refused "many.mlp: $too_many" "$zopykue" enhance --to new --list many.mlp lists/g.ppm
+done
+
 # Eight neighbours: in lists as text, and in files of version 2.
 printf '%s\n' '# 2 passes: first value, last value, least area, rule' '0 255 1 plain 80 300' \
     '0 127 20 limited 40 neighbours 8' > wires.txt

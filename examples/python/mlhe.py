@@ -56,7 +56,7 @@ REASONS = {
     13: "there are bytes after the raster",
     14: "the output is too short",
     15: "it is no pass list of version 1 or 2",
-    16: "the pass list's count or length is wrong",
+    16: "there are more than 320 passes, or the pass list's length is wrong",
     17: "there is no such tone rule, or a number that has to be 0 is set",
     18: "there are 0 segments or more than 16, smin is above smax, or smax is above 10,000",
     19: "the number of neighbours is neither 4 nor 8",
@@ -178,8 +178,8 @@ _ARGUMENTS = {
                      _OUTPUT, _SIZE, *_COUNTS),
 }
 _GREATEST_HEADER = 17
-_GREATEST_LIST = 16_391
-_GREATEST_PASSES = 1_024
+_GREATEST_PASSES = 320
+_GREATEST_LIST = 7 + 16 * _GREATEST_PASSES
 
 
 def _load():
@@ -350,7 +350,7 @@ def run_pass(plane, one):
 
 def run_passes(plane, passes):
     """The plane after these passes, one after the other, and the sums of their counts. All of them are checked before
-    the first runs. Refusals, in order: 1, 2, 16 for more than 1,024, then for each pass 5, 6, 7, 8, 18, 19."""
+    the first runs. Refusals, in order: 1, 2, 16 for more than 320, then for each pass 5, 6, 7, 8, 18, 19."""
     _plane_sides(plane)
     return run_list(plane, _list_bytes(passes))
 
@@ -366,7 +366,7 @@ def run_list(plane, data):
 
 def pass_list(passes):
     """The bytes of the list of these passes, in a file of version 1 where all of them have four neighbours, and of
-    version 2 otherwise. Refusals, in order: 16 for more than 1,024, then for each pass 5, 6, 7, 8, 18, 19."""
+    version 2 otherwise. Refusals, in order: 16 for more than 320, then for each pass 5, 6, 7, 8, 18, 19."""
     data = _list_bytes(passes)
     run_list(numpy.zeros((1, 1), numpy.uint8), data)  # which checks all of it before the first pass runs
     return data

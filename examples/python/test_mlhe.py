@@ -236,15 +236,20 @@ class Refusals(unittest.TestCase):
         plane, good = row(1, 2), mlhe.pass_list([Pass(0, 127, 1, ANY)])
         second = mlhe.convert_list(good)
         for number, data in (16, b""), (16, b"MLP"), (15, b"MLQ\1\0\0\0"), (15, b"MLP\3\0\0\0"), (16, good + b"\0"), \
-                (16, b"MLP\1\0\1\4" + good[7:] * 1_025), (17, good[:9] + b"\3" + good[10:]), \
+                (16, b"MLP\1\0\x41\1" + good[7:] * 321), (17, good[:9] + b"\3" + good[10:]), \
                 (17, good[:10] + b"\1" + good[11:]), (18, good[:9] + b"\2" + good[10:]), (16, good[:4] + second[4:]), \
-                (16, second[:4] + good[4:]), (16, b"MLP\2\0\1\4" + second[7:] * 1_025), (17, second[:-1] + b"\1"), \
+                (16, second[:4] + good[4:]), (16, b"MLP\2\0\x41\1" + second[7:] * 321), (17, second[:-1] + b"\1"), \
                 (19, second[:-4] + b"\5\0\0\0"), (17, second[:-4] + b"\5\1\0\0"), \
                 (18, second[:9] + b"\2" + second[10:-4] + b"\5\0\0\0"):
             self.refused(number, mlhe.run_list, plane, data)
             self.refused(number, mlhe.convert_list, data)
-        self.assertEqual(mlhe.run_list(plane, mlhe.pass_list([Pass(0, 127, 1, ANY)] * 1_024)).counts, Counts(1_024, 0))
-        for count in 1_025, 2**16 - 1, 2**16:
+        for count in 319, 320:
+            passes = [Pass(0, 127, 1, ANY)] * count
+            first = mlhe.pass_list(passes)
+            for data in first, mlhe.convert_list(first):
+                self.assertEqual(mlhe.run_list(plane, data).counts, Counts(count, 0))
+            self.assertEqual(mlhe.run_passes(plane, passes).counts, Counts(count, 0))
+        for count in 321, 1_024, 2**16 - 1, 2**16:
             self.refused(16, mlhe.pass_list, [Pass(0, 127, 1, ANY)] * count)
             self.refused(16, mlhe.run_passes, plane, [Pass(0, 127, 1, ANY, 9)] * count)
 
@@ -254,9 +259,9 @@ class Refusals(unittest.TestCase):
             self.assertEqual(mlhe.pass_list(passes)[3:7], bytes([2, 0, len(passes), 0]))
             self.refused(20, mlhe.convert_list, mlhe.pass_list(passes))
         self.refused(5, mlhe.pass_list, [eight, Pass(9, 8, 1, ANY)])
-        longest = mlhe.convert_list(mlhe.pass_list([four] * 1_024))
+        longest = mlhe.convert_list(mlhe.pass_list([four] * 320))
         self.assertEqual(len(longest), mlhe._GREATEST_LIST)
-        self.assertEqual(mlhe.convert_list(longest), mlhe.pass_list([four] * 1_024))
+        self.assertEqual(mlhe.convert_list(longest), mlhe.pass_list([four] * 320))
 
     def test_files(self):
         for number, data in (10, b""), (10, b"P5 1 1 255"), (1, b"P6 0 1 255\n"), (2, b"P6 4096 257 255\n"), \
@@ -541,7 +546,8 @@ class Header(unittest.TestCase):
         self.assertEqual(mlhe._rule_numbers(Affine(segments=9, smin=7, smax=8), 8), tuple(lent))
         self.assertEqual(Pass(0, 255, 1, ANY).neighbours, numbers["MLHE_FOUR_NEIGHBOURS"])
         self.assertEqual(mlhe._GREATEST_PASSES, numbers["MLHE_GREATEST_PASSES"])
-        self.assertEqual(mlhe._GREATEST_LIST, numbers["MLHE_GREATEST_LIST"])
+        self.assertEqual(mlhe._GREATEST_LIST, 7 + 16 * numbers["MLHE_GREATEST_PASSES"])
+        self.assertIn("MLHE_GREATEST_LIST = 7 + 16 * MLHE_GREATEST_PASSES", self.header)
         house = mlhe.Settings(numbers["MLHE_HOUSE_LAST"], numbers["MLHE_HOUSE_AREA"],
                               Plain(numbers["MLHE_HOUSE_LOW"], numbers["MLHE_HOUSE_HIGH"]),
                               numbers["MLHE_HOUSE_NEIGHBOURS"])

@@ -36,8 +36,8 @@
 //!
 //! Passes in memory (kind 5) are given by 13 bytes each: a, b, rule (0 to 2), N of the affine rule or 0, area (4
 //! bytes), then low and high, k and 0, or smin and smax (2 bytes each), and the number of neighbours (1 byte). The
-//! list in memory has as many passes as `bytes` has thirteens, at most 1,025. A list of bytes (kinds 4 and 10) is of
-//! either version, and has its numbers of neighbours in its own bytes.
+//! list in memory has as many passes as `bytes` has thirteens. A list of bytes (kinds 4 and 10) is of either version,
+//! and has its numbers of neighbours in its own bytes.
 //!
 //! # Running a case
 //!

@@ -6,8 +6,8 @@ use crate::passes::{lent_plane, run, sound, Pass};
 use crate::refusals::{refuse_if, Refusal};
 use crate::tones::Rule;
 
-/// The greatest number of passes in a list.
-pub const GREATEST_COUNT: usize = 1_024;
+/// The greatest number of passes in a list, in a file of either version and in memory.
+pub const GREATEST_COUNT: usize = 320;
 
 /// The bytes before the first record: mark, version and count.
 const HEAD: usize = 7;

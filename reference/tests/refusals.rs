@@ -450,14 +450,14 @@ fn a_list_of_no_passes() {
 }
 
 #[test]
-fn lists_of_1024_and_1025_passes() {
+fn lists_have_at_most_320_passes() {
     let still = Pass { a: 7, b: 7, ..SOUND };
-    for (length, accepted) in [(1_024, true), (1_025, false)] {
+    for (length, accepted) in [(319, true), (320, true), (321, false), (1_024, false), (65_535, false)] {
         let passes = vec![still; length];
         let expected = |answer| if accepted { Ok(answer) } else { Err(16) };
         for version in Version::BOTH {
             let mut call = sound_call();
-            (call.list, call.output) = (list_bytes_of(version, &passes), 20_000);
+            (call.list, call.output) = (list_bytes_of(version, &passes), 5_127);
             assert_eq!(run_list_call(&call), expected(0));
             assert_eq!(run_convert(&call), expected(version.other().length(length) as u64));
         }
@@ -503,7 +503,7 @@ fn passes_in_memory() {
         for (_, later) in wrong {
             assert_eq!(run(&[SOUND, pass, later], 4, 4, 2), Err(number));
         }
-        assert_eq!(run(&[pass; 1_025], 4, 4, 2), Err(16));
+        assert_eq!(run(&[pass; 321], 4, 4, 2), Err(16));
     }
 }
 

@@ -302,7 +302,7 @@ fn converted(line: &str) -> Vec<u8> {
 }
 
 /// Every accepted conversion is turned back into its list, and leaves what is beyond it; those of both versions have no
-/// passes, few and 1,024.
+/// passes, few and 320.
 #[test]
 fn conversions_go_there_and_back() {
     let mut counts = BTreeSet::new();
@@ -315,7 +315,7 @@ fn conversions_go_there_and_back() {
         counts.insert((case.bytes[3], list_passes(&case.bytes).expect("accepted").len()));
     }
     for version in [1, 2] {
-        assert!([0, 1, 2, 1_024].iter().all(|&count| counts.contains(&(version, count))), "{counts:?}");
+        assert!([0, 1, 2, 320].iter().all(|&count| counts.contains(&(version, count))), "{counts:?}");
     }
 }
 

@@ -25,8 +25,8 @@ pub struct Counts {
 }
 
 impl Counts {
-    /// What a C function left in lent counts. No sum over a list is above 1,024 times the greatest number of pixels, so
-    /// 32 bits hold each.
+    /// What a C function left in lent counts. No sum over a list is above the greatest number of passes times that of
+    /// pixels, so 32 bits hold each.
     pub(crate) fn of_lent([retoned, kept]: [usize; 2]) -> Counts {
         Counts { retoned: retoned as u32, kept: kept as u32 }
     }

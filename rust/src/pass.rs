@@ -174,8 +174,9 @@ pub struct PassList {
 
 impl PassList {
     /// The list of these passes, of version 1 where all of them have four neighbours and of version 2 otherwise.
-    /// Refusals, in order: [`Refusal::ListLength`] for more than 1,024; then for each pass [`Refusal::Interval`],
-    /// [`Refusal::Area`], [`Refusal::Limits`], [`Refusal::Clip`], [`Refusal::Slopes`], [`Refusal::Neighbours`].
+    /// Refusals, in order: [`Refusal::ListLength`] for more than [`GREATEST_PASSES`](crate::GREATEST_PASSES); then for
+    /// each pass [`Refusal::Interval`], [`Refusal::Area`], [`Refusal::Limits`], [`Refusal::Clip`], [`Refusal::Slopes`],
+    /// [`Refusal::Neighbours`].
     pub fn new(passes: &[Pass]) -> Result<PassList, Refusal> {
         let count = u16::try_from(passes.len()).map_err(|_| Refusal::ListLength)?;
         let all_four = passes.iter().all(|pass| pass.neighbours == 4);

@@ -46,7 +46,7 @@ pub enum Refusal {
     Output = 14,
     /// 15: a pass list's mark or version is wrong.
     ListMark = 15,
-    /// 16: a pass list's count or length is wrong, or there are more than 1,024 passes.
+    /// 16: there are more than [`GREATEST_PASSES`](crate::GREATEST_PASSES) passes, or a pass list's length is wrong.
     ListLength = 16,
     /// 17: no such rule, or a number that has to be 0 is set, in a pass list or a C call; or a C call is lent neither
     /// four nor five numbers for its rule and neighbours.
@@ -109,7 +109,7 @@ impl Refusal {
             Refusal::Trailing => "there are bytes after the raster",
             Refusal::Output => "the output is too short",
             Refusal::ListMark => "it is no pass list of version 1 or 2",
-            Refusal::ListLength => "the pass list's count or length is wrong",
+            Refusal::ListLength => "there are more than 320 passes, or the pass list's length is wrong",
             Refusal::Rule => "there is no such tone rule, or a number that has to be 0 is set",
             Refusal::Slopes => "there are 0 segments or more than 16, smin is above smax, or smax is above 10,000",
             Refusal::Neighbours => "the number of neighbours is neither 4 nor 8",

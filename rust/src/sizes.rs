@@ -10,10 +10,10 @@ pub const GREATEST_PIXELS: usize = 1_048_576;
 pub const GREATEST_HEADER: usize = 17;
 
 /// The most passes of a list.
-pub const GREATEST_PASSES: usize = 1_024;
+pub const GREATEST_PASSES: usize = 320;
 
 /// The most bytes of a list: those of as many passes in version 2.
-pub const GREATEST_LIST: usize = 16_391;
+pub const GREATEST_LIST: usize = 7 + 16 * GREATEST_PASSES;
 
 /// The greatest last level of an enhancement.
 pub const GREATEST_LEVEL: u8 = 7;

@@ -118,9 +118,27 @@ fn versions_and_lengths() {
     let twelve = |version: u8, count: u8| [&[b'M', b'L', b'P', version, 0, count, 0][..], &[0; 48]].concat();
     assert_eq!((refused(&twelve(1, 3)), refused(&twelve(2, 4))), (Refusal::ListLength, Refusal::ListLength));
     assert_eq!((refused(&twelve(1, 4)), refused(&twelve(2, 3))), (Refusal::Area, Refusal::Area));
-    for (version, length) in [(1, 12), (2, 16)] {
-        let long = [&[b'M', b'L', b'P', version, 0, 1, 4][..], &vec![0; 1_025 * length]].concat();
-        assert_eq!(refused(&long), Refusal::ListLength);
+}
+
+/// Lists around the greatest number of passes and far beyond, of both versions, run and converted. Every pass keeps the
+/// one pixel back.
+#[test]
+fn greatest_numbers_of_passes() {
+    for version in [1_u16, 2] {
+        let record = if version == 1 { &FIRST[7..] } else { &SECOND[7..] };
+        for count in [319_u16, 320, 321, 1_024, 65_535] {
+            let head = [&b"MLP"[..], &version.to_le_bytes(), &count.to_le_bytes()].concat();
+            let bytes = [head, record.repeat(count.into())].concat();
+            if count > 320 {
+                assert_eq!(refused(&bytes), Refusal::ListLength);
+                continue;
+            }
+            let list = PassList::from_bytes(&bytes).unwrap();
+            assert_eq!(run(&list, 1, &[7]), (vec![7], Counts { retoned: 0, kept: count.into() }));
+            let other = list.converted().unwrap();
+            assert_eq!(other.passes(), list.passes());
+            assert_eq!(other.converted(), Ok(list));
+        }
     }
 }
 

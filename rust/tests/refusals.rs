@@ -105,14 +105,18 @@ fn the_sizes_are_those_of_the_library() {
 }
 
 #[test]
-fn a_list_has_at_most_1024_passes() {
-    for pass in [WHOLE, WHOLE.with_neighbours(8)] {
-        let longest = PassList::new(&[pass; 1_024]).unwrap();
-        assert_eq!(PassList::from_bytes(longest.bytes()), Ok(longest));
+fn a_list_has_at_most_320_passes() {
+    for length in [319, 320] {
+        for pass in [WHOLE, WHOLE.with_neighbours(8)] {
+            let list = PassList::new(&vec![pass; length]).unwrap();
+            assert_eq!(list.passes().len(), length);
+            assert_eq!(PassList::from_bytes(list.bytes()), Ok(list));
+        }
     }
-    for pass in [WHOLE, WHOLE.with_neighbours(8), WHOLE.with_neighbours(9)] {
-        assert_eq!(PassList::new(&[pass; 1_025]), Err(Refusal::ListLength));
-        assert_eq!(PassList::new(&[pass; 65_536]), Err(Refusal::ListLength));
+    for length in [321, 1_024, 65_535, 65_536] {
+        for pass in [WHOLE, WHOLE.with_neighbours(8), WHOLE.with_neighbours(9)] {
+            assert_eq!(PassList::new(&vec![pass; length]), Err(Refusal::ListLength));
+        }
     }
 }
 

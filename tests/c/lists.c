@@ -1,7 +1,8 @@
 /*
  * Lists of both versions: that each converts to the other byte for byte, and back; that both run to the same plane and
- * counts; what a list with eight neighbours leaves; and which lists and outputs are refused, by which number, at which
- * place of the order, with nothing changed. Prints what is wrong, and ends with status 1 then.
+ * counts; how many passes a list may have; what a list with eight neighbours leaves; and which lists and outputs are
+ * refused, by which number, at which place of the order, with nothing changed. Prints what is wrong, and ends with
+ * status 1 then.
  */
 #include <mlhe.h>
 
@@ -163,25 +164,54 @@ static int is_refused(const struct wrong *one) {
     return right;
 }
 
-/* The longest list takes the room that is always enough, and one more pass is refused. */
+/* The pass of a list of one, so many times, as a list of the same version. Answers its length. */
+static size_t repeated(const struct list *one, size_t count, uint8_t *list) {
+    const size_t record = one->length - HEAD;
+    memcpy(list, one->bytes, HEAD);
+    list[5] = (uint8_t)(count % 256);
+    list[6] = (uint8_t)(count / 256);
+    for (size_t i = 0; i < count; i++) {
+        memcpy(list + HEAD + record * i, one->bytes + HEAD, record);
+    }
+    return HEAD + record * count;
+}
+
+/* So many passes: both versions convert to each other and count the one value of a pixel in each pass; or both are
+ * refused by both calls, and nothing changes. */
+static int is_counted(size_t count, int accepted) {
+    enum { FAR = 1024 };
+    static uint8_t lists[2][HEAD + RECORD_2 * FAR], output[MLHE_GREATEST_LIST], untouched[MLHE_GREATEST_LIST];
+    const size_t lengths[2] = {repeated(&pairs[1].first, count, lists[0]), repeated(&pairs[1].second, count, lists[1])};
+    int right = 1;
+    for (size_t i = 0; i < 2; i++) {
+        memset(output, LEFT, sizeof output);
+        memset(untouched, LEFT, sizeof untouched);
+        const int64_t length = mlhe_convert_list(lists[i], lengths[i], output, sizeof output);
+        right &= length == (accepted ? (int64_t)lengths[1 - i] : -MLHE_REFUSED_LIST_LENGTH);
+        right &= memcmp(output, accepted ? lists[1 - i] : untouched, accepted ? lengths[1 - i] : sizeof output) == 0;
+        const struct lent before = begin(row);
+        const int64_t answer = mlhe_run_list(lists[i], lengths[i], lent.plane, 1, lent.marks, 1, lent.queue, 1, 1, 1,
+                                             lent.counts, MLHE_COUNTS);
+        right &= answer == (accepted ? 0 : -MLHE_REFUSED_LIST_LENGTH);
+        right &= accepted ? lent.counts[MLHE_RETONED] == 0 && lent.counts[MLHE_KEPT] == count
+                          : memcmp(&lent, &before, sizeof lent) == 0;
+    }
+    if (!right) {
+        printf("a list of %zu passes is not %s\n", count, accepted ? "accepted" : "refused");
+    }
+    return right;
+}
+
+/* 320 passes are the most; converted to version 2 they take the room that is always enough, and all of it. */
 static int is_longest(void) {
     static uint8_t list[MLHE_GREATEST_LIST], output[MLHE_GREATEST_LIST];
-    memcpy(list, pairs[1].first.bytes, HEAD);
-    list[5] = MLHE_GREATEST_PASSES % 256;
-    list[6] = MLHE_GREATEST_PASSES / 256;
-    for (size_t i = 0; i < MLHE_GREATEST_PASSES; i++) {
-        memcpy(list + HEAD + RECORD_1 * i, pairs[1].first.bytes + HEAD, RECORD_1);
-    }
-    const size_t length = HEAD + RECORD_1 * MLHE_GREATEST_PASSES;
+    const size_t length = repeated(&pairs[1].first, MLHE_GREATEST_PASSES, list);
     const int short_by_one = mlhe_convert_list(list, length, output, sizeof output - 1) == -MLHE_REFUSED_OUTPUT;
     const int converts = mlhe_convert_list(list, length, output, sizeof output) == MLHE_GREATEST_LIST;
-    list[5]++;
-    memcpy(list + length, list + HEAD, RECORD_1);
-    const int too_long = mlhe_convert_list(list, length + RECORD_1, output, sizeof output) == -MLHE_REFUSED_LIST_LENGTH;
-    if (!short_by_one || !converts || !too_long) {
-        printf("mlhe_convert_list: the longest list, or one that is longer\n");
+    if (!short_by_one || !converts) {
+        printf("mlhe_convert_list: the longest list\n");
     }
-    return short_by_one && converts && too_long;
+    return short_by_one & converts & is_counted(319, 1) & is_counted(320, 1) & is_counted(321, 0) & is_counted(1024, 0);
 }
 
 int main(void) {

@@ -25,6 +25,11 @@ pub fn counted(count: usize) -> String {
     format!("{} passes", grouped(count))
 }
 
+/// Why so many passes are no list.
+pub fn too_many(count: usize) -> String {
+    format!("it is to have {}, and {} fit", counted(count), grouped(GREATEST_PASSES))
+}
+
 /// The 16-bit number at a place of the head.
 fn number(bytes: &[u8], at: usize) -> usize {
     usize::from(u16::from_le_bytes([bytes[at], bytes[at + 1]]))
@@ -58,7 +63,7 @@ fn wrong_length(bytes: &[u8]) -> String {
     }
     let (version, count) = (number(bytes, 3), number(bytes, 5));
     if count > GREATEST_PASSES {
-        return format!("it is to have {}, and {} fit", counted(count), grouped(GREATEST_PASSES));
+        return too_many(count);
     }
     let due = grouped(HEAD + count * record_length(version).unwrap_or_default());
     let there = grouped(bytes.len());
@@ -153,11 +158,12 @@ mod tests {
         assert_eq!(of(b"MLP\x02\x01\0\0"), "its version is 258, and lists of version 1 and 2 are read");
         assert_eq!(of(b"MLQ\x01\0\0\0"), "no pass list, for it does not begin with MLP");
         assert!(of(b"0 127 20 limited 40\n").starts_with("no pass list but text: zopykue list --text "));
-        assert_eq!(of(b"MLP\x01\0\x01\x04"), "it is to have 1,025 passes, and 1,024 fit");
+        assert_eq!(of(b"MLP\x01\0\x41\x01"), "it is to have 321 passes, and 320 fit");
+        assert_eq!(of(b"MLP\x02\0\0\x04"), "it is to have 1,024 passes, and 320 fit");
         let due = |words: &str| format!("{words} are there: copy it again");
         assert_eq!(of(b"MLP\x01\0\x01\0"), due("19 bytes are due for 1 pass in version 1, and 7"));
         assert_eq!(of(&LIST[..38]), due("39 bytes are due for 2 passes in version 2, and 38"));
-        assert_eq!(of(b"MLP\x02\0\0\x04"), due("16,391 bytes are due for 1,024 passes in version 2, and 7"));
+        assert_eq!(of(b"MLP\x02\0\x40\x01"), due("5,127 bytes are due for 320 passes in version 2, and 7"));
     }
 
     #[test]

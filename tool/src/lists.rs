@@ -89,6 +89,15 @@ fn of_text(file: &Path) -> Result<PassList, String> {
         _ => fs::read_to_string(file),
     };
     let text = text.map_err(|error| format!("{}: {error}", name(file)))?;
+    let passes = lines(file, &text)?;
+    // Each of them is accepted by itself, so that only their number can be wrong.
+    PassList::new(&passes).map_err(|refusal| {
+        format!("{}: refused {}: {}", name(file), refusal.number(), list_reasons::too_many(passes.len()))
+    })
+}
+
+/// The passes of lines of text.
+fn lines(file: &Path, text: &str) -> Result<Vec<Pass>, String> {
     let mut passes = Vec::new();
     for (number, line) in text.lines().enumerate() {
         let line = line.split('#').next().unwrap_or_default();
@@ -97,7 +106,7 @@ fn of_text(file: &Path) -> Result<PassList, String> {
         }
         passes.push(pass(line).map_err(|error| format!("{}, line {}: {error}", name(file), number + 1))?);
     }
-    PassList::new(&passes).map_err(|refusal| format!("{}: {refusal}", name(file)))
+    Ok(passes)
 }
 
 /// The pass of a line, which the library has accepted.

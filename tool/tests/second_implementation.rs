@@ -3,6 +3,7 @@
 
 use mlhe_reference::{convert, enhance, intensity, list_bytes_of, read, recolour, run_list, GREATEST_PIXELS};
 use mlhe_reference::{Counts, Pass, Rule, Settings, Version};
+use std::collections::BTreeMap;
 use std::fs;
 use std::path::{Path, PathBuf};
 use std::process::Command;
@@ -36,9 +37,14 @@ fn folder(name: &str) -> PathBuf {
     folder
 }
 
-fn zopykue(words: &[&str]) {
+/// Runs the tool, which ends with this status.
+fn ends(status: i32, words: &[&str]) {
     let output = Command::new(env!("CARGO_BIN_EXE_zopykue")).args(words).output().unwrap();
-    assert!(output.status.success(), "{words:?}: {output:?}");
+    assert_eq!(output.status.code(), Some(status), "{words:?}: {output:?}");
+}
+
+fn zopykue(words: &[&str]) {
+    ends(0, words);
 }
 
 /// What the tool makes of a file with these words: frame, plane and counts.
@@ -155,20 +161,59 @@ fn converted_lists() {
     }
 }
 
+/// Every file of the corpus under a name of its own in a folder, and how many of them are frames.
+fn whole_corpus(folder: &Path) -> usize {
+    let mut files: Vec<PathBuf> = fs::read_dir(corpus("")).unwrap().map(|entry| entry.unwrap().path()).collect();
+    files.sort();
+    let mut frames = 0;
+    for (number, file) in files.iter().enumerate() {
+        let bytes = fs::read(file).unwrap();
+        frames += usize::from(read(&bytes, GREATEST_PIXELS).is_ok());
+        fs::write(folder.join(format!("{number}.ppm")), bytes).unwrap();
+    }
+    frames
+}
+
+/// The report of the tool on a folder of which it refuses some files, and each result by its name.
+fn results(folder: &Path, frames: &Path, words: &[&str]) -> (String, BTreeMap<PathBuf, Vec<u8>>) {
+    let [to, report] = ["to", "report.tsv"].map(|name| folder.join(name));
+    let _ = fs::remove_dir_all(&to);
+    let [to_word, report_word, frames_word] = [&*to, &*report, frames].map(|path| path.to_str().unwrap());
+    ends(1, &[&["enhance", "--plane", "--to", to_word, "--report", report_word], words, &[frames_word]].concat());
+    let written = fs::read_dir(to.join(frames.file_name().unwrap())).unwrap().map(|entry| entry.unwrap().path());
+    let results = written.map(|path| (path.clone(), fs::read(path).unwrap())).collect();
+    (fs::read_to_string(report).unwrap(), results)
+}
+
+/// An enhancement can be stored as a list, which gives the same frames, planes and counts on the whole corpus: in
+/// version 1 and in version 2 with four neighbours, and in version 2 with eight.
 #[test]
 fn the_list_of_settings_is_the_enhancement() {
     let folder = folder("list-of-settings");
-    let list = folder.join("list.mlp");
-    let list = list.to_str().unwrap();
-    for words in [
-        &[][..],
-        &["--last", "4", "--area", "3", "--limited", "30"],
-        &["--affine", "5", "50", "300"],
-        &["--neighbours", "8", "--area", "3"],
+    let frames = folder.join("frames");
+    fs::create_dir(&frames).unwrap();
+    let accepted = whole_corpus(&frames);
+    assert!(accepted > 30, "{accepted} frames");
+    let [first, second] = ["first.mlp", "second.mlp"].map(|name| folder.join(name));
+    let [first, second] = [&first, &second].map(|path| path.to_str().unwrap());
+    for (words, version, passes) in [
+        (&[][..], 1, 255),
+        (&["--last", "0"], 1, 1),
+        (&["--last", "4", "--area", "3", "--limited", "30"], 1, 31),
+        (&["--affine", "5", "50", "300"], 1, 255),
+        (&["--neighbours", "8"], 2, 255),
+        (&["--neighbours", "8", "--last", "6", "--area", "3", "--limited", "40"], 2, 127),
     ] {
-        zopykue(&[&["list", "--to", list], words].concat());
-        let frame = corpus("opencv.ppm");
-        assert!(written(&folder, &frame, &["--list", list]) == written(&folder, &frame, words), "{words:?}");
+        zopykue(&[&["list", "--to", first], words].concat());
+        let list = fs::read(first).unwrap();
+        assert_eq!([list[3], list[4], list[5], list[6]], [version, 0, passes, 0], "{words:?}");
+        let expected = results(&folder, &frames, words);
+        assert_eq!(expected.1.len(), 2 * accepted, "{words:?}");
+        assert!(results(&folder, &frames, &["--list", first]) == expected, "{words:?}");
+        if version == 1 {
+            zopykue(&["list", "convert", first, second]);
+            assert!(results(&folder, &frames, &["--list", second]) == expected, "{words:?} in version 2");
+        }
     }
 }
 

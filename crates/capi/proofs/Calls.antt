@@ -356,7 +356,7 @@ write-short raster w h {output} {output'} s o = record {
       omega (arith, wrote-size wrote, length-append (heading w h) raster, sides .few, fits .filled);
 }
 
--- a list has at most 1,024 records, so what is written of it is short
+-- a list has few records, so what is written of it is short
 pub convert-short : (list : List ℕ) {output output' : List ℕ} (s : Written)
     → ConvertOutcome list output (writtenReply s) output' → Short s
 convert-short list {output} {output'} s o = record {

@@ -52,7 +52,8 @@ use Rattle.claims.specs.Claims.{AsListed, ReadAsListed, Writes, Demand1,
 use Rattle.claims.specs.Claims.{Demand3Holds, passesChain, Chained, ListsAreChains, Editions, AsBefore}
 use Rattle.claims.proofs.ShapePreserving.{fine-shapes, shapes-fine, grey-file}
 use Rattle.claims.proofs.Before.{pass-before, numbers-before, refusal-before, list-before, second-before}
-use Rattle.claims.proofs.Before.{enhance-before, settings-before}
+use Rattle.claims.proofs.Before.{enhance-before, settings-before, few-listed, few-passes, many-listed, many-passes}
+use Rattle.claims.proofs.Before.{convert-by}
 
 -- ## Demand 1
 
@@ -208,7 +209,7 @@ coloured {z} {frame} {plane} output {output'} size keeps e =
     }
 
 -- the chain of an enhancement keeps the order of the frame's intensity
-enhanced-fine : (z : Shape) (t : Settings) (frame : List ℕ)
+pub enhanced-fine : (z : Shape) (t : Settings) (frame : List ℕ)
     → Fine (neighbours z) (intensity frame) (chainOf z t frame .plane)
 unfolding enhanced
 enhanced-fine z t frame = chain-fine z (start (intensity frame)) _
@@ -224,7 +225,7 @@ enhanced-fine-eight z t frame e =
 
 module _ {z : Shape} {frame lent values first : List ℕ}
     (I : IntensityOutcome (z .w) (z .h) frame lent (gives values) first) where
-  abbrev filled : first ≡ intensity frame
+  abbrev pub filled : first ≡ intensity frame
   filled = intensity-given (z .w) (z .h) frame lent I .1
 
   abbrev accepts : intensityRefusal (z .w) (z .h) (length frame) (length lent) ≡ 0
@@ -234,7 +235,7 @@ module _ {z : Shape} {frame lent values first : List ℕ}
   channels = intensity-accepted (z .w) (z .h) (length frame) (length lent) accepts .channels
 
   -- recolouring from a plane that keeps the order of the first
-  recolours : {last output output' : List ℕ} {reply : Reply} → Fine (neighbours z) first last
+  pub recolours : {last output output' : List ℕ} {reply : Reply} → Fine (neighbours z) first last
       → 3 * pixels z ≤ length output
       → RecolourOutcome (z .w) (z .h) frame last output reply output'
       → (reply ≡ gives []) × Coloured z frame last output'
@@ -247,7 +248,7 @@ module _ {z : Shape} {frame lent values first : List ℕ}
       (given .0, coloured output channels (subst (λ (p : List ℕ). Fine (neighbours z) p last) filled keeps) (given .1))
 
   -- an accepted enhancement
-  enhances : (t : Settings) {plane marks queue output values plane' marks' queue' output' : List ℕ}
+  pub enhances : (t : Settings) {plane marks queue output values plane' marks' queue' output' : List ℕ}
       → EnhanceOutcome z t frame plane marks queue output (gives values) plane' marks' queue' output'
       → (plane' ≡ chainOf z t frame .plane) × ((values ≡ counts (chainEffect (chainOf z t frame)))
       × ((ShapePreserving (neighbours z) first plane' × Coloured z frame plane' output')
@@ -343,7 +344,14 @@ as-before = record {
   of-rule = rule-before;
   affine = two-refused;
   of-pass = λ z s plane e. (pass-before z s plane e, numbers-before s e);
-  of-list = λ z list plane other. (refusal-before list other, list-before z list plane other);
+  of-few = λ list h. (few-listed list h, convert-by list (few-listed list h));
+  of-few-passes = few-passes;
+  many = λ list h long named. (
+    many-listed list h long named,
+    convert-by list (many-listed list h long named),
+  );
+  many-passes = many-passes;
+  of-list = λ z list plane other h. (refusal-before list other h, list-before z list plane other);
   second = second-before;
   of-enhance = λ z t frame e. (enhance-before z t frame e, settings-before t e);
 }

@@ -1,10 +1,13 @@
 -- The worked examples hold, by computation: `starred`; and so do the hypotheses of demand 3 for one chain of calls:
 -- `demand-3-met`. Assumes nothing.
-use Prim.Native.Nat.{ℕ, suc}
-use mathlib.Core.Path.{_≡_, refl}
-use mathlib.Core.List.{List, [], _∷_}
+use Prim.Native.Nat.{ℕ, suc, _<_}
+use mathlib.Core.Path.{_≡_, refl, sym, ap₂, subst, _∙_}
+use mathlib.Core.List.{List, [], _∷_, map}
 use native.Mathlib.Omega.{arith}
-use Rattle.planes.specs.Refusals.{sizeRefusal, sideRefusal, pixelRefusal, lengthRefusal, roomRefusal, outputRefusal}
+use lib.ListN.{length}
+use Rattle.planes.specs.Lists.{from}
+use Rattle.planes.specs.Refusals.{_▷_, sizeRefusal, sideRefusal, pixelRefusal, lengthRefusal, roomRefusal}
+use Rattle.planes.specs.Refusals.{outputRefusal}
 use Rattle.planes.specs.Shapes.{neighbours, adjacency, shapeRefusal, lentRefusal}
 use Rattle.planes.specs.Neighbours.{four, eight, linked, component, first}
 use Rattle.planes.specs.Extrema.{flat, extreme, extremes}
@@ -20,6 +23,7 @@ use Rattle.colours.specs.Calls.{intensityRefusal}
 use Rattle.model.specs.Passes.{inside, componentValues, changes, keptBack, retone, newTone, passed, componentCount}
 use Rattle.model.specs.Neighbourhoods.{passNeighbours}
 use Rattle.model.specs.Effects.{runEffect}
+use Rattle.model.specs.Runs.{All, none as all-none, more as all-more}
 use Rattle.tones.specs.Refusals.{ruleRefusal}
 use Rattle.model.specs.Calls.{areaRefusal, neighbourRefusal, numbersRefusal, passRefusal, call, chain}
 use Rattle.model.specs.Calls.{empty, refused, given}
@@ -29,9 +33,13 @@ use Rattle.tones.proofs.Examples.{tone-examples}
 use Rattle.model.proofs.PublishedExamples.{published-examples}
 use Rattle.passes.specs.Calls.{none, more}
 use Rattle.tones.specs.Numbers.{malformed}
-use Rattle.listformat.specs.Format.{editionOf, passAt, passesOf, misnamed, miscounted, headRefusal, encodeFields}
-use Rattle.listformat.specs.Format.{encodePass, encodePasses, encode}
-use Rattle.listchecks.specs.Refusals.{recordRefusal, recordRefusals, listRefusal, placesRefusal}
+use Rattle.listformat.specs.declared.Edition.{Edition}
+use Rattle.listformat.specs.declared.Edition.the-variants.{First, Second}
+use Rattle.listformat.specs.Format.{other, recordStart, editionOf, passAt, passesOf, misnamed, miscounted, headRefusal}
+use Rattle.listformat.specs.Format.{encodeFields, encodePass, encodePasses, encode, Storable}
+use Rattle.listchecks.specs.Refusals.{recordRefusal, recordRefusals, listRefusal, passesRefusal, placesRefusal}
+use Rattle.listchecks.proofs.Refusals.{encoded-refusal}
+use Rattle.conversion.proofs.Editions.{stored, encoded-converts}
 use Rattle.conversion.specs.Conversion.{converted, convertRefusal}
 use Rattle.texts.specs.Ascii.{isDigit, decimal}
 use Rattle.texts.specs.Heading.{heading}
@@ -41,7 +49,7 @@ use Rattle.headers.specs.Grammar.{mark, numeral, field, headerWith, header}
 use Rattle.netpbm.specs.Reading.{maxvalRefusal, rasterRefusal, trailingRefusal, frameRefusal, readAnswer}
 use Rattle.printing.specs.Printing.{enhancedFrame}
 use Rattle.frames.specs.Program.{programOutput}
-use Rattle.claims.specs.Examples.{on, onEight, PassExamples, Eight, ExtremaExamples, Starred}
+use Rattle.claims.specs.Examples.{on, onEight, PassExamples, Eight, ExtremaExamples, timesE, Many, Starred}
 use Rattle.claims.specs.Examples.{Demand3Met}
 
 pass-examples : PassExamples
@@ -100,6 +108,59 @@ extrema-examples = record {
   after-joined = record { maxima-are = refl; minima-are = refl };
 }
 
+-- ## Many passes
+
+times-fit : (js : List ℕ) → All (Storable First) (map (λ j. on 0 127 1 anyRatio) js)
+times-fit [] = all-none
+times-fit (j ∷ js) = all-more {s = on 0 127 1 anyRatio}
+    (record {
+      a-fits = omega arith;
+      b-fits = omega arith;
+      area-fits = omega arith;
+      rule-fits = (omega arith, omega arith);
+      neighbours-fit = refl;
+    })
+    (times-fit js)
+
+-- by the number that they get in memory; there is room for the conversion, or they get one
+many : (count number : ℕ) → length (timesE count) ≡ count → count < 65536 → passesRefusal (timesE count) ≡ number
+    → ((e : Edition) → number ▷ outputRefusal 16391 (recordStart (other e) count) ≡ number) → Many count number
+many count number size few is room =
+    let told = subst (_< 65536) (sym size) few in
+    let fit = times-fit (from 0 count) in
+    record {
+      in-memory = is;
+      in-file = λ e. encoded-refusal e (timesE count) told (stored e (timesE count) fit) ∙ is;
+      to-convert = λ e. encoded-converts (timesE count) told fit e 16391
+          ∙ ap₂ (λ (k n : ℕ). k ▷ outputRefusal 16391 (recordStart (other e) n)) is size ∙ room e;
+    }
+
+room-319 : (e : Edition) → outputRefusal 16391 (recordStart (other e) 319) ≡ 0
+unfolding outputRefusal
+room-319 First = refl
+room-319 Second = refl
+
+room-320 : (e : Edition) → outputRefusal 16391 (recordStart (other e) 320) ≡ 0
+unfolding outputRefusal
+room-320 First = refl
+room-320 Second = refl
+
+many-319 : Many 319 0
+unfolding areaRefusal ruleRefusal neighbourRefusal numbersRefusal passesRefusal
+many-319 = many 319 0 refl (omega arith) refl room-319
+
+many-320 : Many 320 0
+unfolding areaRefusal ruleRefusal neighbourRefusal numbersRefusal passesRefusal
+many-320 = many 320 0 refl (omega arith) refl room-320
+
+many-321 : Many 321 16
+unfolding passesRefusal
+many-321 = many 321 16 refl (omega arith) refl (λ e. refl)
+
+many-1024 : Many 1024 16
+unfolding passesRefusal
+many-1024 = many 1024 16 refl (omega arith) refl (λ e. refl)
+
 pub starred : Starred
 unfolding shapeRefusal sizeRefusal sideRefusal pixelRefusal lengthRefusal passNeighbours adjacency neighbours four eight
     linked component first plainTone plainKept clipped limitedTone tone kept
@@ -143,6 +204,10 @@ starred = record {
   Q-short = refl;
   J-twenty = refl;
   Y-five = refl;
+  many-319 = many-319;
+  many-320 = many-320;
+  many-321 = many-321;
+  many-1024 = many-1024;
   W-is = refl;
   W-accepted = refl;
   W = refl;

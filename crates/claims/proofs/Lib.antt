@@ -1,6 +1,7 @@
 pub mod ShapePreserving
 pub mod Before
 pub mod Claims
+pub mod Enhancements
 pub mod CFunctions
 pub mod Contracts
 pub mod Examples

@@ -27,6 +27,7 @@
 --                      chain that are not refused, over the passes of an enhancement, in the plane as each finds it
 --   chain              the model of a chain of calls: its plane and its replies (model/specs/Calls)
 --   chainOf            the chain of passes that an enhancement stands for (enhance/specs/Calls)
+--   passes, recursive  its passes, level by level, and in the order of the recursion (model/specs/Enhancement)
 --   publishedOf        Algorithms 2 to 5 on a frame's intensity, by components (enhance/specs/Published)
 --   IntensityOutcome, RecolourOutcome, PassOutcome, EnhanceOutcome, ListOutcome, PassesOutcome, ConvertOutcome,
 --   WriteOutcome       what the calls ensure, by the reply of their answer
@@ -42,6 +43,9 @@
 --   ruleOf, malformed  their rule, and that they stand for none (tones/specs/Numbers)
 --   ruleBefore, malformedBefore   the same before the affine rule was there (tones/specs/Before)
 --   numbersBefore, settingsBefore   the refusals of a pass and of settings before they had neighbours (specs/Before)
+--   greatestCount      the most passes of a list, in a file and in memory (listformat/specs/Format)
+--   greatestBefore     the most that it might have before; listWithin, convertWithin, passesWithin: the refusals of a
+--                      list, of its conversion and of passes in memory by the most (specs/Before)
 --   listBefore, passesBefore   the refusal of a list, and its passes, before there was a second version (specs/Before)
 --   Bytes              every member is a byte (listformat/specs/Format)
 --   Edition            version 1 or version 2 of a pass list (listformat/src); its version and the layout of its
@@ -51,7 +55,7 @@
 --   converted          a list in the other edition (conversion/specs/Conversion)
 --   placesRefusal      20, for passes that an edition has no place for (listchecks/specs/Refusals)
 --   Emitted            what the program's function ensures: some bytes at the beginning of the output (printing)
-use Prim.Native.Nat.{ℕ, suc, _+_, _-_, _*_, _/_, _≤_, _<_}
+use Prim.Native.Nat.{ℕ, suc, _+_, _-_, _*_, _/_, _^_, _≤_, _<_}
 use mathlib.Core.Path.{_≡_}
 use mathlib.Core.Logic.{_↔_}
 use mathlib.Core.Bool.{true, false}
@@ -73,7 +77,7 @@ use Rattle.model.specs.Neighbourhoods.{passNeighbours}
 use Rattle.model.specs.Passes.{passSufficient}
 use Rattle.model.specs.Effects.{Effect, counts, passEffect, runEffect, always}
 use Rattle.model.specs.Runs.{All, Carries, runSufficient}
-use Rattle.model.specs.Enhancement.{passes}
+use Rattle.model.specs.Enhancement.{passes, recursive}
 use Rattle.model.specs.Published.{published}
 use Rattle.model.specs.Calls.{Call, retonedIn, keptIn, total, AllAccepted, State, start, chain, chainEffect}
 use Rattle.model.specs.Calls.{chainSufficient, AcceptedCarry, numbersRefusal}
@@ -92,14 +96,15 @@ use Rattle.netpbm.specs.Frames.{IsFrame}
 use Rattle.netpbm.specs.Writing.{encoding, writeRefusal, WriteOutcome}
 use Rattle.listformat.specs.declared.Edition.{Edition}
 use Rattle.listformat.specs.declared.Edition.the-variants.{First, Second}
-use Rattle.listformat.specs.Format.{other, version, headLength, versionOf, editionOf, passesOf, decode, encode, Bytes}
-use Rattle.listformat.specs.Format.{Storable, Listable}
-use Rattle.listchecks.specs.Refusals.{listRefusal, placesRefusal}
+use Rattle.listformat.specs.Format.{other, version, headLength, versionOf, countOf, editionOf, passesOf, greatestCount}
+use Rattle.listformat.specs.Format.{misnamed, decode, encode, Bytes, Storable, Listable}
+use Rattle.listchecks.specs.Refusals.{listRefusal, passesRefusal, placesRefusal}
 use Rattle.conversion.specs.Conversion.{converted, convertRefusal, ConvertOutcome}
 use Rattle.passlists.specs.Outcomes.{slicesRefusal, runListRefusal, runPassesRefusal, ListOutcome, PassesOutcome}
 use Rattle.printing.specs.Printing.{greatestFrame, refusalLine, enhancedFrame, Emitted}
 use Rattle.frames.specs.Program.{greatestInput, programOutput}
-use Rattle.claims.specs.Before.{numbersBefore, settingsBefore, listBefore, passesBefore}
+use Rattle.claims.specs.Before.{numbersBefore, settingsBefore, greatestBefore, listWithin, convertWithin}
+use Rattle.claims.specs.Before.{passesWithin, listBefore, passesBefore}
 
 -- ## Demand 1: exactly what is listed is refused, by its number, and a refusal leaves all lent memory as it was
 
@@ -342,13 +347,64 @@ pub record Editions : Type 0 where
   -- version 2 has a place for every pass
   pub never-20 : (ss : List Pass) → placesRefusal Second ss ≡ 0
 
+-- ## An enhancement is a list
+
+-- an edition has a place for a number of neighbours: version 1 for 4, version 2 for any
+abbrev pub HasPlace : Edition → ℕ → Type 0
+HasPlace First number = number ≡ 4
+HasPlace Second number = Unit {0}
+
+-- a run from a frame's intensity answered and left what an enhancement of the frame answered and left: both counts and
+-- the plane; and recoloured from that plane the frame has the bytes of the enhancement's output
+pub record AsEnhanced (z : Shape) (frame values plane' output' : List ℕ) (reply : Reply) (last : List ℕ) : Type 0 where
+  pub counts-are : reply ≡ gives values
+  pub plane-is : last ≡ plane'
+  pub bytes-are : {output output″ : List ℕ} {coloured : Reply} → 3 * pixels z ≤ length output
+      → RecolourOutcome (z .w) (z .h) frame last output coloured output″
+      → (coloured ≡ gives []) × (take (3 * pixels z) output″ ≡ take (3 * pixels z) output')
+
+-- runs with this outcome, on the plane that intensity filled from a frame and with sound memory, do what every accepted
+-- enhancement of the frame with the settings does
+pub record RunsAs (t : Settings)
+    (Run : (z : Shape) (plane marks queue : List ℕ) (reply : Reply) (plane' marks' queue' : List ℕ) → Type 0)
+    : Type 0 where
+  pub does : (z : Shape) {frame lent filled first : List ℕ}
+      → IntensityOutcome (z .w) (z .h) frame lent (gives filled) first
+      → {plane marks queue output values plane' marks' queue' output' : List ℕ}
+      → EnhanceOutcome z t frame plane marks queue output (gives values) plane' marks' queue' output'
+      → {marks₁ queue₁ last marks₂ queue₂ : List ℕ} {reply : Reply} → slicesRefusal z first marks₁ queue₁ ≡ 0
+      → Run z first marks₁ queue₁ reply last marks₂ queue₂ → AsEnhanced z frame values plane' output' reply last
+
+-- some passes, as a list, are the enhancement with some settings
+pub record StandsFor (t : Settings) (ss : List Pass) : Type 0 where
+  -- there are as many as the levels have sections, 1 for level 0 alone and 255 for all, which is within the limit
+  pub size : length ss + 1 ≡ 2 ^ (t .last + 1)
+  pub few : length ss ≤ 255
+  pub within : length ss ≤ greatestCount
+  -- they are not refused in memory, nor in a file, which is read as these passes
+  pub accepted : passesRefusal ss ≡ 0
+  pub stored : (e : Edition) → HasPlace e (t .neighbours)
+      → (listRefusal (encode e ss) ≡ 0) × (passesOf (encode e ss) ≡ ss)
+  -- they run as the enhancement does
+  pub in-memory : RunsAs t (λ z. PassesOutcome z ss)
+  pub in-file : (e : Edition) → HasPlace e (t .neighbours) → RunsAs t (λ z. ListOutcome z (encode e ss))
+
+-- those of every accepted settings are, level by level and in the order of the recursion
+pub record EnhancementsAreLists : Type 0 where
+  pub by-levels : (t : Settings) → settingsRefusal t ≡ 0
+      → StandsFor t (passes (t .last) (t .area) (t .rule) (t .neighbours))
+  pub by-recursion : (t : Settings) → settingsRefusal t ≡ 0
+      → StandsFor t (recursive (t .last) (t .area) (t .rule) (t .neighbours))
+
 -- ## What is as it was before
 
 -- frames without comments are read as before comments were read; a header with a number sign was refused with 10. The
 -- numbers of a rule, in lists and from C, are read as before the affine rule was there, unless their code is 2; these
 -- got 17. A pass and an enhancement by 4 neighbours, and a list in a file that does not name version 2, have the
 -- effects and the refusals that they had before there was a choice: those by the four neighbours. Lists that name
--- version 2 got 15, if they were long enough to name a version
+-- version 2 got 15, if they were long enough to name a version. Lists of few passes, in files of either version and in
+-- memory, are refused as when a list might have 1,024 of them, to be run and to be converted; those of more get 16,
+-- where their mark and version are right, whatever their records and their length
 pub record AsBefore : Type 0 where
   pub of-read : (bytes : List ℕ) (limit : ℕ) → Uncommented bytes
       → readReply bytes limit ≡ uncommentedReply bytes limit
@@ -360,7 +416,14 @@ pub record AsBefore : Type 0 where
   pub of-pass : (z : Shape) (s : Pass) (plane : List ℕ) → Carries 4 s
       → (passEffect (passNeighbours z) s plane ≡ passEffect (always (neighbours z)) s plane)
       × (numbersRefusal s ≡ numbersBefore s)
-  pub of-list : (z : Shape) (list plane : List ℕ) → (versionOf list ≡ 2 → ⊥)
+  pub of-few : (list : List ℕ) → countOf list ≤ greatestCount
+      → (listRefusal list ≡ listWithin greatestBefore list)
+      × ((output : ℕ) → convertRefusal list output ≡ convertWithin greatestBefore list output)
+  pub of-few-passes : (ss : List Pass) → length ss ≤ greatestCount → passesRefusal ss ≡ passesWithin greatestBefore ss
+  pub many : (list : List ℕ) → greatestCount < countOf list → headLength ≤ length list → misnamed list ≡ false
+      → (listRefusal list ≡ 16) × ((output : ℕ) → convertRefusal list output ≡ 16)
+  pub many-passes : (ss : List Pass) → greatestCount < length ss → passesRefusal ss ≡ 16
+  pub of-list : (z : Shape) (list plane : List ℕ) → (versionOf list ≡ 2 → ⊥) → countOf list ≤ greatestCount
       → (listRefusal list ≡ listBefore list)
       × (runEffect (passNeighbours z) (passesOf list) plane
       ≡ runEffect (always (neighbours z)) (passesBefore list) plane)

@@ -5,13 +5,15 @@
 --   Eight                     passes by eight neighbours: J, wires, row ends, and why every accepted call is to carry 8
 --   Extrema, ExtremaExamples  how many regional maxima and minima a plane has
 --   Enhancing                 an enhancement leaves a plane and both counts: examples K and L, and planes of one value
+--   Many                      so many passes are a list, or refused: in memory, in files, and to be converted
 --   Starred                   all of them, with the published recursion on K, L and M, recolouring (N, O), the program
 --                             (P, and P with comments) and lists (Q in both versions, J in version 2, conversions)
 --   Demand3Met                an accepted frame, and calls from its plane of which one is accepted and two are refused
 use Prim.Native.Nat.{ℕ}
 use mathlib.Core.Path.{_≡_}
 use mathlib.Core.Bool.{true}
-use mathlib.Core.List.{List, [], _∷_, _++_}
+use mathlib.Core.List.{List, [], _∷_, _++_, map}
+use Rattle.planes.specs.Lists.{from}
 use Rattle.planes.specs.Replies.{refuses, gives}
 use Rattle.planes.specs.Shapes.{shapeOf, neighbours, adjacency}
 use Rattle.planes.specs.declared.Shape.{Shape}
@@ -28,9 +30,10 @@ use Rattle.model.specs.Enhancement.{enhanced}
 use Rattle.tones.specs.Examples.{anyRatio, rowA, ToneExamples}
 use Rattle.model.specs.PublishedExamples.{PublishedExamples}
 use Rattle.passes.specs.Calls.{callOn, Sequence}
+use Rattle.listformat.specs.declared.Edition.{Edition}
 use Rattle.listformat.specs.declared.Edition.the-variants.{First, Second}
 use Rattle.listformat.specs.Format.{passesOf, encode}
-use Rattle.listchecks.specs.Refusals.{listRefusal}
+use Rattle.listchecks.specs.Refusals.{listRefusal, passesRefusal}
 use Rattle.conversion.specs.Conversion.{converted, convertRefusal}
 use Rattle.texts.specs.Ascii.{ascii}
 use Rattle.frames.specs.Program.{programOutput}
@@ -213,6 +216,17 @@ listW =
     ∷ 128 ∷ 255 ∷ 1 ∷ 0 ∷ 1 ∷ 0 ∷ 0 ∷ 0 ∷ 10 ∷ 0 ∷ 0 ∷ 0
     ∷ 0 ∷ 255 ∷ 2 ∷ 2 ∷ 1 ∷ 0 ∷ 0 ∷ 0 ∷ 100 ∷ 0 ∷ 16 ∷ 39 ∷ []
 
+-- E's pass so many times
+abbrev pub timesE : ℕ → List Pass
+timesE n = map (λ j. on 0 127 1 anyRatio) (from 0 n)
+
+-- so many passes get a number, 0 where they are not refused: in memory, in a file of either version, and to be
+-- converted into an output of as many bytes as 1,024 passes would take
+pub record Many (count number : ℕ) : Type 0 where
+  pub in-memory : passesRefusal (timesE count) ≡ number
+  pub in-file : (e : Edition) → listRefusal (encode e (timesE count)) ≡ number
+  pub to-convert : (e : Edition) → convertRefusal (encode e (timesE count)) 16391 ≡ number
+
 pub record Starred : Type 0 where
   -- every rule on its own, with its boundaries
   pub tones : ToneExamples
@@ -257,6 +271,11 @@ pub record Starred : Type 0 where
   pub Q-short : convertRefusal listQ 22 ≡ 14
   pub J-twenty : convertRefusal listJ2 0 ≡ 20
   pub Y-five : convertRefusal listY2 0 ≡ 5
+  -- up to 320 passes are a list, and 16 is given from 321 on
+  pub many-319 : Many 319 0
+  pub many-320 : Many 320 0
+  pub many-321 : Many 321 16
+  pub many-1024 : Many 1024 16
   -- a list of all three rules
   pub W-is : encode First passesW ≡ listW
   pub W-accepted : listRefusal listW ≡ 0

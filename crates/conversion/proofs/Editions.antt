@@ -1,9 +1,10 @@
 -- Both editions of a list. Assumes nothing.
 --
+--   encoded-converts   passes that version 1 can store, in either edition, are refused as in memory, and then with 14
 --   converted-passes   a list that may be converted has the same passes in the other edition, and is not refused there
 --   there-and-back     converted, it may be converted again, and that restores it byte for byte
 --   restored           so two calls of `convert`, one on what the other wrote, restore the list
-use Prim.Native.Nat.{ℕ, _≤_}
+use Prim.Native.Nat.{ℕ, _≤_, _<_}
 use mathlib.Core.Path.{_≡_, refl, sym, ap, ap₂, subst, _∙_}
 use mathlib.Core.Bool.{not, _||_, or-false}
 use mathlib.Core.Option.{some}
@@ -12,7 +13,7 @@ use native.Mathlib.Omega.{arith}
 use lib.ListN.{length, take}
 use lib.Dec.{eqb}
 use borrow.Author.Tests.{eqb-true, not-false}
-use Rattle.planes.specs.Refusals.{when}
+use Rattle.planes.specs.Refusals.{when, _▷_, outputRefusal}
 use Rattle.planes.specs.Replies.{Reply, gives}
 use Rattle.planes.proofs.Refusals.{when-none, ▷-none, ▷-both}
 use Rattle.planes.proofs.Replies.{replied-none}
@@ -21,15 +22,18 @@ use Rattle.model.specs.declared.Pass.{Pass}
 use Rattle.tones.specs.Refusals.{ruleRefusal}
 use Rattle.model.specs.Calls.{intervalRefusal, areaRefusal, neighbourRefusal, numbersRefusal}
 use Rattle.model.specs.Runs.{All, none, more}
+use Rattle.model.proofs.Recursion.{all-map}
 use Rattle.listformat.specs.declared.Edition.{Edition}
 use Rattle.listformat.specs.declared.Edition.the-variants.{First, Second}
-use Rattle.listformat.specs.Format.{other, editionOf, passesOf, greatestCount, decode, encode, Bytes, Storable}
-use Rattle.listformat.proofs.Format.{headed, length-passesOf, storable-passes, passes-encode, edition-encode}
+use Rattle.listformat.specs.Format.{other, recordStart, editionOf, passesOf, greatestCount, decode, encode, Bytes}
+use Rattle.listformat.specs.Format.{Storable}
+use Rattle.listformat.proofs.Format.{headed, length-passesOf, length-encode, storable-passes, passes-encode}
+use Rattle.listformat.proofs.Format.{edition-encode}
 use Rattle.listformat.proofs.Format.{encode-decode}
 use Rattle.listchecks.specs.Refusals.{firstRefusal, listRefusal, countRefusal, passesRefusal, placeRefusal}
 use Rattle.listchecks.specs.Refusals.{placesRefusal}
 use Rattle.listchecks.proofs.Refusals.{accepted-list, encoded-refusal}
-use Rattle.conversion.specs.Conversion.{converted, ConvertOutcome}
+use Rattle.conversion.specs.Conversion.{converted, convertRefusal, ConvertOutcome}
 use Rattle.conversion.proofs.Refusals.{Convertible, convertible, convertible-none, head-sound}
 
 -- ## Passes that both editions can store
@@ -50,6 +54,11 @@ only-four number known not-eight =
     let either = not-false (eqb number 4 || eqb number 8) (when-none (not (eqb number 4 || eqb number 8)) 18 known) in
     let other-one = when-none (eqb number 8) 19 not-eight in
     eqb-true number 4 (sym (or-false (eqb number 4)) ∙ ap (eqb number 4 ||_) (sym other-one) ∙ either)
+
+-- what version 1 can store either can
+pub stored : (e : Edition) (ss : List Pass) → All (Storable First) ss → All (Storable e) ss
+stored First ss fit = fit
+stored Second ss fit = all-map (λ s f. wider f) fit
 
 narrower : (s : Pass) → Storable Second s → numbersRefusal s ≡ 0 → placeRefusal First s ≡ 0 → Storable First s
 unfolding numbersRefusal
@@ -90,6 +99,21 @@ has-place Second (s ∷ ss) (more f fs) = has-place Second ss fs
 other-other : (e : Edition) → other (other e) ≡ e
 other-other First = refl
 other-other Second = refl
+
+-- passes that version 1 can store, in either edition, are refused as they are in memory, and then with 14
+pub encoded-converts : (ss : List Pass) → length ss < 65536 → All (Storable First) ss → (e : Edition) (output : ℕ)
+    → convertRefusal (encode e ss) output
+    ≡ passesRefusal ss ▷ outputRefusal output (recordStart (other e) (length ss))
+unfolding convertRefusal converted
+encoded-converts ss told fit e output =
+    let short = outputRefusal output (recordStart (other e) (length ss)) in
+    let fits = stored e ss fit in
+    ap₂ (λ (d : Edition) (ps : List Pass).
+    listRefusal (encode e ss) ▷ placesRefusal (other d) ps ▷ outputRefusal output (length (encode (other d) ps)))
+    (edition-encode e ss) (passes-encode e ss told fits .0)
+    ∙ ap₂ (λ (k n : ℕ). k ▷ placesRefusal (other e) ss ▷ outputRefusal output n)
+    (encoded-refusal e ss told fits) (length-encode (other e) ss)
+    ∙ ap (λ (k : ℕ). passesRefusal ss ▷ k ▷ short) (has-place (other e) ss (stored (other e) ss fit))
 
 -- ## A list and its other edition
 

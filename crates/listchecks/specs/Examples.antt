@@ -52,7 +52,7 @@ pub record ListRefusals : Type 0 where
   -- 15: the mark or the version, before the count
   pub other-mark : listRefusal (77 ∷ 76 ∷ 81 ∷ 1 ∷ 0 ∷ 0 ∷ 0 ∷ []) ≡ 15
   pub other-version : listRefusal (77 ∷ 76 ∷ 80 ∷ 1 ∷ 1 ∷ 0 ∷ 0 ∷ []) ≡ 15
-  pub mark-before-count : listRefusal (77 ∷ 76 ∷ 81 ∷ 1 ∷ 0 ∷ 1 ∷ 4 ∷ []) ≡ 15
+  pub mark-before-count : listRefusal (77 ∷ 76 ∷ 81 ∷ 1 ∷ 0 ∷ 65 ∷ 1 ∷ []) ≡ 15
   -- 16: the count or the length
   pub many : listRefusal (77 ∷ 76 ∷ 80 ∷ 1 ∷ 0 ∷ 1 ∷ 4 ∷ []) ≡ 16
   pub short : listRefusal (head 1) ≡ 16

@@ -5,7 +5,7 @@
 --   recordRefusal   17, then 5 to 8, 18, 19, for one record
 --   listRefusal     of a list of bytes: its head, then its records in order
 --   countRefusal    16, by the number of passes in memory
---   passesRefusal   of passes in memory: more than 1,024 of them, then each pass in order
+--   passesRefusal   of passes in memory: more of them than a list may have, then each pass in order
 --   placeRefusal    20, for a pass that an edition has no place for
 --   placesRefusal   20, of some passes
 use Prim.Native.Nat.{ℕ}

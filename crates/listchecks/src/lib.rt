@@ -20,8 +20,8 @@ use model::Pass;
 use planes::EIGHT;
 use planes::refused;
 
-// The greatest count of passes.
-pub const COUNT: usize = 1024;
+// The greatest count of passes, in a file of either version and in memory.
+pub const COUNT: usize = 320;
 
 // A record: 17 where it is malformed, or 0, and the pass that it stands for otherwise.
 pub struct Record {

@@ -224,7 +224,10 @@ ends-within First j n h = omega arith
 ends-within Second j n h = omega arith
 
 -- all records together are short
-pub records-low : (e : Edition) (j : ℕ) → j ≤ greatestCount → recordLength e * j ≤ 16384
+abbrev pub mostBytes : ℕ
+mostBytes = recordLength Second * greatestCount
+
+pub records-low : (e : Edition) (j : ℕ) → j ≤ greatestCount → recordLength e * j ≤ mostBytes
 records-low First j h = omega arith
 records-low Second j h = omega arith
 

@@ -174,9 +174,9 @@ passesOf bs = map (passHere bs) (from 0 (countOf bs))
 
 -- ## What is in the format
 
--- the greatest count of passes
+-- the greatest count of passes, in a file of either edition and in memory
 abbrev pub greatestCount : ℕ
-greatestCount = 1024
+greatestCount = 320
 
 -- one of the zero bytes of the record at index i is set
 abbrev pub zeroSet : Edition → List ℕ → ℕ → Bool
@@ -200,7 +200,7 @@ misnamed bs =
     not (eqb (at bs 0) 77) || not (eqb (at bs 1) 76) || not (eqb (at bs 2) 80)
     || not (eqb (versionOf bs) (version (editionOf bs)))
 
--- the count is above 1,024, or the length is not that of so many records
+-- the count is above the greatest, or the length is not that of so many records
 unfoldable pub miscounted : List ℕ → Bool
 miscounted bs = ltb greatestCount (countOf bs) || not (eqb (length bs) (recordStart (editionOf bs) (countOf bs)))
 

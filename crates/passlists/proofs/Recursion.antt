@@ -1,13 +1,17 @@
--- The passes of an enhancement, run as a list on a plane, as the intensity of a frame, give the plane and both counts
--- of the enhancement: level by level, and also in the order of the recursion, each section before its lower and its
--- upper half. In memory and as a file of version 2 with 4 and with 8 neighbours, as a file of version 1 with 4. All
--- levels together are 255 passes. Assumes nothing.
+-- The passes of an enhancement are a list. Run on a plane, as the intensity of a frame, they give the plane and both
+-- counts of the enhancement: level by level, and also in the order of the recursion, each section before its lower and
+-- its upper half. In memory and as a file of version 2 with 4 and with 8 neighbours, as a file of version 1 with 4.
+-- Assumes nothing.
 --
---   sections-255            the full recursion has 255 sections
---   passes-enhances         the outcome of the list in memory, level by level, is the enhancement's plane and counts
---   recursion-in-memory     so is that of the list in memory in the order of the recursion
---   list-enhances           so is that of the file, level by level
---   recursion-enhances      so is that of the file in the order of the recursion
+--   Sections                  some passes are the sections of an enhancement, in an order that has the same effect
+--   by-levels, by-recursion   level by level they are, and in the order of the recursion: 1 for level 0 alone, 255 for
+--                             all levels
+--   Accepted                  settings that are not refused
+--   sections-few              so there are few, and a list may have as many
+--   sections-accepted         they are not refused in memory
+--   sections-stored           nor as a file, which is read as these passes
+--   memory-enhances           the outcome of the list in memory is the enhancement's plane and counts
+--   file-enhances             so is that of the file
 use Prim.Native.Nat.{ℕ, zero, suc, _+_, _-_, _*_, _^_, _≤_, _<_}
 use mathlib.Core.Path.{_≡_, refl, sym, ap, ap₂, subst, _∙_}
 use mathlib.Core.Logic.{_⊎_, inl, inr}
@@ -15,7 +19,7 @@ use mathlib.Core.Bool.{Bool, _||_}
 use mathlib.Core.List.{List, [], _∷_, map}
 use native.Mathlib.Nat.{mul-le-mul, suc-mul, le-refl}
 use native.Mathlib.Omega.{arith}
-use lib.Pow.{pow-add, pow-pos}
+use lib.Pow.{pow-add, pow-mono, pow-pos}
 use lib.ListN.{length}
 use lib.Dec.{ltb, eqb}
 use borrow.Author.Tests.{le-ltb, ltb-false}
@@ -40,25 +44,22 @@ use Rattle.model.proofs.Enhancement.{start-runs}
 use Rattle.tones.specs.Numbers.{RuleFits}
 use Rattle.tones.proofs.Numbers.{accepted-fits}
 use Rattle.listformat.specs.declared.Edition.{Edition}
-use Rattle.listformat.specs.Format.{greatestCount, encode, NeighboursFit, Storable}
-use Rattle.listchecks.specs.Refusals.{firstRefusal, passesRefusal}
+use Rattle.listformat.specs.Format.{passesOf, greatestCount, encode, NeighboursFit, Storable}
+use Rattle.listformat.proofs.Format.{passes-encode}
+use Rattle.listchecks.specs.Refusals.{firstRefusal, listRefusal, passesRefusal}
+use Rattle.listchecks.proofs.Refusals.{encoded-refusal}
 use Rattle.passlists.specs.Outcomes.{runPassesRefusal, ListOutcome, PassesOutcome}
 use Rattle.passlists.proofs.Lists.{same-outcomes}
 
 -- ## The sections
 
-pub sections-255 : (area : ℕ) (rule : Rule) (number : ℕ)
-    → (length (passes 7 area rule number) ≡ 255) × (length (recursive 7 area rule number) ≡ 255)
-unfolding passes level levels recursive deep section
-sections-255 area rule number = (refl, refl)
-
 -- a pass with the rule and the number of neighbours, and with area 1 or the given one, on an interval of bytes
-record Proper (area : ℕ) (rule : Rule) (number : ℕ) (s : Pass) : Type 0 where
-  order : s .a ≤ s .b
-  top : s .b < 256
-  area-is : (s .area ≡ 1) ⊎ (s .area ≡ area)
-  rule-is : s .rule ≡ rule
-  number-is : s .neighbours ≡ number
+pub record Proper (area : ℕ) (rule : Rule) (number : ℕ) (s : Pass) : Type 0 where
+  pub order : s .a ≤ s .b
+  pub top : s .b < 256
+  pub area-is : (s .area ≡ 1) ⊎ (s .area ≡ area)
+  pub rule-is : s .rule ≡ rule
+  pub number-is : s .neighbours ≡ number
 
 module _ (area : ℕ) (rule : Rule) (number : ℕ) where
   -- the first j sections of level l end at 256 or before
@@ -127,6 +128,41 @@ module _ (area : ℕ) (rule : Rule) (number : ℕ) where
       (all-append (proper-deep (7 - m) m 0 (omega arith))
       (proper-deep (7 - m) m (0 + 2 ^ (m + (7 - m))) (omega arith)))
 
+-- how many there are, and that they are proper, in an order that has the same effect as level by level
+pub record Sections (last area : ℕ) (rule : Rule) (number : ℕ) (ss : List Pass) : Type 0 where
+  pub size : length ss + 1 ≡ 2 ^ (last + 1)
+  pub each : All (Proper area rule number) ss
+  pub same : (z : Shape) → Same (passNeighbours z) ss (passes last area rule number)
+
+sizes : (last area : ℕ) (rule : Rule) (number : ℕ) → last ≤ 7
+    → (length (passes last area rule number) + 1 ≡ 2 ^ (last + 1))
+    × (length (recursive last area rule number) + 1 ≡ 2 ^ (last + 1))
+unfolding passes level levels recursive deep section
+sizes zero area rule number h = (refl, refl)
+sizes (suc zero) area rule number h = (refl, refl)
+sizes (suc (suc zero)) area rule number h = (refl, refl)
+sizes (suc (suc (suc zero))) area rule number h = (refl, refl)
+sizes (suc (suc (suc (suc zero)))) area rule number h = (refl, refl)
+sizes (suc (suc (suc (suc (suc zero))))) area rule number h = (refl, refl)
+sizes (suc (suc (suc (suc (suc (suc zero)))))) area rule number h = (refl, refl)
+sizes (suc (suc (suc (suc (suc (suc (suc zero))))))) area rule number h = (refl, refl)
+sizes (suc (suc (suc (suc (suc (suc (suc (suc l)))))))) area rule number h = absurd (omega arith)
+
+module _ (last area : ℕ) (rule : Rule) (number : ℕ) (levels-fine : last ≤ 7) where
+  pub by-levels : Sections last area rule number (passes last area rule number)
+  by-levels = record {
+    size = sizes last area rule number levels-fine .0;
+    each = proper area rule number last levels-fine;
+    same = λ z. record { effects = λ p. refl };
+  }
+
+  pub by-recursion : Sections last area rule number (recursive last area rule number)
+  by-recursion = record {
+    size = sizes last area rule number levels-fine .1;
+    each = proper-recursive area rule number last levels-fine;
+    same = λ z. recursion-listed (passNeighbours z) last area rule number levels-fine;
+  }
+
 -- ## Their numbers are accepted, and fit
 
 small : (used : ℕ) → areaRefusal used ≡ 0 → used < 4294967296
@@ -165,19 +201,6 @@ first-fine : (ss : List Pass) → All (λ s. numbersRefusal s ≡ 0) ss → firs
 first-fine [] none = refl
 first-fine (s ∷ ss) (more e a) = ap₂ _▷_ e (first-fine ss a)
 
-few : (last area : ℕ) (rule : Rule) (number : ℕ) → last ≤ 7
-    → (length (passes last area rule number) ≤ 255) × (length (recursive last area rule number) ≤ 255)
-unfolding passes level levels recursive deep section
-few zero area rule number h = (omega arith, omega arith)
-few (suc zero) area rule number h = (omega arith, omega arith)
-few (suc (suc zero)) area rule number h = (omega arith, omega arith)
-few (suc (suc (suc zero))) area rule number h = (omega arith, omega arith)
-few (suc (suc (suc (suc zero)))) area rule number h = (omega arith, omega arith)
-few (suc (suc (suc (suc (suc zero))))) area rule number h = (omega arith, omega arith)
-few (suc (suc (suc (suc (suc (suc zero)))))) area rule number h = (omega arith, omega arith)
-few (suc (suc (suc (suc (suc (suc (suc zero))))))) area rule number h = (omega arith, omega arith)
-few (suc (suc (suc (suc (suc (suc (suc (suc l)))))))) area rule number h = absurd (omega arith)
-
 -- room for n pixels is enough
 enough : (z : Shape) (plane marks queue : ℕ) → lentRefusal z plane marks queue ≡ 0
     → lentRefusal z (pixels z) (pixels z) (pixels z) ≡ 0
@@ -188,26 +211,50 @@ enough z plane marks queue e = lent-none z (pixels z) (pixels z) (pixels z) (rec
   spare = le-refl (pixels z);
 })
 
-module _ (z : Shape) (last area : ℕ) (rule : Rule) (number : ℕ) (levels-fine : last ≤ 7)
-    (area-fine : areaRefusal area ≡ 0) (rule-fine : ruleRefusal rule ≡ 0) (plane marks queue : List ℕ)
-    (lent-fine : lentRefusal z (length plane) (length marks) (length queue) ≡ 0) where
-  -- the enhancement's plane and counts
-  abbrev Enhances : Reply → List ℕ → Type 0
-  Enhances reply plane' =
-      (plane' ≡ enhanced z plane last area rule number .plane)
-      × (reply ≡ gives (counts (chainEffect (enhanced z plane last area rule number))))
+-- settings that are not refused
+pub record Accepted (last area : ℕ) (rule : Rule) (number : ℕ) : Type 0 where
+  pub last-fine : last ≤ 7
+  pub area-fine : areaRefusal area ≡ 0
+  pub rule-fine : ruleRefusal rule ≡ 0
+  pub number-fine : neighbourRefusal number ≡ 0
 
-  -- ## In memory
+module _ {last area : ℕ} {rule : Rule} {number : ℕ} (A : Accepted last area rule number) {ss : List Pass}
+    (S : Sections last area rule number ss) where
+  pub sections-few : length ss ≤ 255
+  sections-few =
+      let most : 2 ^ (last + 1) ≤ 256 = pow-mono {i = last + 1} {j = 8} (omega (arith, A .last-fine)) in
+      omega (arith, S .size)
 
-  module _ (number-fine : neighbourRefusal number ≡ 0) where
-    each-fine : (ss : List Pass) → All (Proper area rule number) ss → All (λ s. numbersRefusal s ≡ 0) ss
-    each-fine ss = all-map (accepted-pass area rule number area-fine rule-fine number-fine)
+  each-fine : {ps : List Pass} → All (Proper area rule number) ps → All (λ s. numbersRefusal s ≡ 0) ps
+  each-fine = all-map (accepted-pass area rule number (A .area-fine) (A .rule-fine) (A .number-fine))
 
-    sections-fine : (ss : List Pass) → length ss ≤ 255 → All (Proper area rule number) ss → passesRefusal ss ≡ 0
-    unfolding passesRefusal
-    sections-fine ss l p =
-        ap₂ (λ (t : Bool) (k : ℕ). when t 16 ▷ k) (le-ltb greatestCount (length ss) (omega arith))
-        (first-fine ss (each-fine ss p))
+  pub sections-accepted : passesRefusal ss ≡ 0
+  unfolding passesRefusal
+  sections-accepted =
+      ap₂ (λ (t : Bool) (k : ℕ). when t 16 ▷ k) (le-ltb greatestCount (length ss) (omega (arith, sections-few)))
+      (first-fine ss (each-fine (S .each)))
+
+  -- ## As a file: in version 2 by either number, in version 1 by 4
+
+  module _ (e : Edition) (fits : NeighboursFit e number) where
+    storable : All (Storable e) ss
+    storable = all-map (storable-pass area rule number (A .area-fine) (A .rule-fine) e fits) (S .each)
+
+    told : length ss < 65536
+    told = omega (arith, sections-few)
+
+    pub sections-stored : (listRefusal (encode e ss) ≡ 0) × (passesOf (encode e ss) ≡ ss)
+    sections-stored = (encoded-refusal e ss told storable ∙ sections-accepted, passes-encode e ss told storable .0)
+
+  -- ## Runs
+
+  module _ (z : Shape) (plane marks queue : List ℕ)
+      (lent-fine : lentRefusal z (length plane) (length marks) (length queue) ≡ 0) where
+    -- the enhancement's plane and counts
+    abbrev Enhances : Reply → List ℕ → Type 0
+    Enhances reply plane' =
+        (plane' ≡ enhanced z plane last area rule number .plane)
+        × (reply ≡ gives (counts (chainEffect (enhanced z plane last area rule number))))
 
     -- the model's enhancement is the run of the sections
     enhancement-runs : chainEffect (enhanced z plane last area rule number)
@@ -216,60 +263,21 @@ module _ (z : Shape) (last area : ℕ) (rule : Rule) (number : ℕ) (levels-fine
     enhancement-runs =
         let whole = lent-fits z (length plane) (length marks) (length queue) lent-fine .whole in
         let room = enough z (length plane) (length marks) (length queue) lent-fine in
-        let fine = each-fine (passes last area rule number) (proper area rule number last levels-fine) in
+        let fine = each-fine (proper area rule number last (A .last-fine)) in
         start-runs z (passes last area rule number) (all-map (λ s y. ap₂ _▷_ room y) fine) plane whole
 
-    -- the sections in any order that has the same effect
-    ordered-enhances : (ss : List Pass) → length ss ≤ 255 → All (Proper area rule number) ss
-        → Same (passNeighbours z) ss (passes last area rule number) → (reply : Reply) (plane' marks' queue' : List ℕ)
+    pub memory-enhances : (reply : Reply) (plane' marks' queue' : List ℕ)
         → PassesOutcome z ss plane marks queue reply plane' marks' queue' → Enhances reply plane'
-    ordered-enhances ss l p alike reply plane' marks' queue' out =
-        let refusal : runPassesRefusal z ss plane marks queue ≡ 0 = ap₂ _▷_ lent-fine (sections-fine ss l p) in
-        let same = alike .effects plane ∙ sym enhancement-runs in (
+    memory-enhances reply plane' marks' queue' out =
+        let refusal : runPassesRefusal z ss plane marks queue ≡ 0 = ap₂ _▷_ lent-fine sections-accepted in
+        let same = S .same z .effects plane ∙ sym enhancement-runs in (
           out .plane-is ∙ ap₂ (λ (k : ℕ) (e : Effect). after k plane (e .plane)) refusal same,
           out .answer ∙ ap₂ (λ (k : ℕ) (e : Effect). replied k (counts e)) refusal same,
         )
 
-    pub passes-enhances : (reply : Reply) (plane' marks' queue' : List ℕ)
-        → PassesOutcome z (passes last area rule number) plane marks queue reply plane' marks' queue'
-        → Enhances reply plane'
-    passes-enhances =
-        ordered-enhances (passes last area rule number) (few last area rule number levels-fine .0)
-        (proper area rule number last levels-fine) (record { effects = λ p. refl })
-
-    pub recursion-in-memory : (reply : Reply) (plane' marks' queue' : List ℕ)
-        → PassesOutcome z (recursive last area rule number) plane marks queue reply plane' marks' queue'
-        → Enhances reply plane'
-    recursion-in-memory =
-        ordered-enhances (recursive last area rule number) (few last area rule number levels-fine .1)
-        (proper-recursive area rule number last levels-fine)
-        (recursion-listed (passNeighbours z) last area rule number levels-fine)
-
-  -- ## As a file: in version 2 by either number, in version 1 by 4
-
-  module _ (e : Edition) (fits : NeighboursFit e number) (number-fine : neighbourRefusal number ≡ 0) where
-    -- a file of the sections has the outcome of the list in memory
-    in-memory : (ss : List Pass) → length ss ≤ 255 → All (Proper area rule number) ss
-        → {reply : Reply} {plane' marks' queue' : List ℕ}
-        → ListOutcome z (encode e ss) plane marks queue reply plane' marks' queue'
-        → PassesOutcome z ss plane marks queue reply plane' marks' queue'
-    in-memory ss l p {reply} {plane'} {marks'} {queue'} out =
-        let fit = all-map (storable-pass area rule number area-fine rule-fine e fits) p in
-        subst (λ (T : Type 0). T)
-        (same-outcomes e ss (omega arith) fit z plane marks queue reply plane' marks' queue') out
-
-    pub list-enhances : (reply : Reply) (plane' marks' queue' : List ℕ)
-        → ListOutcome z (encode e (passes last area rule number)) plane marks queue reply plane' marks' queue'
-        → Enhances reply plane'
-    list-enhances reply plane' marks' queue' out =
-        passes-enhances number-fine reply plane' marks' queue'
-        (in-memory (passes last area rule number) (few last area rule number levels-fine .0)
-        (proper area rule number last levels-fine) out)
-
-    pub recursion-enhances : (reply : Reply) (plane' marks' queue' : List ℕ)
-        → ListOutcome z (encode e (recursive last area rule number)) plane marks queue reply plane' marks' queue'
-        → Enhances reply plane'
-    recursion-enhances reply plane' marks' queue' out =
-        recursion-in-memory number-fine reply plane' marks' queue'
-        (in-memory (recursive last area rule number) (few last area rule number levels-fine .1)
-        (proper-recursive area rule number last levels-fine) out)
+    -- a file has the outcome of the list in memory
+    pub file-enhances : (e : Edition) → NeighboursFit e number → (reply : Reply) (plane' marks' queue' : List ℕ)
+        → ListOutcome z (encode e ss) plane marks queue reply plane' marks' queue' → Enhances reply plane'
+    file-enhances e fits reply plane' marks' queue' out =
+        memory-enhances reply plane' marks' queue' (subst (λ (T : Type 0). T)
+        (same-outcomes e ss (told e fits) (storable e fits) z plane marks queue reply plane' marks' queue') out)

@@ -28,7 +28,7 @@ use Rattle.passlists.proofs.Refusals.{fine-passes, fine-pass}
 
 -- ## Sums of counts
 
--- 1,024 passes over 1,048,576 pixels at most
+-- as many passes as a list may have, over as many pixels as a plane may have, at most
 pub run-fits : (z : Shape) (ss : List Pass) (plane marks queue : List ℕ) → Runnable z ss plane marks queue
     → Countable (runEffect (passNeighbours z) ss plane)
 run-fits z ss plane marks queue r =

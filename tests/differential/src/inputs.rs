@@ -295,9 +295,12 @@ pub fn memory_passes(random: &mut Random, greatest: usize, n: usize, neighbours:
     passes
 }
 
-/// Very many passes, which come to the whole plane or to nothing, for the limit of 1,024.
+/// How many passes very many are: around the limit of 320, and far beyond.
+const MANY: [usize; 4] = [319, 320, 321, 1_024];
+
+/// Very many passes, which come to the whole plane or to nothing, for the limit.
 pub fn many_passes(random: &mut Random) -> Vec<Pass> {
-    let count = random.one_of(&[1_023, 1_024, 1_025]);
+    let count = random.one_of(&MANY);
     let rule = Rule::Plain { low: 0, high: 25_500 };
     let area = random.one_of(&[1, 1_048_576]);
     (0..count).map(|_| Pass { a: 0, b: 255, area, rule, neighbours: random.one_of(&[4, 8]) }).collect()
@@ -347,9 +350,9 @@ pub fn list_bytes(random: &mut Random, greatest: usize, n: usize, neighbours: Ne
     bytes
 }
 
-/// A list of very many passes of either version, which come to the whole plane or to nothing, for the limit of 1,024.
+/// A list of very many passes of either version, which come to the whole plane or to nothing, for the limit.
 pub fn long_list(random: &mut Random) -> Vec<u8> {
-    let count = random.one_of(&[1_023, 1_024, 1_025]);
+    let count = random.one_of(&MANY);
     let area: u32 = random.one_of(&[1, 1_048_576]);
     let version = random.one_of(&Version::BOTH);
     let numbers = random.one_of(&[&[4][..], &[8], &[4, 8]]);

@@ -3,16 +3,16 @@ use Prim.Native.Nat.{ℕ, _+_, _*_, _≤_}
 use mathlib.Core.Path.{sym, ap, subst}
 use native.Mathlib.Omega.{arith}
 use Rattle.listformat.specs.Format.{headLength}
-use Rattle.listformat.proofs.Format.{records-low}
+use Rattle.listformat.proofs.Format.{mostBytes, records-low}
 use borrow.Author.Needs.{needs}
 use Rattle.listformat.proofs.record_start.Statement.{statement}
 use Rattle.listformat.proofs.record_start.Tie as tie
 
--- all records together have at most 16,384 bytes
-low : (c : tie.After-record-length) → c .record-length .result * c .before .args .j ≤ 16384
+-- all records together are short
+low : (c : tie.After-record-length) → c .record-length .result * c .before .args .j ≤ mostBytes
 low c =
     let start = c .before in
-    subst (λ (r : ℕ). r * start .args .j ≤ 16384) (sym (c .record-length .ensures))
+    subst (λ (r : ℕ). r * start .args .j ≤ mostBytes) (sym (c .record-length .ensures))
     (records-low (start .args .edition) (start .args .j) (start .pre))
 
 record-length-requires : tie.Need-record-length-requires

@@ -3,7 +3,7 @@
 use crate::affine::affine;
 use crate::chance::random_any;
 use crate::faults::{faulty, faulty_last, faulty_records, output_test, Test};
-use crate::list::{list_head_tests, random_lists, EXAMPLE};
+use crate::list::{list_head_tests, random_lists, EXAMPLE, LENGTHS};
 use crate::slopes::{form_test, other_rules_tests, record_slopes_test, record_tests};
 use crate::sound::sound;
 use crate::versions::{by, head_tests, list_of, neighbours_test, odd_lists, record_2_tests, set_bytes};
@@ -54,7 +54,7 @@ fn outputs(version: Version) -> Vec<Case> {
     cases
 }
 
-/// 1,024 passes, each another one, and 1,025.
+/// Many passes, each another one, with outputs of the length that they need and of none.
 fn many(version: Version) -> Vec<Case> {
     let pass = |number: usize| {
         let [low, high] = [number % 256, 255 - number / 256];
@@ -65,10 +65,13 @@ fn many(version: Version) -> Vec<Case> {
         };
         Pass { a: low.min(high) as u8, b: low.max(high) as u8, area: 1_023 * number as u32 + 1, rule, neighbours: 4 }
     };
-    let passes: Vec<Pass> = (0..1_025).map(pass).collect();
-    let whole = exact(version, &passes[..1_024]);
-    let nothing_lent = Case { output: 0, ..whole.clone() };
-    vec![whole, nothing_lent, Case { output: 0, ..exact(version, &passes) }]
+    let passes: Vec<Pass> = (0..1_024).map(pass).collect();
+    let mut cases = Vec::new();
+    for length in LENGTHS {
+        let case = exact(version, &passes[..length]);
+        cases.extend([Case { output: 0, ..case.clone() }, case]);
+    }
+    cases
 }
 
 /// Eight neighbours in some record of version 2, which has no place in version 1, with outputs long and short.
@@ -85,7 +88,7 @@ fn eights() -> Vec<Case> {
         let case = exact(Version::Two, &passes);
         cases.extend([Case { output: 0, ..case.clone() }, Case { output: case.output - 1, ..case.clone() }, case]);
     }
-    let last = [vec![EXAMPLE; 1_023], vec![by(8, EXAMPLE)]].concat();
+    let last = [vec![EXAMPLE; 319], vec![by(8, EXAMPLE)]].concat();
     cases.push(convert(list_bytes_of(Version::Two, &last), 0));
     cases
 }

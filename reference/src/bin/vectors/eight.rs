@@ -3,7 +3,7 @@
 use crate::affine::affine;
 use crate::chain::chains;
 use crate::chance::{random_any, random_enhance, random_pass_over, random_sides, random_wires};
-use crate::list::{list, random_lists, EXAMPLE, STILL};
+use crate::list::{list, random_lists, EXAMPLE, LENGTHS, STILL};
 use crate::neighbours;
 use crate::passes::passes;
 use crate::sound::{enhance_grey, house_grey, pass_on, ruled, FREE, ISLANDS};
@@ -178,8 +178,9 @@ fn in_memory(random: &mut Random) -> Vec<Case> {
         let settings = Settings { last_level: 7, area: 2, rule, neighbours: 8 };
         cases.push(passes(w, w, &level_by_level(&settings), &plane));
     }
-    cases.push(passes(2, 2, &[STILL, by(8, STILL)].repeat(512), &[7, 1, 1, 7]));
-    cases.push(passes(2, 2, &[by(8, STILL); 1_025], &[7, 1, 1, 7]));
+    for length in LENGTHS {
+        cases.push(passes(2, 2, &[STILL, by(8, STILL)].repeat(512)[..length], &[7, 1, 1, 7]));
+    }
     for (w, h, _, mut list) in random_lists(random, 30, random_any) {
         let plane = random_wires(random, w, w * h);
         list.iter_mut().for_each(|pass| pass.neighbours = random.one_of(&[4, 8]));

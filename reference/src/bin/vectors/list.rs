@@ -13,6 +13,9 @@ pub const EXAMPLE: Pass = Pass { a: 0, b: 127, area: 1, rule: Rule::Plain { low:
 /// A pass that changes no plane.
 pub const STILL: Pass = Pass { a: 7, b: 7, ..EXAMPLE };
 
+/// Numbers of passes around the greatest, 320, and one far beyond.
+pub const LENGTHS: [usize; 4] = [319, 320, 321, 1_024];
+
 /// Example E's plane.
 pub const PARTS: [u8; 5] = [10, 20, 200, 10, 10];
 
@@ -61,6 +64,10 @@ pub fn list(w: usize, h: usize, passes: &[Pass], plane: &[u8]) -> Case {
 pub fn cases() -> Vec<Case> {
     let mut random = Random::new(60);
     let mut cases = written();
+    // Every pass finds a component that it keeps back, or nothing.
+    for length in LENGTHS {
+        cases.extend([[7; 4], [1, 2, 3, 4]].map(|plane| list(2, 2, &vec![STILL; length], &plane)));
+    }
     for (w, h, plane, passes) in random_lists(&mut random, 80, random_rule) {
         cases.push(list(w, h, &passes, &plane));
     }
@@ -78,9 +85,6 @@ fn written() -> Vec<Case> {
         list(5, 1, &[], &PARTS),
         list(2, 1, &level_by_level(&free), &[10, 20]),
         list(5, 1, &level_by_level(&Settings { last_level: 5, area: 2, ..free }), &PARTS),
-        list(2, 2, &[STILL; 1_024], &[1, 2, 3, 4]),
-        list(2, 2, &[STILL; 1_024], &[7; 4]),
-        list(2, 2, &[STILL; 1_025], &[1, 2, 3, 4]),
         list(5, 4, &counted(), &ISLANDS),
         list(8, 8, &level_by_level(&Settings::HOUSE), &[100; 64]),
         list(8, 8, &level_by_level(&Settings { area: 65, ..Settings::HOUSE }), &[100; 64]),

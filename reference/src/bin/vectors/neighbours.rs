@@ -77,7 +77,7 @@ fn in_memory() -> Vec<Case> {
     let sound = passes(2, 2, &[8, 4].map(|neighbours| Pass { rule, neighbours, ..EXAMPLE }), &CORNERS);
     let mut earlier = size_tests();
     earlier.extend([plane_test(), memory_test()]);
-    earlier.push((16, vec![|case| case.bytes = case.bytes.repeat(513)[..PASS * 1_025].to_vec()]));
+    earlier.push((16, vec![|case| case.bytes = case.bytes.repeat(161)[..PASS * 321].to_vec()]));
     earlier.extend(earlier_tests::<0>());
     let mut cases = faulty_last(&sound, &earlier, &pass_neighbours_test::<0>());
     cases.extend(faulty_last(&sound, &earlier_tests::<PASS>(), &pass_neighbours_test::<PASS>()));

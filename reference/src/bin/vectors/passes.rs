@@ -2,7 +2,7 @@
 
 use crate::chance::random_rule;
 use crate::faults::{faulty, faulty_records, memory_test, plane_test, size_tests, Test};
-use crate::list::{counted, random_lists, EXAMPLE, PARTS, STILL};
+use crate::list::{counted, random_lists, EXAMPLE, LENGTHS, PARTS, STILL};
 use crate::sound::{sound, ISLANDS};
 use mlhe_reference::cases::{passes_bytes, Case, Kind};
 use mlhe_reference::random::Random;
@@ -20,13 +20,13 @@ pub fn cases() -> Vec<Case> {
         passes(5, 1, &[], &PARTS),
         Case { marks: 4, ..passes(5, 1, &[], &PARTS) },
         passes(2, 1, &level_by_level(&free), &[10, 20]),
-        passes(2, 2, &[STILL; 1_024], &[1, 2, 3, 4]),
-        passes(2, 2, &[STILL; 1_024], &[7; 4]),
-        passes(2, 2, &[STILL; 1_025], &[1, 2, 3, 4]),
         passes(5, 4, &counted(), &ISLANDS),
         passes(8, 8, &level_by_level(&Settings::HOUSE), &[100; 64]),
         passes(8, 8, &level_by_level(&Settings { area: 65, ..Settings::HOUSE }), &[100; 64]),
     ];
+    for length in LENGTHS {
+        cases.extend([[7; 4], [1, 2, 3, 4]].map(|plane| passes(2, 2, &vec![STILL; length], &plane)));
+    }
     let mut random = Random::new(70);
     for (w, h, plane, list) in random_lists(&mut random, 60, random_rule) {
         cases.push(passes(w, h, &list, &plane));

@@ -103,7 +103,7 @@ fn in_memory() -> Vec<Case> {
     let sound = passes(2, 2, &two(), &[10, 20, 200, 10]);
     let mut earlier = size_tests();
     earlier.extend([plane_test(), memory_test()]);
-    earlier.push((16, vec![|case| case.bytes = case.bytes.repeat(513)[..PASS * 1_025].to_vec()]));
+    earlier.push((16, vec![|case| case.bytes = case.bytes.repeat(161)[..PASS * 321].to_vec()]));
     earlier.extend(record_tests::<0>());
     let mut cases = faulty_last(&sound, &earlier, &record_slopes_test::<0>());
     cases.extend(faulty_last(&sound, &record_tests::<PASS>(), &record_slopes_test::<PASS>()));

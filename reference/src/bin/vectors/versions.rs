@@ -4,7 +4,7 @@ use crate::affine::affine;
 use crate::chance::{random_any, random_wires};
 use crate::eight::PICTURES;
 use crate::faults::{faulty_before, faulty_last, faulty_records, memory_test, plane_test, size_tests, Test};
-use crate::list::{random_lists, EXAMPLE, PARTS, STILL};
+use crate::list::{random_lists, EXAMPLE, LENGTHS, PARTS, STILL};
 use crate::neighbours::CORNERS;
 use crate::passes::passes;
 use crate::slopes::{form_test, other_rules_tests, record_slopes_test, record_tests};
@@ -38,6 +38,7 @@ fn list_2(w: usize, h: usize, passes: &[Pass], plane: &[u8]) -> Case {
 
 pub fn cases() -> Vec<Case> {
     let mut cases = written();
+    cases.extend(LENGTHS.map(many));
     cases.extend(pictured());
     cases.extend(mixed(&mut Random::new(130)));
     let over_corners = |bytes: Vec<u8>| sound(Kind::List, 2, 2, bytes, CORNERS.to_vec());
@@ -48,11 +49,15 @@ pub fn cases() -> Vec<Case> {
     cases
 }
 
-/// Example Q, example J with eight, no passes, and the greatest numbers of passes, of which the last one tells.
+/// Lists of many passes, of which the last one tells.
+fn many(length: usize) -> Case {
+    list_2(2, 2, &[vec![STILL; length - 1], vec![by(8, EXAMPLE)]].concat(), &CORNERS)
+}
+
+/// Example Q, example J with eight, no passes, and an enhancement.
 fn written() -> Vec<Case> {
     let (w, crossing) = drawn(PICTURES[14]);
     let settings = Settings { last_level: 7, area: 2, rule: EXAMPLE.rule, neighbours: 8 };
-    let many = |count: usize| [vec![STILL; count - 1], vec![by(8, EXAMPLE)]].concat();
     vec![
         list_2(5, 1, &[EXAMPLE], &PARTS),
         list_2(5, 1, &[by(8, EXAMPLE)], &PARTS),
@@ -62,8 +67,6 @@ fn written() -> Vec<Case> {
         list_2(2, 2, &[by(8, BENT), EXAMPLE], &CORNERS),
         list_2(2, 2, &[EXAMPLE, by(8, BENT)], &CORNERS),
         list_2(w, w, &level_by_level(&settings), &crossing),
-        list_2(2, 2, &many(1_024), &CORNERS),
-        list_2(2, 2, &many(1_025), &CORNERS),
         // A list of no passes asks for marks and queue all the same.
         Case { marks: 4, ..list_2(5, 1, &[], &PARTS) },
     ]
@@ -131,7 +134,7 @@ pub fn odd_lists(version: Version) -> Vec<Vec<u8>> {
     let two = list_bytes_of(version, &[EXAMPLE, BENT]);
     lists.extend([0, 4, 5].map(|length| two[..length].to_vec()));
     let longer = [&two[..], &[0]].concat();
-    for (at, bytes) in [(2, &b"Q"[..]), (3, b"\x00"), (3, b"\x03"), (4, b"\x01"), (5, b"\x03"), (5, b"\x01\x04")] {
+    for (at, bytes) in [(2, &b"Q"[..]), (3, b"\x00"), (3, b"\x03"), (4, b"\x01"), (5, b"\x03"), (5, b"\x41\x01")] {
         lists.push(with(&longer, at, bytes));
     }
     // Three records of version 2 are as long as four of version 1.

@@ -1,8 +1,9 @@
--- `cases::records::passes_of` is safe and ends: each of the 1,025 records starts below 60,000, and nothing else has to
--- hold from turn to turn. The measure is the number of records that are left. Assumes nothing.
+-- `cases::records::passes_of` is safe and ends: each of the records starts below 60,000, and nothing else has to hold
+-- from turn to turn. The measure is the number of records that are left. Assumes nothing.
 use Prim.Native.Nat.{_-_}
 use native.Mathlib.Omega.{arith}
 use borrow.Author.Needs.{needs}
+use Rattle.passarrays.specs.Arrays.{arrayLength}
 use Rattle.cases.proofs.records.passes_of.Statement.{statement}
 use Rattle.cases.proofs.records.passes_of.Tie as tie
 
@@ -10,7 +11,7 @@ abbrev Inv-loop : tie.InvT-loop
 Inv-loop bytes list₀ j₀ list j = Unit {0}
 
 abbrev μ-loop : tie.MeasureT-loop
-μ-loop bytes list₀ j₀ list j = 1025 - j
+μ-loop bytes list₀ j₀ list j = arrayLength - j
 
 pass-at-requires : tie.Need-pass-at-requires Inv-loop μ-loop
 pass-at-requires c κs = search needs
