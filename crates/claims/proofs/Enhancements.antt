@@ -1,26 +1,24 @@
 -- The passes of every accepted settings are a list that does what the enhancement does: `enhancements-are-lists`. By the
 -- laws on its sections in passlists, and by what an accepted enhancement leaves. Assumes nothing.
-use Prim.Native.Nat.{ℕ, _*_, _≤_, _<_}
+use Prim.Native.Nat.{ℕ, _<_}
 use mathlib.Core.Path.{_≡_, sym, ap, subst, _∙_}
 use mathlib.Core.Logic.{⊎-elim}
-use mathlib.Core.Bool.{not, true, _||_}
-use mathlib.Core.List.{List, []}
+use mathlib.Core.Bool.{not, _||_}
+use mathlib.Core.List.{List}
 use native.Mathlib.Omega.{arith}
-use lib.ListN.{length, take}
 use lib.Dec.{eqb}
 use borrow.Author.Tests.{eqb-true, not-false}
-use Rattle.planes.specs.Shapes.{pixels, neighbours}
+use Rattle.planes.specs.Shapes.{neighbours}
 use Rattle.planes.specs.declared.Shape.{Shape}
 use Rattle.planes.specs.Replies.{Reply, gives}
 use Rattle.planes.proofs.Refusals.{when-none}
 use Rattle.planes.proofs.Tests.{or-cases}
 use Rattle.colours.specs.Frames.{intensity, recolour}
-use Rattle.colours.specs.Calls.{IntensityOutcome, RecolourOutcome}
-use Rattle.tones.specs.Refusals.{ruleRefusal}
+use Rattle.colours.specs.Calls.{IntensityOutcome}
 use Rattle.model.specs.declared.Pass.{Pass}
 use Rattle.model.specs.Effects.{counts}
-use Rattle.model.specs.Calls.{areaRefusal, neighbourRefusal, chainEffect}
-use Rattle.model.specs.Enhancement.{passes, recursive, enhanced}
+use Rattle.model.specs.Calls.{neighbourRefusal, chainEffect}
+use Rattle.model.specs.Enhancement.{enhanced}
 use Rattle.model.proofs.Chains.{Fine}
 use Rattle.levels.specs.declared.Settings.{Settings}
 use Rattle.levels.proofs.Refusals.{few-levels, settings-fit}

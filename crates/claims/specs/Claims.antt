@@ -402,9 +402,9 @@ pub record EnhancementsAreLists : Type 0 where
 -- numbers of a rule, in lists and from C, are read as before the affine rule was there, unless their code is 2; these
 -- got 17. A pass and an enhancement by 4 neighbours, and a list in a file that does not name version 2, have the
 -- effects and the refusals that they had before there was a choice: those by the four neighbours. Lists that name
--- version 2 got 15, if they were long enough to name a version. Lists of few passes, in files of either version and in
--- memory, are refused as when a list might have 1,024 of them, to be run and to be converted; those of more get 16,
--- where their mark and version are right, whatever their records and their length
+-- version 2 got 15, if they were long enough to name a version. Lists of no more passes than they may have, in files of
+-- either version and in memory, to be run and to be converted, get the refusals that they got when they might have
+-- 1,024; those of more get 16, where their mark and version are right, whatever their length and their records
 pub record AsBefore : Type 0 where
   pub of-read : (bytes : List ℕ) (limit : ℕ) → Uncommented bytes
       → readReply bytes limit ≡ uncommentedReply bytes limit

@@ -38,7 +38,7 @@ use Rattle.conversion.proofs.Refusals.{Convertible, convertible, conver
 
 -- ## Passes that both editions can store
 
-pub wider : {s : Pass} → Storable First s → Storable Second s
+wider : {s : Pass} → Storable First s → Storable Second s
 wider f = record {
   a-fits = f .a-fits;
   b-fits = f .b-fits;

@@ -19,7 +19,6 @@ use Rattle.model.specs.declared.Pass.{Pass}
 use Rattle.model.specs.Neighbourhoods.{passNeighbours}
 use Rattle.model.specs.Effects.{Effect, counts, runEffect}
 use Rattle.model.specs.Runs.{All}
-use Rattle.model.proofs.Recursion.{all-map}
 use Rattle.listformat.specs.declared.Edition.the-variants.{First, Second}
 use Rattle.listformat.specs.Format.{other, editionOf, passesOf, encode, Bytes, Storable}
 use Rattle.listformat.proofs.Format.{passes-encode}
@@ -27,7 +26,7 @@ use Rattle.listchecks.specs.Refusals.{listRefusal, placesRefusal}
 use Rattle.listchecks.proofs.Refusals.{encoded-refusal}
 use Rattle.conversion.specs.Conversion.{converted, convertRefusal, ConvertOutcome}
 use Rattle.conversion.proofs.Refusals.{convertible}
-use Rattle.conversion.proofs.Editions.{wider, converted-passes, converted-sound}
+use Rattle.conversion.proofs.Editions.{stored, converted-passes, converted-sound}
 use Rattle.passlists.specs.Outcomes.{slicesRefusal, runListRefusal, ListOutcome}
 
 -- two runs of lists with one refusal and the same passes answer and leave the same
@@ -69,7 +68,7 @@ pub editions-alike : (ss : List Pass) → length ss < 65536 → All (Storable Fi
     → ListOutcome z (encode Second ss) plane marks′ queue′ reply₂ plane₂ marks₂ queue₂
     → (reply₁ ≡ reply₂) × (plane₁ ≡ plane₂)
 editions-alike ss told fit z =
-    let wide = all-map (λ s f. wider f) fit in
+    let wide = stored Second ss fit in
     same-runs z (encode First ss) (encode Second ss)
     (encoded-refusal First ss told fit ∙ sym (encoded-refusal Second ss told wide))
     (passes-encode First ss told fit .0 ∙ sym (passes-encode Second ss told wide .0))
