@@ -68,7 +68,8 @@ pub struct Enhance {
 /// is printed has this form too.
 ///
 /// List files of version 1 and 2 are read. Version 1 means four neighbours; in version 2 each pass has its own number.
-/// A list is written in version 1 where all its passes have four neighbours, and in version 2 otherwise.
+/// A list is written in version 1 where all its passes have four neighbours, and in version 2 otherwise. It has at most
+/// 320 passes, and an enhancement 1 to 255, by its last level.
 #[derive(Args)]
 #[command(args_conflicts_with_subcommands = true, disable_help_subcommand = true)]
 pub struct List {

@@ -54,7 +54,7 @@ pub record ListRefusals : Type 0 where
   pub other-version : listRefusal (77 ∷ 76 ∷ 80 ∷ 1 ∷ 1 ∷ 0 ∷ 0 ∷ []) ≡ 15
   pub mark-before-count : listRefusal (77 ∷ 76 ∷ 81 ∷ 1 ∷ 0 ∷ 65 ∷ 1 ∷ []) ≡ 15
   -- 16: the count or the length
-  pub many : listRefusal (77 ∷ 76 ∷ 80 ∷ 1 ∷ 0 ∷ 1 ∷ 4 ∷ []) ≡ 16
+  pub many : listRefusal (77 ∷ 76 ∷ 80 ∷ 1 ∷ 0 ∷ 65 ∷ 1 ∷ []) ≡ 16
   pub short : listRefusal (head 1) ≡ 16
   pub long : listRefusal (head 0 ++ recordQ) ≡ 16
   pub length-before-record : listRefusal (head 2 ++ set recordQ 2 3) ≡ 16
