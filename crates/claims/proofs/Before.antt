@@ -70,8 +70,9 @@ pass-before z s plane e = ap (λ (near : Near). passEffect (always near) s plane
 -- the limit does not matter to lists that keep to it
 within-both : (m n : ℕ) (bs : List ℕ) → countOf bs ≤ m → countOf bs ≤ n → listWithin m bs ≡ listWithin n bs
 within-both m n bs h k =
-    ap (λ (t : Bool). (when (ltb (length bs) headLength) 16 ▷ when (misnamed bs) 15
-    ▷ when (t || not (eqb (length bs) (recordStart (editionOf bs) (countOf bs)))) 16) ▷ firstRefusal (recordRefusals bs))
+    let odd = not (eqb (length bs) (recordStart (editionOf bs) (countOf bs))) in
+    ap (λ (t : Bool). (when (ltb (length bs) headLength) 16 ▷ when (misnamed bs) 15 ▷ when (t || odd) 16)
+    ▷ firstRefusal (recordRefusals bs))
     (le-ltb m (countOf bs) h ∙ sym (le-ltb n (countOf bs) k))
 
 pub few-listed : (list : List ℕ) → countOf list ≤ greatestCount → listRefusal list ≡ listWithin greatestBefore list

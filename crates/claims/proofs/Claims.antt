@@ -52,8 +52,8 @@ use Rattle.claims.specs.Claims.{AsListed, ReadAsListed, Writes, Demand1,
 use Rattle.claims.specs.Claims.{Demand3Holds, passesChain, Chained, ListsAreChains, Editions, AsBefore}
 use Rattle.claims.proofs.ShapePreserving.{fine-shapes, shapes-fine, grey-file}
 use Rattle.claims.proofs.Before.{pass-before, numbers-before, refusal-before, list-before, second-before}
-use Rattle.claims.proofs.Before.{enhance-before, settings-before, few-listed, few-passes, many-listed, many-passes}
-use Rattle.claims.proofs.Before.{convert-by}
+use Rattle.claims.proofs.Before.{enhance-before, settings-before, few-listed, few-passes, many-listed}
+use Rattle.claims.proofs.Before.{many-passes, convert-by}
 
 -- ## Demand 1
 

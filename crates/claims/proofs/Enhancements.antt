@@ -1,4 +1,4 @@
--- The passes of every accepted settings are a list that does what the enhancement does: `enhancements-are-lists`. By the
+-- The passes of all accepted settings are a list that does what the enhancement does: `enhancements-are-lists`. By the
 -- laws on its sections in passlists, and by what an accepted enhancement leaves. Assumes nothing.
 use Prim.Native.Nat.{ℕ, _<_}
 use mathlib.Core.Path.{_≡_, sym, ap, subst, _∙_}

@@ -1,6 +1,6 @@
--- What was there before passes and settings had a number of neighbours, before lists had a second version, and when they
--- might have 1,024 passes. The laws that those by 4 neighbours, lists of version 1 and lists of few passes are as before
--- need this; nothing else does. Definitions only.
+-- What was there before passes and settings had a number of neighbours, before lists had a second version, and when
+-- they might have 1,024 passes. The laws that those by 4 neighbours, lists of version 1 and lists of few passes are as
+-- before need this; nothing else does. Definitions only.
 --
 --   numbersBefore    5 to 8, 18, of a pass
 --   settingsBefore   9, 6, 7, 8, 18, of settings
