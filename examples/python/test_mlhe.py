@@ -239,6 +239,7 @@ class Refusals(unittest.TestCase):
                 (16, b"MLP\1\0\x41\1" + good[7:] * 321), (17, good[:9] + b"\3" + good[10:]), \
                 (17, good[:10] + b"\1" + good[11:]), (18, good[:9] + b"\2" + good[10:]), (16, good[:4] + second[4:]), \
                 (16, second[:4] + good[4:]), (16, b"MLP\2\0\x41\1" + second[7:] * 321), (17, second[:-1] + b"\1"), \
+                (16, b"MLP\1\0\0\4" + good[7:] * 1_024), (16, b"MLP\2\0\0\4" + second[7:] * 1_024), \
                 (19, second[:-4] + b"\5\0\0\0"), (17, second[:-4] + b"\5\1\0\0"), \
                 (18, second[:9] + b"\2" + second[10:-4] + b"\5\0\0\0"):
             self.refused(number, mlhe.run_list, plane, data)
