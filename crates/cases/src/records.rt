@@ -70,7 +70,7 @@ fn pass_at(bytes: &[u8], i: usize) -> Pass
     }
 }
 
-// The passes of all records, and others after them.
+// The passes of the first records, as many as an array has room for; where there are fewer, others after them.
 pub fn passes_of(bytes: &[u8]) -> [Pass; ROOM] {
     let first = pass_at(bytes, 0);
     let mut list = [first; ROOM];

@@ -45,7 +45,7 @@ pub by-four : (z : Shape) → adjacency z 4 ≡ neighbours z
 by-four z = adjacency-other z 4 refl
 
 -- a refusal that does not apply, at the end of an order
-last-none : (x y : ℕ) → y ≡ 0 → x ▷ y ≡ x
+pub last-none : (x y : ℕ) → y ≡ 0 → x ▷ y ≡ x
 last-none zero y e = e
 last-none (suc x) y e = refl
 

@@ -28,7 +28,7 @@ use Rattle.listformat.specs.declared.Edition.the-variants.{First, Second}
 use Rattle.listformat.specs.Format.{NeighboursFit}
 use Rattle.passlists.proofs.Recursion.{Sections, by-levels, by-recursion, Accepted, sections-few, sections-accepted}
 use Rattle.passlists.proofs.Recursion.{sections-stored, memory-enhances, file-enhances}
-use Rattle.claims.specs.Claims.{HasPlace, AsEnhanced, StandsFor, EnhancementsAreLists}
+use Rattle.claims.specs.Claims.{AsEnhanced, StoredIn, StandsFor, EnhancementsAreLists}
 use Rattle.claims.proofs.Claims.{filled, recolours, enhances, enhanced-fine}
 
 -- a run from the frame's intensity that came to the model's enhancement did what an accepted enhancement did
@@ -77,27 +77,33 @@ module _ (t : Settings) (fine : settingsRefusal t ≡ 0) where
         number-fine = each .1 .1 .1;
       }
 
-  fits : (e : Edition) → HasPlace e (t .neighbours) → NeighboursFit e (t .neighbours)
-  fits First four = four
-  fits Second any = byte (t .neighbours) (accepted .number-fine)
+  module _ {ss : List Pass} (S : Sections (t .last) (t .area) (t .rule) (t .neighbours) ss) where
+    stored-in : (e : Edition) → NeighboursFit e (t .neighbours) → StoredIn e t ss
+    stored-in e fits =
+        let file = sections-stored accepted S e fits in
+        record {
+          accepted = file .0;
+          read = file .1;
+          runs = record {
+            does = λ z {first = first} I O {marks₁} {queue₁} {last} {marks₂} {queue₂} {reply} sound R.
+                as-enhanced t z I O
+                (file-enhances accepted S z first marks₁ queue₁ sound e fits reply last marks₂ queue₂ R);
+          };
+        }
 
-  stands : {ss : List Pass} → Sections (t .last) (t .area) (t .rule) (t .neighbours) ss → StandsFor t ss
-  stands S = record {
-    size = S .size;
-    few = sections-few accepted S;
-    within = omega (arith, sections-few accepted S);
-    accepted = sections-accepted accepted S;
-    stored = λ e place. sections-stored accepted S e (fits e place);
-    in-memory = record {
-      does = λ z {first = first} I O {marks₁} {queue₁} {last} {marks₂} {queue₂} {reply} sound R.
-          as-enhanced t z I O (memory-enhances accepted S z first marks₁ queue₁ sound reply last marks₂ queue₂ R);
-    };
-    in-file = λ e place. record {
-      does = λ z {first = first} I O {marks₁} {queue₁} {last} {marks₂} {queue₂} {reply} sound R.
-          as-enhanced t z I O
-          (file-enhances accepted S z first marks₁ queue₁ sound e (fits e place) reply last marks₂ queue₂ R);
-    };
-  }
+    stands : StandsFor t ss
+    stands = record {
+      size = S .size;
+      few = sections-few accepted S;
+      within = omega (arith, sections-few accepted S);
+      accepted = sections-accepted accepted S;
+      runs = record {
+        does = λ z {first = first} I O {marks₁} {queue₁} {last} {marks₂} {queue₂} {reply} sound R.
+            as-enhanced t z I O (memory-enhances accepted S z first marks₁ queue₁ sound reply last marks₂ queue₂ R);
+      };
+      version-2 = stored-in Second (byte (t .neighbours) (accepted .number-fine));
+      version-1 = λ four. stored-in First four;
+    }
 
 pub enhancements-are-lists : EnhancementsAreLists
 enhancements-are-lists = record {

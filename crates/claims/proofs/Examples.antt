@@ -1,10 +1,10 @@
 -- The worked examples hold, by computation: `starred`; and so do the hypotheses of demand 3 for one chain of calls:
 -- `demand-3-met`. Assumes nothing.
-use Prim.Native.Nat.{ℕ, suc, _<_}
-use mathlib.Core.Path.{_≡_, refl, sym, ap₂, subst, _∙_}
+use Prim.Native.Nat.{ℕ, suc, _≤_, _<_}
+use mathlib.Core.Path.{_≡_, refl, ap₂, _∙_}
 use mathlib.Core.List.{List, [], _∷_, map}
 use native.Mathlib.Omega.{arith}
-use lib.ListN.{length}
+use lib.ListN.{length, length-map}
 use Rattle.planes.specs.Lists.{from}
 use Rattle.planes.specs.Refusals.{_▷_, sizeRefusal, sideRefusal, pixelRefusal, lengthRefusal, roomRefusal}
 use Rattle.planes.specs.Refusals.{outputRefusal}
@@ -12,6 +12,8 @@ use Rattle.planes.specs.Shapes.{neighbours, adjacency, shapeRefusal, lentRefusa
 use Rattle.planes.specs.Neighbours.{four, eight, linked, component, first}
 use Rattle.planes.specs.Extrema.{flat, extreme, extremes}
 use Rattle.planes.proofs.Lists.{beyond-refl}
+use Rattle.planes.proofs.Counts.{length-from}
+use Rattle.planes.proofs.Refusals.{output-none}
 use Rattle.plain.specs.Plain.{plainTone, plainKept}
 use Rattle.limited.specs.Limited.{clipped, limitedTone}
 use Rattle.points.specs.Points.{leastFrom, nextPoint, pointsAfter}
@@ -51,6 +53,7 @@ use Rattle.printing.specs.Printing.{enhancedFrame}
 use Rattle.frames.specs.Program.{programOutput}
 use Rattle.claims.specs.Examples.{on, onEight, PassExamples, Eight, ExtremaExamples, timesE, Many, Starred}
 use Rattle.claims.specs.Examples.{Demand3Met}
+use Rattle.claims.proofs.Before.{last-none}
 
 pass-examples : PassExamples
 unfolding passNeighbours adjacency neighbours four linked component first plainTone plainKept clipped limitedTone tone
@@ -122,44 +125,26 @@ times-fit (j ∷ js) = all-more {s = on 0 127 1 anyRatio}
     })
     (times-fit js)
 
--- by the number that they get in memory; there is room for the conversion, or they get one
-many : (count number : ℕ) → length (timesE count) ≡ count → count < 65536 → passesRefusal (timesE count) ≡ number
-    → ((e : Edition) → number ▷ outputRefusal 16391 (recordStart (other e) count) ≡ number) → Many count number
-many count number size few is room =
-    let told = subst (_< 65536) (sym size) few in
+times-length : (count : ℕ) → length (timesE count) ≡ count
+times-length count = length-map (from 0 count) (λ j. on 0 127 1 anyRatio) ∙ length-from 0 count
+
+-- there is room for their conversion
+room : (count : ℕ) → count ≤ 1024 → (e : Edition) → outputRefusal 16391 (recordStart (other e) count) ≡ 0
+room count few First = output-none 16391 (recordStart Second count) (omega (arith, few))
+room count few Second = output-none 16391 (recordStart First count) (omega (arith, few))
+
+-- what they get in memory, they get in a file of either edition and to be converted
+many : (count number : ℕ) → count ≤ 1024 → passesRefusal (timesE count) ≡ number → Many count number
+many count number few is =
+    let told : length (timesE count) < 65536 = omega (arith, times-length count, few) in
     let fit = times-fit (from 0 count) in
     record {
       in-memory = is;
       in-file = λ e. encoded-refusal e (timesE count) told (stored e (timesE count) fit) ∙ is;
       to-convert = λ e. encoded-converts (timesE count) told fit e 16391
-          ∙ ap₂ (λ (k n : ℕ). k ▷ outputRefusal 16391 (recordStart (other e) n)) is size ∙ room e;
+          ∙ ap₂ (λ (k n : ℕ). k ▷ outputRefusal 16391 (recordStart (other e) n)) is (times-length count)
+          ∙ last-none number (outputRefusal 16391 (recordStart (other e) count)) (room count few e);
     }
-
-room-319 : (e : Edition) → outputRefusal 16391 (recordStart (other e) 319) ≡ 0
-unfolding outputRefusal
-room-319 First = refl
-room-319 Second = refl
-
-room-320 : (e : Edition) → outputRefusal 16391 (recordStart (other e) 320) ≡ 0
-unfolding outputRefusal
-room-320 First = refl
-room-320 Second = refl
-
-many-319 : Many 319 0
-unfolding areaRefusal ruleRefusal neighbourRefusal numbersRefusal passesRefusal
-many-319 = many 319 0 refl (omega arith) refl room-319
-
-many-320 : Many 320 0
-unfolding areaRefusal ruleRefusal neighbourRefusal numbersRefusal passesRefusal
-many-320 = many 320 0 refl (omega arith) refl room-320
-
-many-321 : Many 321 16
-unfolding passesRefusal
-many-321 = many 321 16 refl (omega arith) refl (λ e. refl)
-
-many-1024 : Many 1024 16
-unfolding passesRefusal
-many-1024 = many 1024 16 refl (omega arith) refl (λ e. refl)
 
 pub starred : Starred
 unfolding shapeRefusal sizeRefusal sideRefusal pixelRefusal lengthRefusal passNeighbours adjacency neighbours four eight
@@ -170,7 +155,7 @@ unfolding shapeRefusal sizeRefusal sideRefusal pixelRefusal lengthRefusal passNe
     roomRefusal areaRefusal ruleRefusal neighbourRefusal numbersRefusal lentRefusal passRefusal call chain
     section level levels passes callOf enhanced
     editionOf passAt passesOf malformed misnamed miscounted headRefusal encodeFields encodePass encodePasses encode
-    recordRefusal recordRefusals listRefusal placesRefusal outputRefusal converted convertRefusal
+    recordRefusal recordRefusals listRefusal passesRefusal placesRefusal outputRefusal converted convertRefusal
     isDigit isWhite isSign endsComment pieces gap mark numeral field headerWith header
     maxvalRefusal rasterRefusal trailingRefusal frameRefusal readAnswer decimal heading enhancedFrame programOutput
 starred = record {
@@ -204,10 +189,10 @@ starred = record {
   Q-short = refl;
   J-twenty = refl;
   Y-five = refl;
-  many-319 = many-319;
-  many-320 = many-320;
-  many-321 = many-321;
-  many-1024 = many-1024;
+  many-319 = many 319 0 (omega arith) refl;
+  many-320 = many 320 0 (omega arith) refl;
+  many-321 = many 321 16 (omega arith) refl;
+  many-1024 = many 1024 16 (omega arith) refl;
   W-is = refl;
   W-accepted = refl;
   W = refl;

@@ -349,11 +349,6 @@ pub record Editions : Type 0 where
 
 -- ## An enhancement is a list
 
--- an edition has a place for a number of neighbours: version 1 for 4, version 2 for any
-abbrev pub HasPlace : Edition → ℕ → Type 0
-HasPlace First number = number ≡ 4
-HasPlace Second number = Unit {0}
-
 -- a run from a frame's intensity answered and left what an enhancement of the frame answered and left: both counts and
 -- the plane; and recoloured from that plane the frame has the bytes of the enhancement's output
 pub record AsEnhanced (z : Shape) (frame values plane' output' : List ℕ) (reply : Reply) (last : List ℕ) : Type 0 where
@@ -375,19 +370,24 @@ pub record RunsAs (t : Settings)
       → {marks₁ queue₁ last marks₂ queue₂ : List ℕ} {reply : Reply} → slicesRefusal z first marks₁ queue₁ ≡ 0
       → Run z first marks₁ queue₁ reply last marks₂ queue₂ → AsEnhanced z frame values plane' output' reply last
 
+-- the file of some passes in an edition is not refused, is read as these passes, and runs as the enhancement does
+pub record StoredIn (e : Edition) (t : Settings) (ss : List Pass) : Type 0 where
+  pub accepted : listRefusal (encode e ss) ≡ 0
+  pub read : passesOf (encode e ss) ≡ ss
+  pub runs : RunsAs t (λ z. ListOutcome z (encode e ss))
+
 -- some passes, as a list, are the enhancement with some settings
 pub record StandsFor (t : Settings) (ss : List Pass) : Type 0 where
   -- there are as many as the levels have sections, 1 for level 0 alone and 255 for all, which is within the limit
   pub size : length ss + 1 ≡ 2 ^ (t .last + 1)
   pub few : length ss ≤ 255
   pub within : length ss ≤ greatestCount
-  -- they are not refused in memory, nor in a file, which is read as these passes
+  -- in memory they are not refused, and run as the enhancement does
   pub accepted : passesRefusal ss ≡ 0
-  pub stored : (e : Edition) → HasPlace e (t .neighbours)
-      → (listRefusal (encode e ss) ≡ 0) × (passesOf (encode e ss) ≡ ss)
-  -- they run as the enhancement does
-  pub in-memory : RunsAs t (λ z. PassesOutcome z ss)
-  pub in-file : (e : Edition) → HasPlace e (t .neighbours) → RunsAs t (λ z. ListOutcome z (encode e ss))
+  pub runs : RunsAs t (λ z. PassesOutcome z ss)
+  -- so do their files: that of version 2 whatever the neighbours, that of version 1 where they are four
+  pub version-2 : StoredIn Second t ss
+  pub version-1 : t .neighbours ≡ 4 → StoredIn First t ss
 
 -- those of every accepted settings are, level by level and in the order of the recursion
 pub record EnhancementsAreLists : Type 0 where

@@ -49,7 +49,7 @@ pub fn cases() -> Vec<Case> {
     cases
 }
 
-/// Lists of many passes, of which the last one tells.
+/// A list of many passes, of which the last one tells.
 fn many(length: usize) -> Case {
     list_2(2, 2, &[vec![STILL; length - 1], vec![by(8, EXAMPLE)]].concat(), &CORNERS)
 }
