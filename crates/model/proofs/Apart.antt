@@ -2,7 +2,7 @@
 -- planes and counts. For any sound rules and any neighbour relations, of each pass its own. Assumes nothing.
 use Prim.Native.Nat.{ℕ, zero, suc, _≤_, _<_}
 use mathlib.Core.Path.{_≡_, refl, sym, ap, ap₂, subst, _∙_}
-use mathlib.Core.Logic.{_⊎_, inl, inr}
+use mathlib.Core.Logic.{inl, inr}
 use mathlib.Core.Bool.{Bool, true, false, not, _&&_, _||_}
 use mathlib.Core.List.{List, map}
 use mathlib.Mathlib.Data.Bool.Basic.{and-elim-left, and-elim-right}
@@ -20,6 +20,7 @@ use Rattle.planes.proofs.Links.{linked-iff}
 use Rattle.model.specs.declared.Pass.{Pass}
 use Rattle.model.specs.Passes.{within, inside, componentValues, retone, newTone, passed, counted}
 use Rattle.model.specs.Passes.{componentCount}
+use Rattle.model.specs.Runs.{Disjoint}
 use Rattle.model.proofs.Components.{in-tone, out-tone}
 use Rattle.model.proofs.Order.{in-of, in-to, retone-sound, length-passed, passed-at}
 
@@ -95,11 +96,8 @@ module _ (near : Near) (s : Pass) where
 
 -- ## Disjoint intervals
 
-abbrev pub Disjoint : Pass → Pass → Type 0
-Disjoint s t = (s .b < t .a) ⊎ (t .b < s .a)
-
 -- what is in the one section is not in the other
-not-both : (s t : Pass) → Disjoint s t → (v : ℕ) → within s v ≡ true → within t v ≡ false
+pub not-both : (s t : Pass) → Disjoint s t → (v : ℕ) → within s v ≡ true → within t v ≡ false
 not-both s t d v w = elim (decide (within t v)) [
   | inl e ↦ absurd (elim d [
     | inl h ↦ omega (arith, in-of s v w, in-of t v e, h)

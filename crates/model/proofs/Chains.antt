@@ -48,10 +48,10 @@ pub record Fine (near : Near) (p q : List ℕ) : Type 0 where
   pub keeps : Keeps near (length p) p q
 
 module _ (near : Near) where
-  fine-refl : (p : List ℕ) → Fine near p p
+  pub fine-refl : (p : List ℕ) → Fine near p p
   fine-refl p = record { size = refl; keeps = keeps-refl near (length p) p }
 
-  fine-trans : (p q r : List ℕ) → Fine near p q → Fine near q r → Fine near p r
+  pub fine-trans : (p q r : List ℕ) → Fine near p q → Fine near q r → Fine near p r
   fine-trans p q r f g = record {
     size = g .size ∙ f .size;
     keeps = keeps-trans near (length p) p q r (f .keeps)

@@ -19,6 +19,7 @@ use Rattle.planes.specs.Shapes.{Symmetric}
 use Rattle.planes.specs.Neighbours.{Near, component, first}
 use Rattle.planes.proofs.Tests.{decide, contra}
 use Rattle.planes.proofs.Lists.{keep-keep, keep-all}
+use Rattle.planes.proofs.Permutations.{permutation-refl}
 use Rattle.planes.proofs.Counts.{count-all, length-from}
 use Rattle.planes.proofs.Links.{link-trans, link-sym}
 use Rattle.tones.specs.declared.Rule.{Rule}
@@ -28,7 +29,7 @@ use Rattle.model.specs.Enhancement.{section, passes, deep, recursive}
 use Rattle.model.specs.Effects.{Effect, nothing, always, runEffect}
 use Rattle.model.specs.Published.{Procedure, between, levelSet, amid, connectedComponents}
 use Rattle.model.specs.Published.{histogramEqualization, forEach, processLevelSet, recursiveHistogramEqualization}
-use Rattle.model.specs.Published.{Arrangement, readingOrder, Reordered, empty, behind, Reorders}
+use Rattle.model.specs.Published.{Arrangement, readingOrder, Reorders}
 use Rattle.model.specs.Published.{publishedIn, published, Connected}
 use Rattle.model.proofs.Apart.{linked-same}
 use Rattle.model.proofs.Recursion.{effect-same, all-append, double, recursion-listed}
@@ -39,12 +40,8 @@ use Rattle.model.proofs.Several.{Performs, Patches, patches-reordered, 
 
 -- ## Reading order
 
-reordered-same : (Ss : List (List ℕ)) → Reordered Ss Ss
-reordered-same [] = empty
-reordered-same (S ∷ Ss) = behind (reordered-same Ss)
-
 reading-reorders : Reorders readingOrder
-reading-reorders a b Ss = reordered-same Ss
+reading-reorders a b Ss = permutation-refl Ss
 
 -- ## Sections below a section
 

@@ -17,9 +17,9 @@ use Rattle.tones.specs.declared.Rule.{Rule}
 use Rattle.model.specs.declared.Pass.{Pass}
 use Rattle.model.specs.Passes.{changes, keptBack, passed, counted, componentCount}
 use Rattle.model.specs.Effects.{Effect, nothing, then, passEffect, runEffect, Same}
-use Rattle.model.specs.Runs.{All, none, more}
+use Rattle.model.specs.Runs.{All, none, more, Disjoint}
 use Rattle.model.specs.Enhancement.{section, level, levels, passes, deep, recursive}
-use Rattle.model.proofs.Apart.{Disjoint, turn, commute, counts-stay}
+use Rattle.model.proofs.Apart.{turn, commute, counts-stay}
 
 -- ## Runs of passes
 
@@ -37,7 +37,7 @@ all-map f none = none
 all-map f (more {s = s} x a) = more (f s x) (all-map f a)
 
 -- a pass with a ≤ b, and one away from it
-abbrev Away : Pass → Pass → Type 0
+abbrev pub Away : Pass → Pass → Type 0
 Away s t = (s .a ≤ s .b) × (t .a ≤ t .b) × Disjoint s t
 
 -- effects with equal fields
@@ -60,16 +60,16 @@ pub then-nothing : (e : Effect) → then e (nothing (e .plane)) ≡ e
 then-nothing e = effect-same refl (add-zero (e .retoned)) (add-zero (e .kept))
 
 module _ (by : Pass → Near) where
-  same-refl : (xs : List Pass) → Same by xs xs
+  pub same-refl : (xs : List Pass) → Same by xs xs
   same-refl xs = record { effects = λ p. refl }
 
-  same-trans : {xs ys zs : List Pass} → Same by xs ys → Same by ys zs → Same by xs zs
+  pub same-trans : {xs ys zs : List Pass} → Same by xs ys → Same by ys zs → Same by xs zs
   same-trans a b = record { effects = λ p. a .effects p ∙ b .effects p }
 
   same-sym : {xs ys : List Pass} → Same by xs ys → Same by ys xs
   same-sym a = record { effects = λ p. sym (a .effects p) }
 
-  same-cons : (s : Pass) {xs ys : List Pass} → Same by xs ys → Same by (s ∷ xs) (s ∷ ys)
+  pub same-cons : (s : Pass) {xs ys : List Pass} → Same by xs ys → Same by (s ∷ xs) (s ∷ ys)
   unfolding runEffect
   same-cons s a = record { effects = λ p. ap (then (passEffect by s p)) (a .effects (passEffect by s p .plane)) }
 
@@ -95,7 +95,7 @@ module _ (by : Pass → Near) where
   }
 
   -- two passes apart change places; so does a pass with a list, and a list with a list
-  swap : (s t : Pass) (zs : List Pass) → Away s t → Same by (s ∷ t ∷ zs) (t ∷ s ∷ zs)
+  pub swap : (s t : Pass) (zs : List Pass) → Away s t → Same by (s ∷ t ∷ zs) (t ∷ s ∷ zs)
   unfolding runEffect
   swap s t zs w = record {
     effects = λ p. effect-same (ap (λ (q : List ℕ). runEffect by zs q .plane) (one p))

@@ -10,12 +10,13 @@ use native.Mathlib.Nat.{le-refl, eq-or-lt-of-le}
 use native.Mathlib.Omega.{arith}
 use borrow.Author.Tests.{eq-eqb, ne-eqb}
 use Rattle.planes.specs.Lists.{from, keep}
+use Rattle.planes.specs.Permutations.{Permutation, empty, behind, swap, twice}
 use Rattle.planes.specs.Shapes.{Symmetric}
 use Rattle.planes.specs.Neighbours.{Near, Chain, here, step, linked, first}
 use Rattle.planes.proofs.Tests.{or-cases, same-test, never, contra}
 use Rattle.planes.proofs.Links.{linked-iff, link-near, link-refl, link-trans, link-sym}
 use Rattle.planes.proofs.Fewer.{first-out, first-of}
-use Rattle.model.specs.Published.{member, amid, Reordered, empty, behind, swap, twice}
+use Rattle.model.specs.Published.{member, amid}
 
 -- ## Members
 
@@ -209,11 +210,11 @@ or-swap true true u = refl
 or-swap true false u = refl
 or-swap false t u = refl
 
-pub any-reordered : {Ss Ts : List (List ℕ)} → Reordered Ss Ts → (x : ℕ) → anyOf Ss x ≡ anyOf Ts x
+pub any-reordered : {Ss Ts : List (List ℕ)} → Permutation Ss Ts → (x : ℕ) → anyOf Ss x ≡ anyOf Ts x
 unfolding anyOf
 any-reordered empty x = refl
-any-reordered (behind {S = S} r) x = ap (member S x ||_) (any-reordered r x)
-any-reordered (swap {S = S} {T = T} {Ss = Ss}) x = or-swap (member S x) (member T x) (anyOf Ss x)
+any-reordered (behind {x = S} r) x = ap (member S x ||_) (any-reordered r x)
+any-reordered (swap {x = S} {y = T} {xs = Ss}) x = or-swap (member S x) (member T x) (anyOf Ss x)
 any-reordered (twice r q) x = any-reordered r x ∙ any-reordered q x
 
 -- sets by their numbers, of which those that pass a test are taken

@@ -12,6 +12,7 @@ use lib.ListN.{length}
 use lib.Dec.{leb}
 use borrow.Author.Tests.{leb-true, leb-false}
 use Rattle.planes.specs.Lists.{from, keep, count, at}
+use Rattle.planes.specs.Permutations.{Permutation, empty, behind, swap, twice}
 use Rattle.planes.specs.Shapes.{Symmetric}
 use Rattle.planes.specs.Neighbours.{Near, component}
 use Rattle.planes.proofs.Tests.{decide, or-cases, or-none, same-test, never}
@@ -20,7 +21,6 @@ use Rattle.model.specs.declared.Pass.{Pass}
 use Rattle.model.specs.Runs.{run, runCount, runKept, All}
 use Rattle.model.specs.Effects.{Effect, always}
 use Rattle.model.specs.Published.{Procedure, member, between, amid, forEach}
-use Rattle.model.specs.Published.{Reordered, empty, behind, swap, twice}
 use Rattle.model.proofs.Sets.{member-keep, pixelsOf, Separate, separate-turn, part, heads, part-self, part-of}
 use Rattle.model.proofs.Sets.{part-set, part-joined, parts-separate, anyOf, any-reordered, any-out, any-in}
 use Rattle.model.proofs.Parts.{InRange, Shows, TwoParts, shown, shown-shows, shown-part, parts-run}
@@ -64,14 +64,14 @@ patches-same {a = a} {b} same (more {S = S} {Ss = Ss} P w rest) = more (record {
 
 -- and in another order
 pub patches-reordered : {near : Near} → ((i j : ℕ) → near i j ≡ near j i) → {n a b : ℕ} {p : List ℕ}
-    {Ss Ts : List (List ℕ)} → Reordered Ss Ts → Patches near n a b p Ss → Patches near n a b p Ts
+    {Ss Ts : List (List ℕ)} → Permutation Ss Ts → Patches near n a b p Ss → Patches near n a b p Ts
 unfolding anyOf
 patches-reordered symm empty none = none
 patches-reordered symm (behind r) (more P w rest) = more P (record {
   disjoint = λ x hx e. sym (any-reordered r x) ∙ w .disjoint x hx e;
   far = λ x y hx hy e d. w .far x y hx hy e (any-reordered r y ∙ d);
 }) (patches-reordered symm r rest)
-patches-reordered symm (swap {S = S} {T = T} {Ss = Ss}) (more P w (more Q v rest)) =
+patches-reordered symm (swap {x = S} {y = T} {xs = Ss}) (more P w (more Q v rest)) =
     let turned = separate-turn symm w in
     more Q (record {
       disjoint = λ x hx e.

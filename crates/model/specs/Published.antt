@@ -21,6 +21,7 @@ use mathlib.Core.List.{List, [], _∷_, map}
 use lib.ListN.{length}
 use lib.Dec.{leb, eqb}
 use Rattle.planes.specs.Lists.{from, keep, at}
+use Rattle.planes.specs.Permutations.{Permutation}
 use Rattle.planes.specs.Neighbours.{Near, linked, component, first}
 use Rattle.tones.specs.declared.Rule.{Rule}
 use Rattle.tones.specs.Tones.{tone, kept}
@@ -79,16 +80,9 @@ Arrangement = ℕ → ℕ → List (List ℕ) → List (List ℕ)
 abbrev pub readingOrder : Arrangement
 readingOrder a b Ss = Ss
 
--- the same sets in another order: equal behind an equal first set, the first two in turn, and one after the other
-pub data Reordered : List (List ℕ) → List (List ℕ) → Type 0 where
-  empty : Reordered [] []
-  behind : {S : List ℕ} {Ss Ts : List (List ℕ)} → Reordered Ss Ts → Reordered (S ∷ Ss) (S ∷ Ts)
-  swap : {S T : List ℕ} {Ss : List (List ℕ)} → Reordered (S ∷ T ∷ Ss) (T ∷ S ∷ Ss)
-  twice : {Ss Ts Us : List (List ℕ)} → Reordered Ss Ts → Reordered Ts Us → Reordered Ss Us
-
 -- it loses no set, and adds none
 abbrev pub Reorders : Arrangement → Type 0
-Reorders arrange = (a b : ℕ) (Ss : List (List ℕ)) → Reordered Ss (arrange a b Ss)
+Reorders arrange = (a b : ℕ) (Ss : List (List ℕ)) → Permutation Ss (arrange a b Ss)
 
 -- ## Recursion
 

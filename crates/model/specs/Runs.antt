@@ -2,10 +2,12 @@
 --
 --   All                      every pass of a list has a property
 --   Carries                  a pass carries a number of neighbours
+--   Disjoint                 two passes are on disjoint intervals
 --   run, runCount, runKept   the plane and the counts of a run, by name
 --   runSufficient            the components of sufficient area, in the plane as each pass finds it
-use Prim.Native.Nat.{ℕ, _+_}
+use Prim.Native.Nat.{ℕ, _+_, _<_}
 use mathlib.Core.Path.{_≡_}
+use mathlib.Core.Logic.{_⊎_}
 use mathlib.Core.List.{List, [], _∷_}
 use Rattle.planes.specs.Neighbours.{Near}
 use Rattle.model.specs.declared.Pass.{Pass}
@@ -19,6 +21,10 @@ pub data All (P : Pass → Type 0) : List Pass → Type 0 where
 -- a pass carries the number of neighbours
 abbrev pub Carries : ℕ → Pass → Type 0
 Carries number s = s .neighbours ≡ number
+
+-- their intervals have no value in common: one ends before the other begins
+abbrev pub Disjoint : Pass → Pass → Type 0
+Disjoint s t = (s .b < t .a) ⊎ (t .b < s .a)
 
 -- the plane after the passes
 abbrev pub run : (Pass → Near) → List Pass → List ℕ → List ℕ

@@ -1,5 +1,6 @@
 pub mod Tests
 pub mod Lists
+pub mod Permutations
 pub mod Counts
 pub mod Rounding
 pub mod Quotients

@@ -1,4 +1,5 @@
 pub mod Lists
+pub mod Permutations
 pub mod Rounding
 pub mod Refusals
 pub mod Replies
