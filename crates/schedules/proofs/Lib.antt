@@ -1,0 +1,6 @@
+pub mod Orders
+pub mod Runs
+pub mod Calls
+pub mod Copies
+pub mod Levels
+pub mod Components
