@@ -75,4 +75,8 @@ published::Counts enhance(const std::uint8_t *frame, int w, int h, const Setting
 // As published::pass, with any rule.
 published::Counts pass(std::uint8_t *plane, int w, int h, const Pass &pass, Memory &memory);
 
+// What an enhancement has before and after its passes: the frame's intensities, and its colours from a plane.
+void intensity(const std::uint8_t *frame, int w, int h, std::uint8_t *plane);
+void recolour(const std::uint8_t *frame, int w, int h, const std::uint8_t *plane, std::uint8_t *output);
+
 } // namespace library

@@ -5,6 +5,7 @@
 
 #include "checker.hpp"
 #include "grain.hpp"
+#include "handed.hpp"
 #include "library.hpp"
 #include "planes.hpp"
 #include "published.hpp"
@@ -356,16 +357,21 @@ int main(int argc, char **argv) {
     const std::string option = argc == 2 ? argv[1] : "";
     if (option == "--verify") {
         small_planes();
+        std::printf("sections handed out: %d frames agree with the enhancement\n", verify_handed());
         return 0;
     }
     if (option == "--grain") {
         print_grain(rounds);
         return 0;
     }
+    if (option == "--threads") {
+        print_handed(rounds);
+        return 0;
+    }
     if (option == "--quick") {
         rounds = 1;
     } else if (argc != 1) {
-        std::fprintf(stderr, "%s [--quick | --grain | --verify]\n", argv[0]);
+        std::fprintf(stderr, "%s [--quick | --grain | --threads | --verify]\n", argv[0]);
         return 2;
     }
     every_plane_and_shape();
@@ -375,6 +381,7 @@ int main(int argc, char **argv) {
     single_passes_by_shape();
     enhancement_by_rule();
     print_grain(rounds);
+    print_handed(rounds);
     summary();
     return 0;
 }

@@ -1,6 +1,7 @@
 #!/usr/bin/env bash
 # The headers in C and C++, the library under the name to link it by, the rules, neighbours, lists, counts and stack of
-# a call, and what the example in C does to files, devices and links. Stops at the first error. Offline.
+# a call, sections handed out to threads, and what the example in C does to files, devices and links. Stops at the first
+# error. Offline.
 #
 # Proves and builds the library first, unless MLHE_LIBRARY=path/to/libcapi.a names one that is there.
 set -euo pipefail
@@ -52,6 +53,28 @@ gcc -std=c99 "${strict[@]}" -o "$out/counts" tests/c/counts.c "${flags[@]}"
 "$out/counts" || fail "the counts that a call is lent. Next: tests/c/counts.c, with what is printed above"
 gcc -std=c99 -O2 "${strict[@]}" -o "$out/stack" tests/c/stack.c "${flags[@]}"
 "$out/stack" || fail "a call takes more stack than MLHE_STACK of include/mlhe.h"
+
+# Sections on threads: plane and counts of each level are the enhancement's, whoever takes which section.
+make --quiet -C examples/threads CFLAGS="-O2 ${strict[*]}" MLHE_LIBRARY="$MLHE_LIBRARY"
+sections=examples/threads/sections
+for call in 'pil.ppm 1' 'pil.ppm 2' 'pil.ppm 3 8' 'pil.ppm 200' 'imagemagick-4096x4.ppm 2' 'column-1x1024.ppm 5 8'; do
+    read -r frame threads neighbours <<< "$call"
+    "$sections" "tests/corpus/$frame" "$threads" ${neighbours:+"$neighbours"} > "$out/sections.txt" ||
+        fail "sections on threads: $call. Next: examples/threads/sections.c"
+    [ "$(grep -c 'as the enhancement$' "$out/sections.txt")" = 8 ] || fail "sections on threads: $call: no 8 levels"
+done
+status=0
+"$sections" tests/corpus/pil.ppm 2 6 2> "$out/sections.txt" || status=$?
+if [ "$status" != 1 ] || ! grep -q 'refused 19' "$out/sections.txt"; then
+    fail "sections on threads by 6 neighbours: status $status and: $(cat "$out/sections.txt")"
+fi
+for words in 'pil.ppm 0' 'pil.ppm 257' 'pil.ppm -1' 'pil.ppm 2 x' ''; do
+    status=0
+    # shellcheck disable=SC2086 # words of a command line
+    "$sections" $words 2> /dev/null || status=$?
+    [ "$status" = 2 ] || fail "sections on threads: '$words' ends with status $status, not 2"
+done
+echo "c: sections on threads are the enhancement, level by level"
 
 # What the example does to files. Everything stands in a folder that another user can reach, since rights do not bind
 # root.

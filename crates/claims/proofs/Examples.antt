@@ -1,11 +1,14 @@
--- The worked examples hold, by computation: `starred`; and so do the hypotheses of demand 3 for one chain of calls:
--- `demand-3-met`. Assumes nothing.
+-- The worked examples hold, by computation: `starred`; and so do the hypotheses of demand 3 for one chain of calls,
+-- `demand-3-met`, and of sections in parallel for two orders of calls and two copies, `parallel-met`. Assumes nothing.
 use Prim.Native.Nat.{ℕ, suc, _≤_, _<_}
-use mathlib.Core.Path.{_≡_, refl, ap₂, _∙_}
+use mathlib.Core.Path.{_≡_, refl, sym, ap₂, _∙_}
+use mathlib.Core.Logic.{inl}
 use mathlib.Core.List.{List, [], _∷_, map}
 use native.Mathlib.Omega.{arith}
 use lib.ListN.{length, length-map}
 use Rattle.planes.specs.Lists.{from}
+use Rattle.planes.specs.Permutations.{swap}
+use Rattle.planes.specs.Replies.{gives}
 use Rattle.planes.specs.Refusals.{_▷_, sizeRefusal, sideRefusal, pixelRefusal, lengthRefusal, roomRefusal}
 use Rattle.planes.specs.Refusals.{outputRefusal}
 use Rattle.planes.specs.Shapes.{neighbours, adjacency, shapeRefusal, lentRefusal}
@@ -26,6 +29,8 @@ use Rattle.model.specs.Passes.{inside, componentValues, changes, keptBack, reto
 use Rattle.model.specs.Neighbourhoods.{passNeighbours}
 use Rattle.model.specs.Effects.{runEffect}
 use Rattle.model.specs.Runs.{All, none as all-none, more as all-more}
+use Rattle.model.specs.declared.Pass.{Pass}
+use Rattle.model.proofs.Outcomes.{done-by}
 use Rattle.tones.specs.Refusals.{ruleRefusal}
 use Rattle.model.specs.Calls.{areaRefusal, neighbourRefusal, numbersRefusal, passRefusal, call, chain}
 use Rattle.model.specs.Calls.{empty, refused, given}
@@ -33,7 +38,11 @@ use Rattle.model.specs.Enhancement.{section, level, levels, passes, callOf, enh
 use Rattle.tones.specs.Examples.{anyRatio}
 use Rattle.tones.proofs.Examples.{tone-examples}
 use Rattle.model.proofs.PublishedExamples.{published-examples}
-use Rattle.passes.specs.Calls.{none, more}
+use Rattle.passes.specs.Calls.{passCallRefusal, PassOutcome, none, more}
+use Rattle.model.specs.Calls.{none as none-refused, more as one-accepted}
+use Rattle.schedules.specs.Orders.{none as none-disjoint, more as disjoint-more}
+use Rattle.schedules.specs.Copies.{workPasses, taken as takenBy, handedBack, together}
+use Rattle.schedules.specs.Copies.{none as none-worked, more as worked-more}
 use Rattle.tones.specs.Numbers.{malformed}
 use Rattle.listformat.specs.declared.Edition.{Edition}
 use Rattle.listformat.specs.declared.Edition.the-variants.{First, Second}
@@ -52,7 +61,8 @@ use Rattle.netpbm.specs.Reading.{maxvalRefusal, rasterRefusal, trailingRefusal,
 use Rattle.printing.specs.Printing.{enhancedFrame}
 use Rattle.frames.specs.Program.{programOutput}
 use Rattle.claims.specs.Examples.{on, onEight, PassExamples, Eight, ExtremaExamples, timesE, Many, Starred}
-use Rattle.claims.specs.Examples.{Demand3Met}
+use Rattle.claims.specs.Examples.{Demand3Met, After, row, dark, bright, rowH, rowH′, ParallelExamples}
+use Rattle.claims.specs.Examples.{ParallelMet}
 use Rattle.claims.proofs.Before.{last-none}
 
 pass-examples : PassExamples
@@ -111,6 +121,24 @@ extrema-examples = record {
   after-joined = record { maxima-are = refl; minima-are = refl };
 }
 
+parallel-examples : ParallelExamples
+unfolding passNeighbours adjacency neighbours four eight linked component first plainTone plainKept tone kept
+    inside componentValues changes keptBack retone newTone passed componentCount runEffect
+    takenBy handedBack together
+parallel-examples = record {
+  one-order = refl;
+  other-order = refl;
+  put-together = refl;
+  unworked = refl;
+  overlapping = refl;
+  overlapping′ = refl;
+  ring = refl;
+  ring-four = refl;
+  ringed = refl;
+  unringed = refl;
+  ringed-four = refl;
+}
+
 -- ## Many passes
 
 times-fit : (js : List ℕ) → All (Storable First) (map (λ j. on 0 127 1 anyRatio) js)
@@ -163,6 +191,7 @@ starred = record {
   passes = pass-examples;
   eight = eight-examples;
   extrema = extrema-examples;
+  parallel = parallel-examples;
   K = refl;
   L = refl;
   flat = refl;
@@ -241,3 +270,53 @@ demand-3-met = record {
       none));
   carry = given refl (refused (refused empty));
 }
+
+-- ## Sections in parallel on calls
+
+abbrev four-marks : List ℕ
+four-marks = 0 ∷ 0 ∷ 0 ∷ 0 ∷ []
+
+abbrev five-marks : List ℕ
+five-marks = 0 ∷ 0 ∷ 0 ∷ 0 ∷ 0 ∷ []
+
+abbrev dark-done : List ℕ
+dark-done = 64 ∷ 127 ∷ 200 ∷ 220 ∷ []
+
+abbrev bright-done : List ℕ
+bright-done = 10 ∷ 20 ∷ 192 ∷ 255 ∷ []
+
+-- a call that retones one component, and leaves marks and queue as they came
+retones-one : (s : Pass) (p marks queue q : List ℕ) → passCallRefusal (row 4) s p marks queue ≡ 0
+    → After (row 4) p s q 1 0 → PassOutcome (row 4) s p marks queue (gives (1 ∷ 0 ∷ [])) q marks queue
+retones-one s p marks queue q taken-all is = done-by {r = record { retoned = 1; kept = 0 }} taken-all (record {
+  effect-is = sym is;
+  marks-rest = beyond-refl 4 marks;
+  queue-rest = beyond-refl 4 queue;
+})
+
+pub parallel-met : ParallelMet
+unfolding shapeRefusal sizeRefusal sideRefusal pixelRefusal lengthRefusal passNeighbours adjacency neighbours four eight
+    linked component first plainTone plainKept tone kept
+    inside componentValues changes keptBack retone newTone passed componentCount
+    roomRefusal areaRefusal ruleRefusal neighbourRefusal numbersRefusal lentRefusal passRefusal workPasses
+parallel-met =
+    let dark-first = retones-one dark rowH four-marks four-marks dark-done refl refl in
+    record {
+      calls = more {s = dark} {marks = four-marks} {queue = four-marks} dark-first
+          (more {s = bright} {marks = five-marks} {queue = four-marks}
+          (retones-one bright dark-done five-marks four-marks rowH′ refl refl) none);
+      turned = more {s = bright} {marks = four-marks} {queue = five-marks}
+          (retones-one bright rowH four-marks five-marks bright-done refl refl)
+          (more {s = dark} {marks = four-marks} {queue = four-marks}
+          (retones-one dark bright-done four-marks four-marks rowH′ refl refl) none);
+      accepted = one-accepted (one-accepted none-refused);
+      disjoint = disjoint-more {s = dark} (all-more {s = bright} (inl (omega arith)) all-none)
+          (disjoint-more {s = bright} all-none none-disjoint);
+      permuted = swap;
+      worked = worked-more (more {s = dark} {marks = four-marks} {queue = four-marks} dark-first none)
+          (one-accepted none-refused)
+          (worked-more (more {s = bright} {marks = five-marks} {queue = four-marks}
+          (retones-one bright rowH five-marks four-marks bright-done refl refl) none)
+          (one-accepted none-refused) none-worked);
+      work-passes = refl;
+    }

@@ -32,6 +32,14 @@
 --   IntensityOutcome, RecolourOutcome, PassOutcome, EnhanceOutcome, ListOutcome, PassesOutcome, ConvertOutcome,
 --   WriteOutcome       what the calls ensure, by the reply of their answer
 --   Sequence           calls of `pass`, each lent the plane as the one before left it (passes/specs/Calls)
+--   Permutation        one list is the other in some order (planes/specs/Permutations)
+--   PairwiseDisjoint   any two passes of a list are on disjoint intervals (schedules/specs/Orders)
+--   passesIn, Answered the passes of some calls; a pass was called and had a reply (schedules/specs/Orders)
+--   IsComponent        a set of pixels is a component of a section in a plane (schedules/specs/Components)
+--   Ringed             all pixels next to a set are outside a section (schedules/specs/Components)
+--   Worked, together   workers' calls, each on its own copy of a plane, and the copies put together
+--                      (schedules/specs/Copies)
+--   Rounds             passes handed out round by round; levelRounds: level by level (schedules/specs/Copies)
 --   readReply          what reading replies to some bytes (netpbm/specs/Reading)
 --   IsHeader           a list of bytes begins with a P6 header, by its parts (headers/specs/Headers)
 --   Gap                what stands before each of its numbers: whitespace bytes and comments (gaps/specs/Gaps)
@@ -58,12 +66,13 @@
 use Prim.Native.Nat.{ℕ, suc, _+_, _-_, _*_, _/_, _^_, _≤_, _<_}
 use mathlib.Core.Path.{_≡_}
 use mathlib.Core.Logic.{_↔_}
-use mathlib.Core.Bool.{true, false}
+use mathlib.Core.Bool.{Bool, true, false}
 use mathlib.Core.List.{List, [], _∷_, map}
 use mathlib.Core.Option.{some}
 use lib.ListN.{length, take, drop}
 use lib.Dec.{ltb}
 use Rattle.planes.specs.Lists.{at, Beyond}
+use Rattle.planes.specs.Permutations.{Permutation}
 use Rattle.planes.specs.Replies.{Reply, refuses, gives, replied, overwritten}
 use Rattle.planes.specs.Neighbours.{Near}
 use Rattle.planes.specs.Refusals.{_▷_, outputRefusal}
@@ -74,19 +83,23 @@ use Rattle.colours.specs.Frames.{intensity, newChannelAt, recolour, Grey}
 use Rattle.colours.specs.Calls.{intensityRefusal, recolourRefusal, IntensityOutcome, RecolourOutcome}
 use Rattle.model.specs.declared.Pass.{Pass}
 use Rattle.model.specs.Neighbourhoods.{passNeighbours}
-use Rattle.model.specs.Passes.{passSufficient}
+use Rattle.model.specs.Passes.{passed, passSufficient}
 use Rattle.model.specs.Effects.{Effect, counts, passEffect, runEffect, always}
 use Rattle.model.specs.Runs.{All, Carries, runSufficient}
-use Rattle.model.specs.Enhancement.{passes, recursive}
+use Rattle.model.specs.Enhancement.{level, passes, recursive}
 use Rattle.model.specs.Published.{published}
 use Rattle.model.specs.Calls.{Call, retonedIn, keptIn, total, AllAccepted, State, start, chain, chainEffect}
 use Rattle.model.specs.Calls.{chainSufficient, AcceptedCarry, numbersRefusal}
 use Rattle.passes.specs.Calls.{callOn, passCallRefusal, PassOutcome, Sequence}
+use Rattle.schedules.specs.Orders.{PairwiseDisjoint, passesIn, Answered}
+use Rattle.schedules.specs.Components.{IsComponent, Ringed}
+use Rattle.schedules.specs.Copies.{Work, Worked, workPasses, WorkAnswered, together, Rounds, roundsTotal, levelRounds}
 use Rattle.levels.specs.declared.Settings.{Settings}
 use Rattle.enhance.specs.Calls.{settingsRefusal, chainOf, sufficientOf, enhanceCallRefusal, EnhanceOutcome}
 use Rattle.enhance.specs.Published.{publishedOf}
 use Rattle.headers.specs.Headers.{IsHeader}
 use Rattle.headers.specs.Uncommented.{signless, Uncommented}
+use Rattle.tones.specs.declared.Rule.{Rule}
 use Rattle.tones.specs.declared.RuleNumbers.{RuleNumbers}
 use Rattle.tones.specs.Numbers.{ruleOf, malformed}
 use Rattle.tones.specs.Before.{ruleBefore, malformedBefore}
@@ -395,6 +408,80 @@ pub record EnhancementsAreLists : Type 0 where
       → StandsFor t (passes (t .last) (t .area) (t .rule) (t .neighbours))
   pub by-recursion : (t : Settings) → settingsRefusal t ≡ 0
       → StandsFor t (recursive (t .last) (t .area) (t .rule) (t .neighbours))
+
+-- ## Sections in parallel
+
+-- accepted calls of passes on pairwise disjoint intervals: rules, areas and neighbours may differ from pass to pass
+pub record AnyOrder : Type 0 where
+  -- in two orders from one plane they end in one plane, and each pass answers the same two counts in both
+  pub of-calls : (z : Shape) {first last₁ last₂ : List ℕ} {calls₁ calls₂ : List Call} {replies₁ replies₂ : List Reply}
+      → Sequence z first calls₁ replies₁ last₁ → Sequence z first calls₂ replies₂ last₂
+      → AllAccepted replies₁ → AllAccepted replies₂
+      → PairwiseDisjoint (passesIn calls₁) → Permutation (passesIn calls₁) (passesIn calls₂)
+      → (last₁ ≡ last₂)
+      × ((s : Pass) (reply : Reply) → Answered s reply calls₁ replies₁ ↔ Answered s reply calls₂ replies₂)
+  -- which are those that it answers on the first plane
+  pub on-first : (z : Shape) {first last : List ℕ} {calls : List Call} {replies : List Reply}
+      → Sequence z first calls replies last → AllAccepted replies → PairwiseDisjoint (passesIn calls)
+      → (s : Pass) (reply : Reply) → Answered s reply calls replies
+      → reply ≡ gives (counts (passEffect (passNeighbours z) s first))
+  -- lists of them, in memory and in files, leave one plane and answer the same sums
+  pub of-passes : (z : Shape) (ss ts : List Pass) → PairwiseDisjoint ss → Permutation ss ts
+      → {plane marks₁ queue₁ values₁ plane₁ marks₁' queue₁' marks₂ queue₂ values₂ plane₂ marks₂' queue₂' : List ℕ}
+      → PassesOutcome z ss plane marks₁ queue₁ (gives values₁) plane₁ marks₁' queue₁'
+      → PassesOutcome z ts plane marks₂ queue₂ (gives values₂) plane₂ marks₂' queue₂'
+      → (values₁ ≡ values₂) × (plane₁ ≡ plane₂)
+  pub of-lists : (z : Shape) (list₁ list₂ : List ℕ)
+      → PairwiseDisjoint (passesOf list₁) → Permutation (passesOf list₁) (passesOf list₂)
+      → {plane marks₁ queue₁ values₁ plane₁ marks₁' queue₁' marks₂ queue₂ values₂ plane₂ marks₂' queue₂' : List ℕ}
+      → ListOutcome z list₁ plane marks₁ queue₁ (gives values₁) plane₁ marks₁' queue₁'
+      → ListOutcome z list₂ plane marks₂ queue₂ (gives values₂) plane₂ marks₂' queue₂'
+      → (values₁ ≡ values₂) × (plane₁ ≡ plane₂)
+
+-- workers that each run some of the passes on a copy of their own of one plane
+pub record HandedOut : Type 0 where
+  -- their copies put together are the plane of every sequence of the passes, and the counts are those of the copies
+  pub copies : (z : Shape) {first last : List ℕ} {works : List Work} {calls : List Call} {replies : List Reply}
+      → Worked z first works → PairwiseDisjoint (workPasses works)
+      → Sequence z first calls replies last → AllAccepted replies → Permutation (workPasses works) (passesIn calls)
+      → (last ≡ together works first)
+      × ((s : Pass) (reply : Reply) → WorkAnswered s reply works ↔ Answered s reply calls replies)
+  -- so that plane keeps shapes, by the eight neighbours too where all passes carry 8
+  pub shapes : (z : Shape) {first : List ℕ} {works : List Work} → Worked z first works
+      → PairwiseDisjoint (workPasses works) → ShapePreserving (neighbours z) first (together works first)
+  pub shapes-eight : (z : Shape) {first : List ℕ} {works : List Work} → Worked z first works
+      → PairwiseDisjoint (workPasses works) → All (Carries 8) (workPasses works)
+      → ShapePreserving (adjacency z 8) first (together works first)
+  -- the sections of a level are pairwise disjoint; handed out level by level, from the plane that intensity filled from
+  -- a frame, they leave the plane and answer both counts of every accepted enhancement of the frame
+  pub of-level : (l area : ℕ) (rule : Rule) (number : ℕ) → PairwiseDisjoint (level l area rule number)
+  pub by-levels : (z : Shape) (t : Settings) {frame lent filled first : List ℕ}
+      → IntensityOutcome (z .w) (z .h) frame lent (gives filled) first
+      → {plane marks queue output values plane' marks' queue' output' : List ℕ}
+      → EnhanceOutcome z t frame plane marks queue output (gives values) plane' marks' queue' output'
+      → {works : List (List Work)} {last : List ℕ}
+      → Rounds z (levelRounds (t .last) (t .area) (t .rule) (t .neighbours)) works first last
+      → (last ≡ plane') × (values ≡ roundsTotal retonedIn works ∷ roundsTotal keptIn works ∷ [])
+
+-- two planes of one size that agree on a component C of [a, b] in the first; in both all pixels next to C, by the
+-- neighbours that the pass carries, are outside [a, b]: in the first since C is a component. Wherever else they differ,
+-- one pass on [a, b] leaves C alike in both
+pub record Locality : Type 0 where
+  pub of-model : (near : Near) (s : Pass) (p q : List ℕ) (C : ℕ → Bool) → length q ≡ length p
+      → IsComponent near s p C → ((x : ℕ) → x < length p → C x ≡ true → at q x ≡ at p x) → Ringed near s q C
+      → (x : ℕ) → x < length p → C x ≡ true → at (passed near s q) x ≡ at (passed near s p) x
+  pub of-calls : (z : Shape) (s : Pass)
+      {p marks₁ queue₁ values₁ p' marks₁' queue₁' q marks₂ queue₂ values₂ q' marks₂' queue₂' : List ℕ}
+      → PassOutcome z s p marks₁ queue₁ (gives values₁) p' marks₁' queue₁'
+      → PassOutcome z s q marks₂ queue₂ (gives values₂) q' marks₂' queue₂'
+      → {C : ℕ → Bool} → IsComponent (passNeighbours z s) s p C
+      → ((x : ℕ) → x < length p → C x ≡ true → at q x ≡ at p x) → Ringed (passNeighbours z s) s q C
+      → (x : ℕ) → x < length p → C x ≡ true → at q' x ≡ at p' x
+
+pub record SectionsInParallel : Type 0 where
+  pub any-order : AnyOrder
+  pub handed-out : HandedOut
+  pub locality : Locality
 
 -- ## What is as it was before
 

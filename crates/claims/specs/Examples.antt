@@ -6,14 +6,18 @@
 --   Extrema, ExtremaExamples  how many regional maxima and minima a plane has
 --   Enhancing                 an enhancement leaves a plane and both counts: examples K and L, and planes of one value
 --   Many                      so many passes are a list, or refused: in memory, in files, and to be converted
+--   ParallelExamples          passes on disjoint intervals in both orders and on copies; overlapping ones, and a ring
+--                             that is not by the pass's own neighbours, for which nothing of the kind holds
 --   Starred                   all of them, with the published recursion on K, L and M, recolouring (N, O), the program
 --                             (P, and P with comments) and lists (Q in both versions, J in version 2, conversions)
 --   Demand3Met                an accepted frame, and calls from its plane of which one is accepted and two are refused
+--   ParallelMet               two orders of accepted calls on disjoint intervals, and copies on which they were made
 use Prim.Native.Nat.{ℕ}
 use mathlib.Core.Path.{_≡_}
-use mathlib.Core.Bool.{true}
+use mathlib.Core.Bool.{true, false}
 use mathlib.Core.List.{List, [], _∷_, _++_, map}
 use Rattle.planes.specs.Lists.{from}
+use Rattle.planes.specs.Permutations.{Permutation}
 use Rattle.planes.specs.Replies.{refuses, gives}
 use Rattle.planes.specs.Shapes.{shapeOf, neighbours, adjacency}
 use Rattle.planes.specs.declared.Shape.{Shape}
@@ -25,11 +29,13 @@ use Rattle.colours.specs.Calls.{IntensityOutcome}
 use Rattle.model.specs.declared.Pass.{Pass}
 use Rattle.model.specs.Neighbourhoods.{passNeighbours}
 use Rattle.model.specs.Effects.{passEffect, runEffect}
-use Rattle.model.specs.Calls.{numbersRefusal, chainEffect, AcceptedCarry}
+use Rattle.model.specs.Calls.{numbersRefusal, chainEffect, AllAccepted, AcceptedCarry}
 use Rattle.model.specs.Enhancement.{enhanced}
 use Rattle.tones.specs.Examples.{anyRatio, rowA, ToneExamples}
 use Rattle.model.specs.PublishedExamples.{PublishedExamples}
 use Rattle.passes.specs.Calls.{callOn, Sequence}
+use Rattle.schedules.specs.Orders.{PairwiseDisjoint, passesIn}
+use Rattle.schedules.specs.Copies.{Work, Worked, workPasses, together}
 use Rattle.listformat.specs.declared.Edition.{Edition}
 use Rattle.listformat.specs.declared.Edition.the-variants.{First, Second}
 use Rattle.listformat.specs.Format.{passesOf, encode}
@@ -150,6 +156,57 @@ pub record ExtremaExamples : Type 0 where
   pub before-joined : Extrema (row 3) (0 ∷ 1 ∷ 0 ∷ []) 1 2
   pub after-joined : Extrema (row 3) (1 ∷ 1 ∷ 1 ∷ []) 1 1
 
+-- ## Sections in parallel
+
+-- the dark and the bright half of all values, the latter by eight neighbours, and an interval that overlaps both
+abbrev pub dark : Pass
+dark = on 0 127 1 anyRatio
+
+abbrev pub bright : Pass
+bright = onEight 128 255 1 anyRatio
+
+abbrev pub middle : Pass
+middle = on 64 255 1 anyRatio
+
+abbrev pub rowH : List ℕ
+rowH = 10 ∷ 20 ∷ 200 ∷ 220 ∷ []
+
+abbrev pub rowH′ : List ℕ
+rowH′ = 64 ∷ 127 ∷ 192 ∷ 255 ∷ []
+
+-- what two workers did, each to a copy of its own
+abbrev pub darkWork : Work
+darkWork = record { calls = callOn 4 4 dark ∷ []; replies = gives (1 ∷ 0 ∷ []) ∷ []; plane = 64 ∷ 127 ∷ 200 ∷ 220 ∷ [] }
+
+abbrev pub brightWork : Work
+brightWork = record {
+  calls = callOn 5 4 bright ∷ [];
+  replies = gives (1 ∷ 0 ∷ []) ∷ [];
+  plane = 10 ∷ 20 ∷ 192 ∷ 255 ∷ [];
+}
+
+-- a run of passes from a plane leaves another, retones k components and keeps j back
+abbrev pub Running : Shape → List ℕ → List Pass → List ℕ → ℕ → ℕ → Type 0
+Running z p ss q k j = runEffect (passNeighbours z) ss p ≡ record { plane = q; retoned = k; kept = j }
+
+pub record ParallelExamples : Type 0 where
+  -- on disjoint intervals, in both orders and on copies that are put together
+  pub one-order : Running (row 4) rowH (dark ∷ bright ∷ []) rowH′ 2 0
+  pub other-order : Running (row 4) rowH (bright ∷ dark ∷ []) rowH′ 2 0
+  pub put-together : together (darkWork ∷ brightWork ∷ []) rowH ≡ rowH′
+  -- a pixel of no interval stays
+  pub unworked : together (darkWork ∷ []) rowH ≡ 64 ∷ 127 ∷ 200 ∷ 220 ∷ []
+  -- passes that overlap do not change places: 10 and 100 are one component of the first, 100 alone is one of the second
+  pub overlapping : Running (row 2) (10 ∷ 100 ∷ []) (dark ∷ middle ∷ []) (160 ∷ 255 ∷ []) 2 0
+  pub overlapping′ : Running (row 2) (10 ∷ 100 ∷ []) (middle ∷ dark ∷ []) (64 ∷ 127 ∷ []) 1 1
+  -- two planes that agree on the first pixel and in which its four neighbours are outside [0, 3]; by eight neighbours 1
+  -- belongs to it in the second, and the pass leaves it alike by four neighbours only
+  pub ring : adjacency (shapeOf 2 2) 8 0 3 ≡ true
+  pub ring-four : adjacency (shapeOf 2 2) 4 0 3 ≡ false
+  pub ringed : After (shapeOf 2 2) (0 ∷ 254 ∷ 254 ∷ 254 ∷ []) (onEight 0 3 1 anyRatio) (0 ∷ 254 ∷ 254 ∷ 254 ∷ []) 0 1
+  pub unringed : After (shapeOf 2 2) (0 ∷ 254 ∷ 254 ∷ 1 ∷ []) (onEight 0 3 1 anyRatio) (2 ∷ 254 ∷ 254 ∷ 3 ∷ []) 1 0
+  pub ringed-four : After (shapeOf 2 2) (0 ∷ 254 ∷ 254 ∷ 1 ∷ []) (on 0 3 1 anyRatio) (0 ∷ 254 ∷ 254 ∷ 1 ∷ []) 0 2
+
 -- ## All of them
 
 -- an enhancement of a frame by so many neighbours leaves the plane q, retones k components and keeps j back
@@ -233,6 +290,7 @@ pub record Starred : Type 0 where
   pub passes : PassExamples
   pub eight : Eight
   pub extrema : ExtremaExamples
+  pub parallel : ParallelExamples
   pub K : Enhancing greyK (row 2) 0 20 anyRatio (128 ∷ 255 ∷ []) 1 0
   pub L : Enhancing greyK (row 2) 1 1 anyRatio (192 ∷ 255 ∷ []) 2 0
   -- one value: kept back on both levels; on level 0 alone where its area is below the least
@@ -296,3 +354,19 @@ pub record Demand3Met : Type 0 where
       (callOn 2 2 (onEight 0 255 1 anyRatio) ∷ callOn 2 1 (on 0 255 1 anyRatio) ∷ callOn 2 2 (on 255 0 1 anyRatio)
       ∷ [])
       (gives (1 ∷ 0 ∷ []) ∷ refuses 4 ∷ refuses 5 ∷ [])
+
+-- ## The hypotheses on sections in parallel can be met
+
+-- calls of the dark and of the bright half from one plane, in both orders, with marks of several lengths; and the same
+-- calls on two copies
+pub record ParallelMet : Type 0 where
+  pub calls : Sequence (row 4) rowH (callOn 4 4 dark ∷ callOn 5 4 bright ∷ [])
+      (gives (1 ∷ 0 ∷ []) ∷ gives (1 ∷ 0 ∷ []) ∷ []) rowH′
+  pub turned : Sequence (row 4) rowH (callOn 4 5 bright ∷ callOn 4 4 dark ∷ [])
+      (gives (1 ∷ 0 ∷ []) ∷ gives (1 ∷ 0 ∷ []) ∷ []) rowH′
+  pub accepted : AllAccepted (gives (1 ∷ 0 ∷ []) ∷ gives (1 ∷ 0 ∷ []) ∷ [])
+  pub disjoint : PairwiseDisjoint (dark ∷ bright ∷ [])
+  pub permuted : Permutation (passesIn (callOn 4 4 dark ∷ callOn 5 4 bright ∷ []))
+      (passesIn (callOn 4 5 bright ∷ callOn 4 4 dark ∷ []))
+  pub worked : Worked (row 4) rowH (darkWork ∷ brightWork ∷ [])
+  pub work-passes : workPasses (darkWork ∷ brightWork ∷ []) ≡ dark ∷ bright ∷ []

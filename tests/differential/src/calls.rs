@@ -6,6 +6,7 @@ use crate::convert;
 use crate::guarded::Guarded;
 use crate::in_memory;
 use crate::inputs::{self, one_in, PassNumbers, SettingsNumbers};
+use crate::orders;
 use crate::work::Work;
 use mlhe::ffi;
 use mlhe_reference as reference;
@@ -14,8 +15,20 @@ use mlhe_reference::random::Random;
 use mlhe_reference::{Counts, Pass, Refusal, Rule, Settings, Version, EIGHT, FOUR};
 
 /// The kinds of case, in the order of `case`.
-pub const KINDS: [&str; 11] =
-    ["intensity", "pass", "recolour", "enhance", "list", "read", "write", "chain", "levels", "passes", "convert"];
+pub const KINDS: [&str; 12] = [
+    "intensity",
+    "pass",
+    "recolour",
+    "enhance",
+    "list",
+    "read",
+    "write",
+    "chain",
+    "levels",
+    "passes",
+    "convert",
+    "orders",
+];
 
 /// What a call that counts answered: its counts, or the refusal.
 pub type Counted = Result<Counts, Refusal>;
@@ -64,7 +77,8 @@ pub fn case(kind: usize, random: &mut Random) -> Compared {
         7 => chain(random),
         8 => levels(random),
         9 => in_memory::passes(random),
-        _ => convert::there_and_back(random),
+        10 => convert::there_and_back(random),
+        _ => orders::orders(random),
     }
 }
 

@@ -62,7 +62,7 @@ fn same_file(list: &PassList, passes: &[Pass]) -> Result<(), String> {
 }
 
 /// The pass as the Rust crate has it.
-fn pass_of(pass: &Pass) -> mlhe::Pass {
+pub fn pass_of(pass: &Pass) -> mlhe::Pass {
     let short = |number: u32| u16::try_from(number).expect("a 16-bit number");
     let rule = match pass.rule {
         Rule::Plain { low, high } => mlhe::Rule::Plain { low: short(low), high: short(high) },

@@ -276,6 +276,37 @@ pub fn pass_numbers(random: &mut Random, n: usize, neighbours: Neighbours) -> Pa
     PassNumbers { a, b, area: area(random, n), rule: lent_rule(random, neighbours) }
 }
 
+/// Sound passes on pairwise disjoint intervals, up to six, for a plane of n pixels. They may leave values out, and all
+/// have four neighbours, all have eight, or both numbers occur.
+pub fn disjoint_passes(random: &mut Random, n: usize) -> Vec<Pass> {
+    let numbers = neighbours(random);
+    let mut cuts: Vec<usize> = (0..random.between(2, 7)).map(|_| random.below(257)).collect();
+    cuts.sort_unstable();
+    cuts.dedup();
+    let mut passes = Vec::new();
+    for pair in cuts.windows(2) {
+        if one_in(random, 5) {
+            continue;
+        }
+        let (a, end) = (pair[0], pair[1] - 1);
+        let b = if one_in(random, 3) { random.between(a, end) } else { end };
+        let (area, rule) = sound_numbers(random, n);
+        let neighbours = random.one_of(numbers) as u8;
+        passes.push(Pass { a: a as u8, b: b as u8, area, rule: rule_of(rule), neighbours });
+    }
+    passes
+}
+
+/// The rule of these numbers. Of segments it has the low byte.
+fn rule_of(numbers: RuleNumbers) -> Rule {
+    let [code, first, second, segments] = numbers.map(u32::from);
+    match code {
+        0 => Rule::Plain { low: first, high: second },
+        1 => Rule::Limited { k: first },
+        _ => Rule::Affine { segments: segments % 256, smin: first, smax: second },
+    }
+}
+
 /// Passes of a list in memory for a plane of n pixels, most of them sound, with these numbers of neighbours. Of
 /// segments and neighbours a pass has the low byte.
 pub fn memory_passes(random: &mut Random, greatest: usize, n: usize, neighbours: Neighbours) -> Vec<Pass> {
@@ -284,12 +315,7 @@ pub fn memory_passes(random: &mut Random, greatest: usize, n: usize, neighbours:
     for _ in 0..count {
         let (a, b) = interval(random);
         let area = area(random, n);
-        let [code, first, second, segments] = rule_numbers(random).map(u32::from);
-        let rule = match code {
-            0 => Rule::Plain { low: first, high: second },
-            1 => Rule::Limited { k: first },
-            _ => Rule::Affine { segments: segments % 256, smin: first, smax: second },
-        };
+        let rule = rule_of(rule_numbers(random));
         passes.push(Pass { a, b, area, rule, neighbours: neighbours_number(random, neighbours) as u8 });
     }
     passes

@@ -10,17 +10,18 @@
 //! short, exact and long; any content in marks and queue; guards around all lent memory. Compared are answers, counts,
 //! planes, outputs and every byte that has to stay; on all that is accepted the order of neighbours, the regional maxima
 //! and minima, and the components of sufficient area, each counted from its definition, by four neighbours, and by eight
-//! where all accepted passes have eight; enhancements with the lists of passes that they equal; and lists with their
-//! conversions, which are turned back into them and leave equal planes and counts. Ends with status 1 at the first
-//! difference. At the end it has to have seen every refusal, accepted calls of every kind, components retoned and kept
-//! back by every kind that counts, and planes changed and held against the first by eight neighbours. Each processor
-//! tries a share of the cases.
+//! where all accepted passes have eight; enhancements with the lists of passes that they equal; lists with their
+//! conversions, which are turned back into them and leave equal planes and counts; and passes on disjoint intervals in
+//! two orders and on copies that are put together. Ends with status 1 at the first difference. At the end it has to have
+//! seen every refusal, accepted calls of every kind, components retoned and kept back by every kind that counts, and
+//! planes changed and held against the first by eight neighbours. Each processor tries a share of the cases.
 
 mod calls;
 mod convert;
 mod guarded;
 mod in_memory;
 mod inputs;
+mod orders;
 mod work;
 
 use calls::{Outcome, KINDS};
@@ -39,10 +40,10 @@ const SEED: u64 = 20_260;
 const TOLD: u64 = 100_000;
 
 /// The kinds of case whose calls count components.
-const COUNTING: [&str; 7] = ["pass", "enhance", "list", "chain", "levels", "passes", "convert"];
+const COUNTING: [&str; 8] = ["pass", "enhance", "list", "chain", "levels", "passes", "convert", "orders"];
 
 /// Those whose calls may have eight neighbours.
-const BY_EIGHT: [&str; 6] = ["pass", "enhance", "list", "chain", "levels", "passes"];
+const BY_EIGHT: [&str; 7] = ["pass", "enhance", "list", "chain", "levels", "passes", "orders"];
 
 /// How often each kind of case was tried, accepted, held against the first plane by eight neighbours, and refused with
 /// each number, and what its calls counted.
