@@ -205,7 +205,7 @@ int main(int argc, char **argv) {
         if (memcmp(plane, whole, n) != 0 || memcmp(sums, counts, sizeof counts) != 0) {
             fail(name, "the sections put together are not the enhancement");
         }
-        printf("level %u: %u sections on %u threads, so far %zu components retoned, %zu kept: as the enhancement\n", l,
+        printf("level %u: sections %u, threads %u; so far retoned %zu, kept %zu: as the enhancement\n", l,
                level.sections, threads, sums[MLHE_RETONED], sums[MLHE_KEPT]);
     }
 

@@ -44,7 +44,8 @@ fn orders(many: usize) -> Vec<Vec<usize>> {
 fn on_copies(first: &[u8], w: usize, passes: &[Pass]) -> (Vec<u8>, Vec<Counts>) {
     let (copies, counts): (Vec<Vec<u8>>, Vec<Counts>) = passes.iter().map(|one| passed(first, w, one)).unzip();
     let of = |value: u8| passes.iter().position(|one| (one.a..=one.b).contains(&value));
-    let together = first.iter().enumerate().map(|(at, &value)| of(value).map_or(value, |one| copies[one][at])).collect();
+    let together =
+        first.iter().enumerate().map(|(at, &value)| of(value).map_or(value, |one| copies[one][at])).collect();
     (together, counts)
 }
 

@@ -14,6 +14,7 @@ use Rattle.planes.specs.Lists.{from, at}
 use Rattle.planes.specs.Neighbours.{Near}
 use Rattle.planes.specs.Shapes.{neighbours, adjacency}
 use Rattle.planes.specs.declared.Shape.{Shape}
+use Rattle.planes.proofs.Refusals.{▷-last}
 use Rattle.planes.proofs.Shapes.{adjacency-other}
 use Rattle.tones.specs.Refusals.{ruleRefusal}
 use Rattle.tones.specs.Numbers.{malformed}
@@ -44,22 +45,17 @@ use Rattle.claims.specs.Before.{listBefore, passesBefore, greatestBefore
 pub by-four : (z : Shape) → adjacency z 4 ≡ neighbours z
 by-four z = adjacency-other z 4 refl
 
--- a refusal that does not apply, at the end of an order
-pub last-none : (x y : ℕ) → y ≡ 0 → x ▷ y ≡ x
-last-none zero y e = e
-last-none (suc x) y e = refl
-
 pub numbers-before : (s : Pass) → Carries 4 s → numbersRefusal s ≡ numbersBefore s
 unfolding numbersRefusal
 numbers-before s e =
     ap (λ (k : ℕ). intervalRefusal (s .a) (s .b) ▷ areaRefusal (s .area) ▷ k)
-    (last-none (ruleRefusal (s .rule)) (neighbourRefusal (s .neighbours)) (four-accepted e))
+    (▷-last (ruleRefusal (s .rule)) (neighbourRefusal (s .neighbours)) (four-accepted e))
 
 pub settings-before : (t : Settings) → t .neighbours ≡ 4 → settingsRefusal t ≡ settingsBefore t
 unfolding settingsRefusal
 settings-before t e =
     ap (λ (k : ℕ). levelRefusal (t .last) ▷ areaRefusal (t .area) ▷ k)
-    (last-none (ruleRefusal (t .rule)) (neighbourRefusal (t .neighbours)) (four-accepted e))
+    (▷-last (ruleRefusal (t .rule)) (neighbourRefusal (t .neighbours)) (four-accepted e))
 
 pub pass-before : (z : Shape) (s : Pass) (plane : List ℕ) → Carries 4 s
     → passEffect (passNeighbours z) s plane ≡ passEffect (always (neighbours z)) s plane

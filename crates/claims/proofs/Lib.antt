@@ -5,4 +5,3 @@ pub mod Enhancements
 pub mod Parallel
 pub mod CFunctions
 pub mod Contracts
-pub mod Examples

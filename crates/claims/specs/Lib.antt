@@ -2,4 +2,3 @@ pub mod Before
 pub mod Claims
 pub mod CFunctions
 pub mod Contracts
-pub mod Examples

@@ -30,6 +30,11 @@ pub ▷-right : (x y : ℕ) → x ≡ 0 → x ▷ y ≡ y
 ▷-right zero y e = refl
 ▷-right (suc x) y e = absurd (omega arith)
 
+-- a refusal that does not apply, at the end of an order
+pub ▷-last : (x y : ℕ) → y ≡ 0 → x ▷ y ≡ x
+▷-last zero y e = e
+▷-last (suc x) y e = refl
+
 pub ▷-both : (x y : ℕ) → x ≡ 0 → y ≡ 0 → x ▷ y ≡ 0
 ▷-both x y e d = ▷-right x y e ∙ d
 

@@ -83,7 +83,8 @@ fn on_copies(random: &mut Random, first: &Plane, passes: &[Pass]) -> Result<(Pla
         counts[at] = call(&mut copies[worker], &passes[at])?;
         worker_of[usize::from(passes[at].a)..=usize::from(passes[at].b)].fill(Some(worker));
     }
-    let pixel = |(at, &old): (usize, &u8)| worker_of[usize::from(old)].map_or(old, |worker| copies[worker].values()[at]);
+    let pixel =
+        |(at, &old): (usize, &u8)| worker_of[usize::from(old)].map_or(old, |worker| copies[worker].values()[at]);
     let values = first.values().iter().enumerate().map(pixel).collect();
     let together = Plane::new(first.width(), first.height(), values).map_err(|refusal| refusal.to_string())?;
     Ok((together, counts))

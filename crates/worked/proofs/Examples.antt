@@ -16,7 +16,7 @@ use Rattle.planes.specs.Neighbours.{four, eight, linked, component, first}
 use Rattle.planes.specs.Extrema.{flat, extreme, extremes}
 use Rattle.planes.proofs.Lists.{beyond-refl}
 use Rattle.planes.proofs.Counts.{length-from}
-use Rattle.planes.proofs.Refusals.{output-none}
+use Rattle.planes.proofs.Refusals.{▷-last, output-none}
 use Rattle.plain.specs.Plain.{plainTone, plainKept}
 use Rattle.limited.specs.Limited.{clipped, limitedTone}
 use Rattle.points.specs.Points.{leastFrom, nextPoint, pointsAfter}
@@ -60,10 +60,9 @@ use Rattle.headers.specs.Grammar.{mark, numeral, field, headerWith, header}
 use Rattle.netpbm.specs.Reading.{maxvalRefusal, rasterRefusal, trailingRefusal, frameRefusal, readAnswer}
 use Rattle.printing.specs.Printing.{enhancedFrame}
 use Rattle.frames.specs.Program.{programOutput}
-use Rattle.claims.specs.Examples.{on, onEight, PassExamples, Eight, ExtremaExamples, timesE, Many, Starred}
-use Rattle.claims.specs.Examples.{Demand3Met, After, row, dark, bright, rowH, rowH′, ParallelExamples}
-use Rattle.claims.specs.Examples.{ParallelMet}
-use Rattle.claims.proofs.Before.{last-none}
+use Rattle.worked.specs.Examples.{on, onEight, PassExamples, Eight, ExtremaExamples, timesE, Many, Starred}
+use Rattle.worked.specs.Examples.{Demand3Met, After, row, dark, bright, rowH, rowH′, ParallelExamples}
+use Rattle.worked.specs.Examples.{ParallelMet}
 
 pass-examples : PassExamples
 unfolding passNeighbours adjacency neighbours four linked component first plainTone plainKept clipped limitedTone tone
@@ -171,7 +170,7 @@ many count number few is =
       in-file = λ e. encoded-refusal e (timesE count) told (stored e (timesE count) fit) ∙ is;
       to-convert = λ e. encoded-converts (timesE count) told fit e 16391
           ∙ ap₂ (λ (k n : ℕ). k ▷ outputRefusal 16391 (recordStart (other e) n)) is (times-length count)
-          ∙ last-none number (outputRefusal 16391 (recordStart (other e) count)) (room count few e);
+          ∙ ▷-last number (outputRefusal 16391 (recordStart (other e) count)) (room count few e);
     }
 
 pub starred : Starred
