@@ -1,6 +1,6 @@
-// Each level's sections are taken by threads one after the other, each thread on a copy of its own of the plane that the
-// level began with. The copies are put together: a pixel's new value is that in the copy of the thread that took the
-// section of its old value. The next level begins with that plane. Intensity and colours are in both times.
+// Each level's sections are taken by threads one after the other, each thread on a copy of its own of the plane that
+// the level began with. The copies are put together: a pixel's new value is that in the copy of the thread that took
+// the section of its old value. The next level begins with that plane. Intensity and colours are in both times.
 
 #include "handed.hpp"
 

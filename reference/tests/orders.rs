@@ -1,7 +1,7 @@
-//! Passes on disjoint intervals: every order and copies that are put together end alike, and one pass leaves a component
-//! alike wherever else planes differ. Tried on all small planes of few values and on random ones, for the passes of this
-//! implementation, which knows nothing of it. Where intervals overlap, and where the ring around a component is not by
-//! the pass's own neighbours, examples end otherwise.
+//! Passes on disjoint intervals: every order and copies that are put together end alike, and one pass leaves a
+//! component alike wherever else planes differ. Tried on all small planes of few values and on random ones, for the
+//! passes of this implementation, which knows nothing of it. Where intervals overlap, and where the ring around a
+//! component is not by the pass's own neighbours, examples end otherwise.
 
 use mlhe_reference::random::Random;
 use mlhe_reference::{enhance, level_by_level, pass, Components, Counts, Pass, Rule, Settings, EIGHT, FOUR};

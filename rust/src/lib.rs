@@ -38,6 +38,37 @@
 //! # Ok::<(), Refusal>(())
 //! ```
 
+//! # Sections in parallel
+//!
+//! Passes on intervals that have no value in common may run in any order from one plane, or each on a copy of it, by
+//! threads that know nothing of each other: the last plane and the counts of each pass are the same. Copies are put
+//! together pixel by pixel: the new value is that in the copy on which the pass ran whose interval has the **old**
+//! value, and the old value where no interval has it. The sections of one level of an enhancement are such passes.
+//!
+//! ```
+//! use mlhe::{Counts, Memory, Pass, Plane, Refusal, Rule};
+//! use std::thread;
+//!
+//! let first = Plane::new(4, 1, vec![10, 20, 200, 220])?;
+//! let rule = Rule::Plain { low: 0, high: 25_500 };
+//! let run = |pass: Pass| {
+//!     let mut copy = first.clone();
+//!     copy.pass(&pass, &mut Memory::new()).map(|counts| (copy, counts))
+//! };
+//! let (dark, bright) = thread::scope(|scope| {
+//!     let dark = scope.spawn(|| run(Pass::new(0, 127, 1, rule)));
+//!     let bright = run(Pass::new(128, 255, 1, rule));
+//!     (dark.join().expect("no panic"), bright)
+//! });
+//! let ((dark, one), (bright, other)) = (dark?, bright?);
+//! let copies = dark.values().iter().zip(bright.values());
+//! let pixel = |(&old, (&dark, &bright)): (&u8, (&u8, &u8))| if old <= 127 { dark } else { bright };
+//! let together: Vec<u8> = first.values().iter().zip(copies).map(pixel).collect();
+//! assert_eq!(together, [64, 127, 192, 255]);
+//! assert_eq!([one, other], [Counts { retoned: 1, kept: 0 }; 2]);
+//! # Ok::<(), Refusal>(())
+//! ```
+
 #![deny(missing_docs)]
 #![warn(clippy::must_use_candidate, clippy::return_self_not_must_use)]
 

@@ -89,8 +89,10 @@ together-shapes : (near : Near) → Symmetric near → (z : Shape) {first : List
     → All (λ s. Narrower near (passNeighbours z s)) (workPasses works)
     → ShapePreserving near first (together works first)
 together-shapes near symm z {first} {works} W d inside =
+    let within : All (λ s. Ordered s × Narrower near (passNeighbours z s)) (workPasses works) =
+    all-both (λ s o w. (o, w)) (works-ordered z first W) inside in
     subst (ShapePreserving near first) (sym (together-run z first W d))
-    (fine-shapes symm (run-fine near z (workPasses works) (all-both (λ s o w. (o, w)) (works-ordered z first W) inside) first))
+    (fine-shapes symm (run-fine near z (workPasses works) within first))
 
 -- the effect of an accepted enhancement is the run of its passes
 enhancement-run : (z : Shape) (t : Settings) (frame plane marks queue output : List ℕ)

@@ -5,7 +5,8 @@
 --
 --   component-linked   a component is what is linked to any of its pixels
 --   linked-component   what is linked to a pixel of the section is a component
---   locally-alike      a pass leaves it alike, on the model
+--   component-too      a component that another plane agrees on and rings is one there too
+--   locally-alike      a pass leaves it alike in both, on the model
 --   calls-alike        so do two accepted calls
 use Prim.Native.Nat.{ℕ, _<_}
 use mathlib.Core.Path.{_≡_, sym, ap, subst, _∙_}
@@ -112,10 +113,24 @@ module _ (near : Near) (s : Pass) (p : List ℕ) where
 module _ (near : Near) (s : Pass) (p q : List ℕ) (size : length q ≡ length p) {C : ℕ → Bool}
     (K : IsComponent near s p C) (agree : (x : ℕ) → x < length p → C x ≡ true → at q x ≡ at p x)
     (ring : Ringed near s q C) where
+  longer : (y : ℕ) → y < length p → y < length q
+  longer y h = subst (y <_) (sym size) h
+
+  -- it is a component of the second plane too
+  pub component-too : IsComponent near s q C
+  component-too = record {
+    pixel = K .pixel;
+    below = longer (K .pixel) (K .below);
+    holds = K .holds;
+    section = λ x hx c. let h = subst (x <_) size hx in ap (within s) (agree x h c) ∙ K .section x h c;
+    connected = λ x y hx hy c d. subst (λ (m : ℕ). Chain (among near C) m x y) (sym size)
+        (K .connected x y (subst (x <_) size hx) (subst (y <_) size hy) c d);
+    largest = ring;
+  }
+
   pub locally-alike : (x : ℕ) → x < length p → C x ≡ true → at (passed near s q) x ≡ at (passed near s p) x
   locally-alike x hx c =
       let same = component-linked near s p K x hx c in
-      let longer : (y : ℕ) → y < length p → y < length q = λ y h. subst (y <_) (sym size) h in
       passed-at near s q x (longer x hx)
       ∙ component-alike near s p q size x hx (λ y hy d. agree y hy (same y hy ∙ d))
       (λ y v hy hv d e f. ring y v (longer y hy) (longer v hv) (same y hy ∙ d) (same v hv ∙ f) e)

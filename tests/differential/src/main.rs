@@ -5,16 +5,17 @@
 //!     cargo run --release -- --cases N --seed S    so many, from another seed
 //!     cargo run --release -- --case K --seed S     one case again
 //!
-//! Every case is random from its seed and its number: sides, frames, planes, files and lists of both versions, sound and
-//! damaged; chains of passes and lists with four neighbours and with eight, with refused calls among them; lengths
+//! Every case is random from its seed and its number: sides, frames, planes, files and lists of both versions, sound
+//! and damaged; chains of passes and lists with four neighbours and with eight, with refused calls among them; lengths
 //! short, exact and long; any content in marks and queue; guards around all lent memory. Compared are answers, counts,
-//! planes, outputs and every byte that has to stay; on all that is accepted the order of neighbours, the regional maxima
-//! and minima, and the components of sufficient area, each counted from its definition, by four neighbours, and by eight
-//! where all accepted passes have eight; enhancements with the lists of passes that they equal; lists with their
-//! conversions, which are turned back into them and leave equal planes and counts; and passes on disjoint intervals in
-//! two orders and on copies that are put together. Ends with status 1 at the first difference. At the end it has to have
-//! seen every refusal, accepted calls of every kind, components retoned and kept back by every kind that counts, and
-//! planes changed and held against the first by eight neighbours. Each processor tries a share of the cases.
+//! planes, outputs and every byte that has to stay; on all that is accepted the order of neighbours, the regional
+//! maxima and minima, and the components of sufficient area, each counted from its definition, by four neighbours, and
+//! by eight where all accepted passes have eight; enhancements with the lists of passes that they equal; lists with
+//! their conversions, which are turned back into them and leave equal planes and counts; and passes on disjoint
+//! intervals in two orders and on copies that are put together. Ends with status 1 at the first difference. At the end
+//! it has to have seen every refusal, accepted calls of every kind, components retoned and kept back by every kind that
+//! counts, and planes changed and held against the first by eight neighbours. Each processor tries a share of the
+//! cases.
 
 mod calls;
 mod convert;
