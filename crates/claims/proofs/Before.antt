@@ -1,7 +1,7 @@
 -- By 4 neighbours passes and enhancements are what they were before there was a choice: their effects are those by the
 -- four neighbours, and 19 does not apply. So are lists in files that do not name version 2. Lists of few passes are
 -- refused as when a list might have more of them, and those of many get 16. Assumes nothing.
-use Prim.Native.Nat.{ℕ, zero, suc, _≤_, _<_}
+use Prim.Native.Nat.{ℕ, _≤_, _<_}
 use mathlib.Core.Path.{_≡_, refl, sym, ap, ap₂, _∙_}
 use mathlib.Core.Bool.{Bool, true, false, not, cond, _||_, or-false, or-true}
 use mathlib.Core.List.{List, [], _∷_, map}

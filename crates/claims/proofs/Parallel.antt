@@ -1,14 +1,14 @@
 -- Passes on pairwise disjoint intervals end alike in every order, and on copies of a plane that are put together; and a
 -- pass leaves a component alike wherever else planes differ: `sections-in-parallel`. By the laws of schedules; an
 -- enhancement is its levels handed out, since its chain is the run of its passes. Assumes nothing.
-use Prim.Native.Nat.{ℕ, _≤_}
+use Prim.Native.Nat.{ℕ}
 use mathlib.Core.Path.{_≡_, sym, ap, subst, _∙_}
-use mathlib.Core.List.{List, [], _∷_, map}
+use mathlib.Core.List.{List, [], _∷_}
 use lib.ListN.{length}
 use Rattle.planes.specs.Neighbours.{Near}
 use Rattle.planes.specs.Permutations.{Permutation}
 use Rattle.planes.specs.Replies.{gives}
-use Rattle.planes.specs.Shapes.{pixels, neighbours, adjacency, Symmetric, Narrower}
+use Rattle.planes.specs.Shapes.{neighbours, adjacency, Symmetric, Narrower}
 use Rattle.planes.specs.declared.Shape.{Shape}
 use Rattle.planes.proofs.Refusals.{▷-none}
 use Rattle.planes.proofs.Shapes.{neighbours-sym, adjacency-sym}
@@ -19,8 +19,8 @@ use Rattle.model.specs.Neighbourhoods.{passNeighbours}
 use Rattle.model.specs.Effects.{Effect, counts, runEffect}
 use Rattle.model.specs.Enhancement.{passes, enhanced}
 use Rattle.model.specs.Outcomes.{Outcome}
-use Rattle.model.specs.Runs.{All, Carries}
-use Rattle.model.specs.Calls.{numbersRefusal, retonedIn, keptIn, chainEffect}
+use Rattle.model.specs.Runs.{All}
+use Rattle.model.specs.Calls.{retonedIn, keptIn, chainEffect}
 use Rattle.model.proofs.Chains.{ordered, carries-within}
 use Rattle.model.proofs.Enhancement.{start-runs}
 use Rattle.model.proofs.Neighbourhoods.{pass-wider}
@@ -32,7 +32,7 @@ use Rattle.enhance.proofs.Calls.{fine, fine-passes, fine-length}
 use Rattle.listformat.specs.Format.{passesOf}
 use Rattle.listchecks.specs.Refusals.{listRefusal, passesRefusal}
 use Rattle.listchecks.proofs.Refusals.{accepted-list}
-use Rattle.passlists.specs.Outcomes.{slicesRefusal, PassesOutcome, ListOutcome}
+use Rattle.passlists.specs.Outcomes.{slicesRefusal}
 use Rattle.passlists.proofs.Chains.{all-fine}
 use Rattle.passlists.proofs.Refusals.{fine-passes as passes-fine}
 use Rattle.schedules.specs.Orders.{PairwiseDisjoint}

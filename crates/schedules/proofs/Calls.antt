@@ -1,7 +1,7 @@
 -- Sequences of accepted calls of `pass`: what they leave is the run of their passes, and where these are on pairwise
 -- disjoint intervals, each pass answers what it answers on the first plane. So two orders of them end in one plane, and
 -- each pass answers the same in both. Assumes nothing.
-use Prim.Native.Nat.{ℕ, _+_, _≤_}
+use Prim.Native.Nat.{ℕ, _+_}
 use mathlib.Core.Path.{_≡_, refl, sym, ap, ap₂, subst, _∙_}
 use mathlib.Core.Logic.{_↔_}
 use mathlib.Core.List.{List, [], _∷_}

@@ -29,7 +29,7 @@ use Rattle.model.specs.Passes.{within, changes, keptBack, newTone, componentCou
 use Rattle.model.specs.Effects.{Effect, nothing, then, passEffect, runEffect}
 use Rattle.model.specs.Runs.{All, none, more, run}
 use Rattle.model.specs.Calls.{Call, retonedIn, keptIn, total, AllAccepted}
-use Rattle.model.proofs.Recursion.{all-append, effect-same, run-append}
+use Rattle.model.proofs.Recursion.{all-append, all-map, effect-same, run-append}
 use Rattle.passes.specs.Calls.{Sequence}
 use Rattle.schedules.specs.Orders.{PairwiseDisjoint, passesIn, Answered}
 use Rattle.schedules.specs.Copies.{Work, Worked, none, more, workPasses, WorkAnswered, now, later, workTotal}
@@ -125,7 +125,7 @@ module _ (z : Shape) (p : List ℕ) where
       pixel i h =
           all-at back (length p) i h
           ∙ sym (handed (run by (workPasses ws) p) i h W d
-          (all-both (λ s f o. f i h) (R .sections) (works-ordered W)) (R .elsewhere i h))
+          (all-map (λ s f. f i h) (R .sections)) (R .elsewhere i h))
 
   -- ## Answers
 
@@ -135,8 +135,8 @@ module _ (z : Shape) (p : List ℕ) where
   works-answered none d = none
   works-answered (more {w = w} S a W) d =
       let apart = pairwise-parts (passesIn (w .calls)) d in
-      all-append (all-both (λ s x o. now x) (all-answered z S a (apart .0)) (sequence-run z S a .0))
-      (all-both (λ s x o. later x) (works-answered W (apart .1)) (works-ordered W))
+      all-append (all-map (λ s x. now x) (all-answered z S a (apart .0)))
+      (all-map (λ s x. later x) (works-answered W (apart .1)))
 
   pub work-answered-is : {s : Pass} {reply : Reply} {ws : List Work} → Worked z p ws → PairwiseDisjoint (workPasses ws)
       → WorkAnswered s reply ws → reply ≡ answerOn z p s

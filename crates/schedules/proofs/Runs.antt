@@ -6,7 +6,7 @@
 --   run-ran        a run leaves such a plane
 --   total-first    the counts of a run are the sums of those that each pass has on the first plane
 --   run-fine       a run keeps the order of neighbours, for any relation inside those of all its passes
-use Prim.Native.Nat.{ℕ, _+_, _≤_, _<_}
+use Prim.Native.Nat.{ℕ, _+_, _<_}
 use mathlib.Core.Path.{_≡_, refl, sym, ap, ap₂, subst, _∙_}
 use mathlib.Core.Bool.{Bool, true, false}
 use mathlib.Core.List.{List, [], _∷_, _++_}
