@@ -125,6 +125,14 @@ fn level_by_level_on_copies() {
     }
 }
 
+#[test]
+fn the_dark_and_the_bright_half() {
+    let (first, passes) = ([10, 20, 200, 220], [on(0, 127, 1, FREE, FOUR), on(128, 255, 1, FREE, EIGHT)]);
+    all_orders_agree(&first, 4, &passes);
+    let (together, counts) = on_copies(&first, 4, &passes);
+    assert_eq!((together, counts), (vec![64, 127, 192, 255], vec![Counts { retoned: 1, kept: 0 }; 2]));
+}
+
 /// Two passes that overlap: 10 and 100 are one component of the first, and 100 alone one of the second.
 #[test]
 fn overlapping_intervals_do_not_change_places() {
