@@ -34,10 +34,11 @@
  * call with memory of their own. marks and queue are working memory: at least n elements each, with any content; their
  * first n elements are unspecified after an accepted call, and all others keep their values.
  *
- * Any order. Passes on intervals that have no value in common may run in any order from one plane, or each on a copy of
- * it: the last plane and the counts of each pass are the same. Copies are put together pixel by pixel: the new value is
- * that in the copy on which the pass ran whose interval has the old value, and the old value where no interval has it.
- * The sections of one level of an enhancement are such passes; examples/threads hands them out to threads.
+ * Any order. Accepted passes on intervals that have no value in common may run in any order from one plane, or each on
+ * a copy of it: the last plane and the counts of each pass are the same. Copies are put together pixel by pixel: the
+ * new value is that in the copy on which the pass ran whose interval has the old value, and the old value where no
+ * interval has it. The sections of one level of an enhancement are such passes; examples/threads hands them out to
+ * threads.
  *
  * No overlap. Within one call no writable memory may overlap any other memory of the call. The proofs are made under
  * this condition, and the code cannot test it: a call with memory that overlaps may leave anything, write outside of

@@ -40,9 +40,9 @@
 
 //! # Sections in parallel
 //!
-//! Passes on intervals that have no value in common may run in any order from one plane, or each on a copy of it, by
-//! threads that know nothing of each other: the last plane and the counts of each pass are the same. Copies are put
-//! together pixel by pixel: the new value is that in the copy on which the pass ran whose interval has the **old**
+//! Accepted passes on intervals that have no value in common may run in any order from one plane, or each on a copy of
+//! it, by threads that know nothing of each other: the last plane and the counts of each pass are the same. Copies are
+//! put together pixel by pixel: the new value is that in the copy on which the pass ran whose interval has the **old**
 //! value, and the old value where no interval has it. The sections of one level of an enhancement are such passes.
 //!
 //! ```

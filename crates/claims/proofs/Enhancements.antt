@@ -40,7 +40,7 @@ module _ (t : Settings) (z : Shape) {frame lent told first : List ℕ}
   same-chain : enhanced z first (t .last) (t .area) (t .rule) (t .neighbours) ≡ chainOf z t frame
   same-chain = ap (λ (p : List ℕ). enhanced z p (t .last) (t .area) (t .rule) (t .neighbours)) (filled I)
 
-  as-enhanced : {reply : Reply} {last : List ℕ}
+  pub as-enhanced : {reply : Reply} {last : List ℕ}
       → (last ≡ enhanced z first (t .last) (t .area) (t .rule) (t .neighbours) .plane)
       × (reply ≡ gives (counts (chainEffect (enhanced z first (t .last) (t .area) (t .rule) (t .neighbours)))))
       → AsEnhanced z frame values plane' output' reply last

@@ -12,7 +12,6 @@ use Rattle.planes.specs.Shapes.{neighbours, adjacency, Symmetric, Narrower}
 use Rattle.planes.specs.declared.Shape.{Shape}
 use Rattle.planes.proofs.Refusals.{▷-none}
 use Rattle.planes.proofs.Shapes.{neighbours-sym, adjacency-sym}
-use Rattle.colours.specs.Frames.{intensity}
 use Rattle.colours.specs.Calls.{IntensityOutcome}
 use Rattle.model.specs.declared.Pass.{Pass}
 use Rattle.model.specs.Neighbourhoods.{passNeighbours}
@@ -20,14 +19,14 @@ use Rattle.model.specs.Effects.{Effect, counts, runEffect}
 use Rattle.model.specs.Enhancement.{passes, enhanced}
 use Rattle.model.specs.Outcomes.{Outcome}
 use Rattle.model.specs.Runs.{All}
-use Rattle.model.specs.Calls.{retonedIn, keptIn, chainEffect}
+use Rattle.model.specs.Calls.{retonedIn, keptIn}
 use Rattle.model.proofs.Chains.{ordered, carries-within}
 use Rattle.model.proofs.Enhancement.{start-runs}
 use Rattle.model.proofs.Neighbourhoods.{pass-wider}
 use Rattle.model.proofs.Outcomes.{outcome-given}
 use Rattle.model.proofs.Recursion.{all-map}
 use Rattle.levels.specs.declared.Settings.{Settings}
-use Rattle.enhance.specs.Calls.{chainOf, enhanceCallRefusal, EnhanceOutcome}
+use Rattle.enhance.specs.Calls.{EnhanceOutcome}
 use Rattle.enhance.proofs.Calls.{fine, fine-passes, fine-length}
 use Rattle.listformat.specs.Format.{passesOf}
 use Rattle.listchecks.specs.Refusals.{listRefusal, passesRefusal}
@@ -43,8 +42,10 @@ use Rattle.schedules.proofs.Calls.{orders-plane, orders-answers, answered-is}
 use Rattle.schedules.proofs.Copies.{works-ordered, together-run, copies-plane, copies-answers}
 use Rattle.schedules.proofs.Levels.{level-disjoint, levels-effect}
 use Rattle.schedules.proofs.Components.{locally-alike, calls-alike}
-use Rattle.claims.specs.Claims.{ShapePreserving, AnyOrder, HandedOut, Locality, SectionsInParallel}
+use Rattle.claims.specs.Claims.{ShapePreserving, AsEnhanced, AnyOrder, HandedOut, Locality}
+use Rattle.claims.specs.Claims.{SectionsInParallel}
 use Rattle.claims.proofs.Claims.{filled}
+use Rattle.claims.proofs.Enhancements.{as-enhanced}
 use Rattle.claims.proofs.ShapePreserving.{fine-shapes}
 
 -- ## Lists
@@ -94,33 +95,24 @@ together-shapes near symm z {first} {works} W d inside =
     subst (ShapePreserving near first) (sym (together-run z first W d))
     (fine-shapes symm (run-fine near z (workPasses works) within first))
 
--- the effect of an accepted enhancement is the run of its passes
-enhancement-run : (z : Shape) (t : Settings) (frame plane marks queue output : List ℕ)
-    → enhanceCallRefusal z t frame plane marks queue output ≡ 0
-    → chainEffect (chainOf z t frame)
-    ≡ runEffect (passNeighbours z) (passes (t .last) (t .area) (t .rule) (t .neighbours)) (intensity frame)
-unfolding enhanced
-enhancement-run z t frame plane marks queue output taken =
-    let F = fine z (length frame) (length plane) (length marks) (length queue) (length output) t taken in
-    start-runs z (passes (t .last) (t .area) (t .rule) (t .neighbours)) (fine-passes F) (intensity frame)
-    (fine-length frame F)
-
+-- what an accepted enhancement comes to from the plane that intensity filled is the run of its passes, and so what its
+-- levels come to that are handed out
 by-levels : (z : Shape) (t : Settings) {frame lent told first : List ℕ}
     → IntensityOutcome (z .w) (z .h) frame lent (gives told) first
     → {plane marks queue output values plane' marks' queue' output' : List ℕ}
     → EnhanceOutcome z t frame plane marks queue output (gives values) plane' marks' queue' output'
     → {works : List (List Work)} {last : List ℕ}
     → Rounds z (levelRounds (t .last) (t .area) (t .rule) (t .neighbours)) works first last
-    → (last ≡ plane') × (values ≡ roundsTotal retonedIn works ∷ roundsTotal keptIn works ∷ [])
+    → AsEnhanced z frame values plane' output' (gives (roundsTotal retonedIn works ∷ roundsTotal keptIn works ∷ []))
+    last
+unfolding enhanced
 by-levels z t {frame} {first = first} I {plane} {marks} {queue} {output} O R =
-    let done = outcome-given (O .retoned) in
-    let ss = passes (t .last) (t .area) (t .rule) (t .neighbours) in
-    let same = enhancement-run z t frame plane marks queue output (done .0)
-    ∙ ap (runEffect (passNeighbours z) ss) (sym (filled I))
-    ∙ levels-effect (t .last) (t .area) (t .rule) (t .neighbours) R in (
-      sym (done .1 .1 ∙ ap (λ (e : Effect). e .plane) same),
-      done .1 .0 ∙ ap counts same,
-    )
+    let F = fine z (length frame) (length plane) (length marks) (length queue) (length output) t
+    (outcome-given (O .retoned) .0) in
+    let whole = ap length (filled I) ∙ fine-length frame F in
+    let same = start-runs z (passes (t .last) (t .area) (t .rule) (t .neighbours)) (fine-passes F) first whole
+    ∙ levels-effect (t .last) (t .area) (t .rule) (t .neighbours) R in
+    as-enhanced t z I O (sym (ap (λ (e : Effect). e .plane) same), ap (λ (e : Effect). gives (counts e)) (sym same))
 
 handed-out : HandedOut
 handed-out = record {

@@ -453,7 +453,7 @@ pub record HandedOut : Type 0 where
       → PairwiseDisjoint (workPasses works) → All (Carries 8) (workPasses works)
       → ShapePreserving (adjacency z 8) first (together works first)
   -- the sections of a level are pairwise disjoint; handed out level by level, from the plane that intensity filled from
-  -- a frame, they leave the plane and answer both counts of every accepted enhancement of the frame
+  -- a frame, they leave and count what every accepted enhancement of the frame does, and recolour to its bytes
   pub of-level : (l area : ℕ) (rule : Rule) (number : ℕ) → PairwiseDisjoint (level l area rule number)
   pub by-levels : (z : Shape) (t : Settings) {frame lent filled first : List ℕ}
       → IntensityOutcome (z .w) (z .h) frame lent (gives filled) first
@@ -461,7 +461,8 @@ pub record HandedOut : Type 0 where
       → EnhanceOutcome z t frame plane marks queue output (gives values) plane' marks' queue' output'
       → {works : List (List Work)} {last : List ℕ}
       → Rounds z (levelRounds (t .last) (t .area) (t .rule) (t .neighbours)) works first last
-      → (last ≡ plane') × (values ≡ roundsTotal retonedIn works ∷ roundsTotal keptIn works ∷ [])
+      → AsEnhanced z frame values plane' output' (gives (roundsTotal retonedIn works ∷ roundsTotal keptIn works ∷ []))
+      last
 
 -- two planes of one size that agree on a component C of [a, b] in the first; in both all pixels next to C, by the
 -- neighbours that the pass carries, are outside [a, b]: in the first since C is a component. Wherever else they differ,

@@ -37,7 +37,7 @@ module _ (z : Shape) where
   by = passNeighbours z
 
   -- what a call that gave its values had, answered and left
-  pub given : (s : Pass) {plane marks queue values plane' marks' queue' : List ℕ}
+  given : (s : Pass) {plane marks queue values plane' marks' queue' : List ℕ}
       → PassOutcome z s plane marks queue (gives values) plane' marks' queue'
       → Ordered s × (values ≡ counts (passEffect by s plane)) × (plane' ≡ passed (by s) s plane)
   given s {plane} {marks} {queue} O =
@@ -113,7 +113,7 @@ module _ (z : Shape) where
         (sym (run₁ .1) ∙ permuted-same by r (run₁ .0) d .effects first ∙ sequence-run S₂ a₂ .1)
 
     -- what is answered in one order is answered in the other
-    pub orders-answer : (s : Pass) (reply : Reply) → Answered s reply cs₁ rs₁ → Answered s reply cs₂ rs₂
+    orders-answer : (s : Pass) (reply : Reply) → Answered s reply cs₁ rs₁ → Answered s reply cs₂ rs₂
     orders-answer s reply y =
         let all = all-answered S₂ a₂ (pairwise-permuted r d) in
         let there : Answered s (answerOn first s) cs₂ rs₂ = answered-has y (all-permuted (permutation-sym r) all) in
