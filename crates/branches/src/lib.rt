@@ -8,6 +8,7 @@
 // component of a half down to the last level before the next one; that sections with all their components end alike is
 // the theorem `enhanced-published` of the model. So one search for each section takes the place of one for each
 // component, and no sets are kept.
+#![tactic(auto)]
 ghost use Rattle.std.specs.Prelude.{◌≡◌, ◌≤◌, length};
 ghost use Rattle.branches.specs.Branches.{Ready, Due, Halves, all_told, Equalised, Halved};
 

@@ -6,7 +6,7 @@ ghost use Rattle.std.specs.Prelude.{◌<◌};
 pub const HEAD: usize = 38;
 
 // One case. A call uses the fields that it needs; lengths are those of what is lent.
-#[derive(Drop)]
+#[derive(Clone, Copy)]
 pub struct Case {
     pub kind: u8,
     pub a: u8,

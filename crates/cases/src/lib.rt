@@ -6,6 +6,7 @@
 // A call is made as any other program makes it: through the public functions of the crates, with parts of buffers that
 // have exactly the lengths that the case names. (Where there is less room, a part has what there is, and the line shows
 // it.) The run ends with the input. What is read and printed is tested and not proved.
+#![tactic(auto)]
 mod calls;
 mod records;
 
@@ -21,7 +22,7 @@ const PLANE: usize = 288;
 const CASES: usize = 100000;
 
 // A case has left this many bytes of the plane, or there was no further case.
-#[derive(Drop)]
+#[derive(Clone, Copy)]
 enum Left {
     Plane(usize),
     Nothing,

@@ -7,6 +7,7 @@
 // recoloured        what the channels of a pixel become for a new intensity, by both tables
 //
 // No channel costs a division: `nearest` multiplies by an inverse, and divides by a constant power of two.
+#![tactic(auto)]
 ghost use Rattle.std.specs.Prelude.{◌≡◌, ◌+◌, ◌*◌, max};
 ghost use Rattle.planes.specs.Rounding.{rounded};
 ghost use Rattle.channels.specs.Channels.{third, thirds, new_pixel};
@@ -32,7 +33,7 @@ pub fn pixel_intensity(table: &[u8; 766], red: u8, green: u8, blue: u8) -> u8
 }
 
 // The quotient times / over by which all channels of a pixel are multiplied.
-#[derive(Drop)]
+#[derive(Clone, Copy)]
 struct Scale {
     times: u32,
     over: u32,
@@ -106,7 +107,7 @@ fn scaled(c: u8, s: Scale, by: u32) -> u8
 }
 
 // The channels of a pixel.
-#[derive(Drop)]
+#[derive(Clone, Copy)]
 pub struct Pixel {
     pub red: u8,
     pub green: u8,

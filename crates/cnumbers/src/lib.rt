@@ -8,6 +8,7 @@
 // put_numbers                      width, height and offset in three lent numbers
 // pass_form_refusal                1 to 4, 17
 // enhance_form_refusal             1, 2, 3, 4, 14, 17
+#![tactic(auto)]
 ghost use Rattle.std.specs.Prelude.{◌≡◌, ◌≤◌, length};
 ghost use Rattle.planes.specs.Refusals.{◌▷◌};
 ghost use Rattle.planes.specs.Shapes.{lent_refusal};

@@ -5,6 +5,7 @@
 // intensity_refusal   refusal 1, 2 or 3 for a frame and its plane, or 0
 //
 // Each call makes one copy of the tables that `channels` reads for a pixel.
+#![tactic(auto)]
 ghost use Rattle.std.specs.Prelude.{◌≡◌, ◌*◌, ◌<◌, length};
 ghost use Rattle.channels.specs.Channels.{thirds};
 ghost use Rattle.colours.specs.Frames.{intensity};
@@ -13,7 +14,7 @@ ghost use Rattle.colours.specs.Calls.{IntensityOutcome, RecolourOutcome};
 ghost use Rattle.colours.specs.Steps.{Fitting, with_pixel, with_frame};
 
 // What a call answers: that it is done, or the number of its refusal.
-#[derive(Drop)]
+#[derive(Clone, Copy)]
 pub enum Status {
     Done,
     Refused(u8),

@@ -2,13 +2,14 @@
 //
 // sorted     the header reader's next move, by the byte at its place
 // skip_gap   the place after the whitespace and the comments that begin at a place
+#![tactic(auto)]
 ghost use Rattle.std.specs.Prelude.{◌≡◌, ◌≤◌, length, drop};
 ghost use Rattle.gaps.specs.Bytes.{ends_comment, move_for};
 ghost use Rattle.gaps.specs.Gaps.{pieces};
 ghost use Rattle.gaps.specs.Cursors.{rest_of_comment, gap_end_at};
 
 // What the header reader does next, by the byte at its place.
-#[derive(Drop)]
+#[derive(Clone, Copy)]
 pub enum Move {
     // A digit of this value: take it into the number.
     Take(u8),
@@ -21,7 +22,7 @@ pub enum Move {
 }
 
 // Where whitespace and comments end: the place after them, unless a comment has no end.
-#[derive(Drop)]
+#[derive(Clone, Copy)]
 pub enum GapEnd {
     At(usize),
     Unended,

@@ -1,6 +1,7 @@
 // P6 headers: their grammar, and its reading.
 //
 // read_header   the three numbers of a header and the place of the raster, where a header begins the bytes
+#![tactic(auto)]
 ghost use Rattle.std.specs.Prelude.{◌≡◌, ◌≤◌, length, drop};
 ghost use Rattle.gaps.specs.Bytes.{is_white};
 ghost use Rattle.gaps.specs.Parsers.{one_byte};
@@ -15,14 +16,14 @@ use gaps::{GapEnd, Move};
 const DIGITS: usize = 6;
 
 // A number of a header: its value, and the place after its last digit.
-#[derive(Drop)]
+#[derive(Clone, Copy)]
 enum Number {
     Read(usize, usize),
     Malformed,
 }
 
 // The three numbers of a header, and the place of the raster.
-#[derive(Drop)]
+#[derive(Clone, Copy)]
 pub enum Fields {
     Whole {
         w: usize,

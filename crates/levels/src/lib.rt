@@ -7,6 +7,7 @@
 // deeper             whether a section has halves
 // next_of            the numbers of a section's halves
 // sections           how many sections there are
+#![tactic(auto)]
 ghost use Rattle.std.specs.Prelude.{◌≡◌, true, ℕ, ◌+◌, ◌-◌, ◌^◌, ◌≤◌};
 ghost use Rattle.levels.specs.Levels.{house, level_refusal, settings_refusal, Below, Deeper, NextIs};
 
@@ -19,7 +20,7 @@ pub const LAST: u8 = 7;
 
 // The levels 0 to `last` run; components from level 1 on have at least `area` pixels. On all levels they are taken by
 // the number of neighbours, 4 or 8.
-#[derive(Drop)]
+#[derive(Clone, Copy)]
 pub struct Settings {
     pub last: u8,
     pub area: u32,

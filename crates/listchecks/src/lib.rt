@@ -4,6 +4,7 @@
 // head_refusal      16 for fewer bytes than a head has, then 15, then 16, or 0
 // records_refusal   those of its records, in order, then 20 for what an edition has no place for, or 0
 // record_at         a record: 17 for its form, or 0, and its pass
+#![tactic(auto)]
 ghost use Rattle.std.specs.Prelude.{◌≡◌, ◌≤◌, ◌<◌, length, eqb};
 ghost use Rattle.planes.specs.Refusals.{when, ◌▷◌};
 ghost use Rattle.model.specs.Calls.{numbers_refusal};
@@ -19,7 +20,7 @@ use planes::{EIGHT, refused};
 pub const COUNT: usize = 320;
 
 // A record: 17 where it is malformed, or 0, and the pass that it stands for otherwise.
-#[derive(Drop)]
+#[derive(Clone, Copy)]
 pub struct Record {
     pub form: u8,
     pub pass: Pass,

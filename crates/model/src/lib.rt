@@ -6,6 +6,7 @@
 // pass_refusal        refusals 5 to 8, 18 and 19 for a pass's own numbers, or 0
 // area_refusal        refusal 6 for a least area, or 0
 // neighbour_refusal   refusal 19 for a number of neighbours, or 0
+#![tactic(auto)]
 ghost use Rattle.std.specs.Prelude.{◌≡◌, ◌+◌, ◌<◌};
 ghost use Rattle.model.specs.Outcomes.{sums};
 ghost use Rattle.model.specs.Calls.{area_refusal, neighbour_refusal, numbers_refusal};
@@ -15,7 +16,7 @@ use tones::Rule;
 
 // The section [a, b], the least area of the components that get the rule, the rule with its own numbers, and the number
 // of neighbours by which components are taken, 4 or 8.
-#[derive(Drop)]
+#[derive(Clone, Copy)]
 pub struct Pass {
     pub a: u8,
     pub b: u8,
@@ -26,14 +27,14 @@ pub struct Pass {
 
 // The number of components that were retoned, and of those of sufficient area that were kept back. Together they are
 // the components of sufficient area.
-#[derive(Drop)]
+#[derive(Clone, Copy)]
 pub struct Counts {
     pub retoned: u32,
     pub kept: u32,
 }
 
 // The number of a refusal, or both counts.
-#[derive(Drop)]
+#[derive(Clone, Copy)]
 pub enum Answer {
     Refused(u8),
     Done(Counts),

@@ -3,6 +3,7 @@
 // read          width, height and the raster's offset of a frame of at most 1,048,576 pixels, or a refusal
 // read_within   the same, with the greatest number of pixels given
 // write         a frame into a lent output: the length written, or a refusal
+#![tactic(auto)]
 ghost use Rattle.std.specs.Prelude.{◌≡◌};
 ghost use Rattle.planes.specs.Refusals.{greatest_pixels};
 ghost use Rattle.netpbm.specs.Reading.{frame_refusal, header_reply, read_reply};
@@ -17,7 +18,7 @@ use texts::Written;
 const MAXVAL: usize = 255;
 
 // The answer to reading: the frame's width, height and raster's offset, or the refusal's number.
-#[derive(Drop)]
+#[derive(Clone, Copy)]
 pub enum Header {
     Refused(u8),
     Frame { w: usize, h: usize, offset: usize },

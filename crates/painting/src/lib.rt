@@ -2,6 +2,7 @@
 //
 // mark_section   marks a section's pixels
 // paint          gives the pixels of a component their new values and their next marks
+#![tactic(auto)]
 ghost use Rattle.std.specs.Prelude.{◌≡◌, cond, ◌≤◌, length};
 ghost use Rattle.planes.specs.Lists.{at};
 ghost use Rattle.histograms.specs.Histograms.{Distinct};
@@ -11,7 +12,7 @@ ghost use Rattle.painting.specs.Painting.{number, Listed, Marked, Painted};
 use model::Pass;
 
 // The next marks of treated pixels: `low` for values up to `mid`, `high` for those above.
-#[derive(Drop)]
+#[derive(Clone, Copy)]
 pub struct Next {
     pub mid: u8,
     pub low: u8,
@@ -19,7 +20,7 @@ pub struct Next {
 }
 
 // Whether pixels have a value up to the middle, and above it. A flag that is false says that none has.
-#[derive(Drop)]
+#[derive(Clone, Copy)]
 pub struct Sides {
     pub low: bool,
     pub high: bool,

@@ -4,6 +4,7 @@
 //             18
 //
 // A function that lends a slice of structs is proved by hand; whoever calls this one is not.
+#![tactic(auto)]
 ghost use Rattle.std.specs.Prelude.{◌≡◌, ◌≤◌, min, take};
 ghost use Rattle.model.specs.Outcomes.{answer_reply};
 ghost use Rattle.passlists.specs.Outcomes.{PassesOutcome};

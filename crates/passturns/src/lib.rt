@@ -6,6 +6,7 @@
 // begin_list   how a run of a list of bytes begins
 // turn         the run after the pass that is due has been checked, or run
 // answer       the answer of a run that has come to its end
+#![tactic(auto)]
 ghost use Rattle.std.specs.Prelude.{◌≡◌, true, ◌<◌};
 ghost use Rattle.planes.specs.Refusals.{◌▷◌};
 ghost use Rattle.planes.specs.Shapes.{lent_refusal};
@@ -24,7 +25,7 @@ use planes::{Shape, refused};
 
 // How far a run has come: the pass that is due, of `end` passes, to be checked or, once all are checked, to be run; the
 // sums of both counts so far; and the refusal that the run has met with, or 0.
-#[derive(Drop)]
+#[derive(Clone, Copy)]
 pub struct Progress {
     pub at: usize,
     pub end: usize,

@@ -12,6 +12,7 @@
 // lent_refusal     1, 2, 3, 4 for a plane with marks and a queue
 //
 // Each test answers its number, or 0.
+#![tactic(auto)]
 ghost use Rattle.std.specs.Prelude.{◌≡◌, ◌^◌, ◌<◌};
 ghost use Rattle.planes.specs.Refusals.{side_refusal, pixel_refusal, length_refusal, room_refusal, output_refusal};
 ghost use Rattle.planes.specs.Refusals.{size_refusal};
@@ -32,7 +33,7 @@ pub const FOUR: u8 = 4;
 pub const EIGHT: u8 = 8;
 
 // A plane of w columns and h rows.
-#[derive(Drop)]
+#[derive(Clone, Copy)]
 pub struct Shape {
     pub w: usize,
     pub h: usize,

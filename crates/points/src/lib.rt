@@ -9,6 +9,7 @@
 //
 // The points are gone over without being stored. Heights are below 2^32 for any numbers of the rule, since slopes have
 // 16 bits, segments 8 and distances 8; so all products fit 64 bits.
+#![tactic(auto)]
 ghost use Rattle.std.specs.Prelude.{◌≡◌, ℕ, ◌+◌, ◌-◌, ◌*◌, ◌^◌, ◌≤◌, ◌<◌, min, max, length};
 ghost use Rattle.planes.specs.Lists.{at};
 ghost use Rattle.points.specs.Points.{growth, next_point, start, points, top_of, Cumulative, First, Reached};
@@ -16,7 +17,7 @@ ghost use Rattle.points.specs.Points.{growth, next_point, start, points, top_of,
 use histograms::Measures;
 
 // The rule's numbers: how many segments, and the least and the greatest slope of each, in hundredths.
-#[derive(Drop)]
+#[derive(Clone, Copy)]
 pub struct Slopes {
     pub segments: u8,
     pub smin: u16,
@@ -24,7 +25,7 @@ pub struct Slopes {
 }
 
 // A point: a value, and the height there in units of 1 / (100 × segments).
-#[derive(Drop)]
+#[derive(Clone, Copy)]
 pub struct Point {
     pub place: usize,
     pub height: u64,

@@ -9,6 +9,7 @@
 // A component that is too small, or lone under its rule, is changed neither by the pass nor by any later one on a part
 // of the section: it is left as it is, and gets no next marks. A lone one of sufficient area is kept back by all of
 // these passes: it is counted once here, and told of as one that leaves.
+#![tactic(auto)]
 ghost use Rattle.std.specs.Prelude.{◌≡◌, false, cond, List, ℕ, ◌≤◌, length, ltb};
 ghost use Rattle.histograms.specs.Histograms.{values, Measured, Gathered};
 ghost use Rattle.painting.specs.Painting.{Listed};
@@ -21,7 +22,7 @@ use painting::Next;
 // How many components were retoned, how many of sufficient area were kept back, and how many of these are lone and
 // leave: every pass on a part of the section that has them keeps them back too. And whether next marks were given for
 // values up to the middle, and above it: a flag that is false says that none was.
-#[derive(Drop)]
+#[derive(Clone, Copy)]
 pub struct Treatment {
     pub retoned: u32,
     pub kept: u32,

@@ -3,6 +3,7 @@
 // next_pixel   the first pixel from one on, in reading order, that has the code
 // take_plane   takes all pixels of a plane, and tells their number, their least and their greatest value; where they
 //              have one code, they are one component: nothing is searched
+#![tactic(auto)]
 ghost use Rattle.std.specs.Prelude.{length};
 ghost use Rattle.planes.specs.Shapes.{pixels, Lent};
 ghost use Rattle.histograms.specs.Histograms.{Measured};
@@ -13,7 +14,7 @@ use histograms::Measures;
 use planes::Shape;
 
 // What a search finds.
-#[derive(Drop)]
+#[derive(Clone, Copy)]
 pub enum Found {
     At(usize),
     Nothing,

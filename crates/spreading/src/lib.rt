@@ -7,6 +7,7 @@
 // Front          how far a flood by eight neighbours has come
 //
 // Which pixels of other rows are neighbours is known here alone.
+#![tactic(auto)]
 ghost use Rattle.std.specs.Prelude.{◌*◌, ◌/◌, ◌≤◌, ◌<◌, ◌≡◌};
 ghost use Rattle.planes.specs.Shapes.{pixels};
 ghost use Rattle.spreading.specs.Spreads.{Above, Below, Left, Right, Reachable, ColumnReached};
@@ -16,7 +17,7 @@ use planes::Shape;
 
 // The queue's tail, and the last pixel that was spread from or the one right of it: above and below it, and above and
 // below the pixel left of it, nothing is left that has the code. Before the first pixel, a number that is none.
-#[derive(Drop)]
+#[derive(Clone, Copy)]
 pub struct Front {
     pub tail: usize,
     pub reached: usize,

@@ -5,13 +5,14 @@
 // put_bytes        bytes into an output that has room for them, from a place on; the place after them
 // put_number       the decimal digits of a number, likewise
 // put_heading      a heading at the beginning of an output; the place after it
+#![tactic(auto)]
 ghost use Rattle.std.specs.Prelude.{◌≡◌, ◌+◌, ◌≤◌, ◌<◌, length};
 ghost use Rattle.texts.specs.Ascii.{decimal};
 ghost use Rattle.texts.specs.Placing.{Put};
 ghost use Rattle.texts.specs.Heading.{heading};
 
 // The answer of a call that writes into an output: the number of bytes written, or the refusal's number.
-#[derive(Drop)]
+#[derive(Clone, Copy)]
 pub enum Written {
     Refused(u8),
     Length(usize),

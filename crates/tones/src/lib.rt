@@ -12,6 +12,7 @@
 // and table are lent, the table with any content, and only their entries of [least, greatest], from the component's
 // least value to its greatest, are read or written: a component costs time in its pixels and in the spread of its
 // values.
+#![tactic(auto)]
 ghost use Rattle.std.specs.Prelude.{◌≡◌, List, ℕ, ◌≤◌, length};
 ghost use Rattle.histograms.specs.Histograms.{Measured, Gathered};
 ghost use Rattle.tones.specs.Tables.{ToneTabled};
@@ -29,7 +30,7 @@ use points::Slopes;
 // A tone rule: plain, which keeps the old values where the spread grows or shrinks too much, in hundredths; limited,
 // which clips the counts at k thousandths of the pixels; or affine, which joins points of the sums by straight lines,
 // with the slope of each held between smin and smax, in hundredths.
-#[derive(Drop)]
+#[derive(Clone, Copy)]
 pub enum Rule {
     Plain { low: u16, high: u16 },
     Limited { k: u16 },
@@ -38,7 +39,7 @@ pub enum Rule {
 
 // The numbers that stand for a rule: its code, 0 for plain, 1 for limited and 2 for affine; a byte that is 0 for plain
 // and limited, and the segments for affine; and low and high, k and 0, or smin and smax.
-#[derive(Drop)]
+#[derive(Clone, Copy)]
 pub struct RuleNumbers {
     pub code: u8,
     pub extra: u8,

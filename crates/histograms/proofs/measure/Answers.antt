@@ -1,0 +1,30 @@
+-- `histograms::measure` meets its contract. The invariant: the measures are those of the plane's first i values. The
+-- measure is what is left of the plane. Assumes nothing.
+use Prim.Native.Nat.{◌-◌, ◌≤◌}
+use mathlib.Core.Path.{◌≡◌}
+use native.Mathlib.Omega.{arith}
+use lib.ListN.{length, take}
+use lib.Seq.{take-length}
+use Rattle.planes.specs.Lists.{at}
+use Rattle.histograms.specs.Histograms.{Measured}
+use Rattle.histograms.proofs.Measured.{measured_first, measured_more}
+use borrow.Author.Rules.{rules}
+use Rattle.histograms.proofs.measure.Goals as goal
+
+pub loop-i-init : goal.loop-i-init
+loop-i-init c =
+    let s = c in
+    ((omega arith, omega arith), measured_first s.args.plane.now s.requires.0)
+
+pub loop-i-preserved : goal.loop-i-preserved
+loop-i-preserved c =
+    let s = c.loop-i in
+    let lesser = c.lesser-least.ensures in
+    let measured = measured_more _ s.i s.invariant.0.0 (omega arith) s.invariant.1 lesser c.greater-greatest.ensures in
+    ((omega arith, omega arith), measured)
+
+pub returns : goal.returns
+returns c =
+    let vs = c.args.plane.now in
+    let all : c.loop-i.i ≡ length vs = omega arith in
+    rw (all, take-length vs) at c.loop-i.invariant.1
