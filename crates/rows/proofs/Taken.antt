@@ -117,7 +117,7 @@ module _ {P : ℕ → Type 0} {n code tail : ℕ} {marks queue : List ℕ} where
   taken-map h f none = none
   taken-map h f (one {q} t p l e) = one (taken-map h f t) (f q p) (omega arith) e
 
-  pub taken-join : {tail' tail'' : ℕ} {marks' queue' marks'' queue'' : List ℕ}
+  pub taken-join : {tail' : ℕ} {marks' queue' : List ℕ} {tail'' : ℕ} {marks'' queue'' : List ℕ}
       → Taken P n code marks queue tail marks' queue' tail' → Taken P n code marks' queue' tail' marks'' queue'' tail''
       → Taken P n code marks queue tail marks'' queue'' tail''
   taken-join s none = s

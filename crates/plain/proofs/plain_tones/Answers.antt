@@ -1,0 +1,24 @@
+-- `plain::plain_tones` meets its contract: the test says whether the rule keeps the values, and the table has the
+-- values or their tones. Assumes nothing.
+use Rattle.histograms.proofs.Stores.{outside_none, refilled_outside}
+use Rattle.histograms.proofs.Tables.{ruled_kept, ruled_toned}
+use borrow.Author.Rules.{rules}
+use native.Mathlib.Omega.{arith}
+use Rattle.plain.proofs.plain_tones.Goals as goal
+
+pub returns-then-plain_keeps : goal.returns-then-plain_keeps
+returns-then-plain_keeps c =
+    let test = c in
+    let same = c.fill_same.ensures in (
+      ruled_kept test.before.plain_keeps.ensures test.if-plain_keeps.true
+          (λ v av vb. same.new v (omega arith) (omega arith)),
+      record { counts_rest = outside_none _; table_rest = refilled_outside same },
+    )
+
+pub returns : goal.returns
+returns c =
+    let test = c in
+    let tabled = c.plain_table.ensures in (
+      ruled_toned test.before.plain_keeps.ensures test.if-plain_keeps.false tabled.1.0,
+      record { counts_rest = tabled.0.rest; table_rest = tabled.1.1 },
+    )

@@ -1,0 +1,20 @@
+-- `rows::take_run` meets its contract. The invariant: the pixels from `at` on and before p were taken. The
+-- measure is what is left before `end`. Assumes nothing.
+use Prim.Native.Nat.{◌-◌, ◌≤◌}
+use mathlib.Core.Path.{◌≡◌, refl}
+use native.Mathlib.Omega.{arith}
+use borrow.Author.Rules.{rules}
+use lib.ListN.{length, length-set}
+use Rattle.rows.specs.Runs.{RunUpTo, start, more}
+use Rattle.rows.proofs.Taken.{room_for}
+use Rattle.rows.proofs.Runs.{run_room}
+use Rattle.rows.proofs.take_run.Given as goal
+
+abbrev pub invariant-loop-p : goal.invariant-loop-p
+invariant-loop-p l =
+    (length l.marks ≡ length l.initial.marks) × ((length l.queue ≡ length l.initial.queue)
+    × ((l.p ≤ l.end) × RunUpTo l.code l.at l.initial.marks l.initial.queue l.tail l.p l.marks l.queue l.next))
+
+abbrev pub decreases-loop-p : goal.decreases-loop-p
+decreases-loop-p l =
+    l.end - l.p
