@@ -19,9 +19,13 @@ TOP = re.compile(
     rf"({NAME})\s*(?:\{{[^}}]*\}}\s*)*:\s")
 BLOCK = re.compile(rf"^(?:pub\s+)?(?:record|data|ruleset)\s+({NAME})")
 FIELD = re.compile(rf"^\s+(?:pub\s+)?({NAME})\s*:\s")
+INNER = re.compile(rf"^\s+(?:(?:pub|abbrev|unfoldable)\s+)+({NAME})\s*(?:\{{[^}}]*\}}\s*)*:\s")  # below a section's head
 
 # A lemma that stands beside a definition which now has its name, in one file alone.
 IN_FILE = {"crates/tones/proofs/Lone.antt": {"one_value": "one_value_lem"}}
+
+# Names whose plain spelling is another's.
+OTHER = {"ruleNumbers": "numbers_of_rule", "commentThen": "comment_and_then", "in-row": "in_row_lem"}
 
 # Names that port.py turned, because a library of Rattle has the same word: the pages and the edits still have the old.
 BY_PORT = """add-at add-kept add-left add-low add-right after-same after-two alike-from alike-of alike-turned all-append
@@ -80,7 +84,7 @@ def declared():
             if not line.strip() or line.startswith("--"):
                 continue
             if line[0].isspace():
-                m = FIELD.match(line) if inside else None
+                m = FIELD.match(line) if inside else INNER.match(line)
             else:
                 block = BLOCK.match(line)
                 inside = bool(block)
@@ -94,8 +98,8 @@ def turned(names):
     olds = sorted(n for n in names if not n[0].isupper() and snake(n) != n)
     table = {}
     for old in olds:
-        new = snake(old)
-        alike = [o for o in olds if snake(o) == new]
+        new = OTHER.get(old, snake(old))
+        alike = [o for o in olds if OTHER.get(o, snake(o)) == new]
         table[old] = new + "_lem" if len(alike) > 1 and "-" in old else new
     return table
 

@@ -18,7 +18,7 @@ use Rattle.points.specs.declared.Point.{Point}
 use Rattle.points.specs.Points.{place_of, next_point, start, points_after, top_of, up_to}
 use Rattle.affine.specs.Affine.{joined, affine_top, affine_tone, affine_kept}
 use Rattle.points.proofs.Search.{least_le, least_below}
-use Rattle.affine.proofs.Sound.{joined-next}
+use Rattle.affine.proofs.Sound.{joined_next}
 use Rattle.affine.proofs.Tables.{not_kept}
 
 -- where no point is after v, the height at v is the last
@@ -30,7 +30,7 @@ module _ (s : Slopes) (a b y : ℕ) (c : ℕ → ℕ) (m v : ℕ)
   joined-top zero i p few = refl
   joined-top (suc k) i p few =
       let q = next_point s a b c m (i + 1) p in
-      joined-next a b y p q (points_after s a b c m k (i + 1) q) (reach (i + 1) (omega arith))
+      joined_next a b y p q (points_after s a b c m k (i + 1) q) (reach (i + 1) (omega arith))
       ∙ joined-top k (i + 1) q (omega arith)
 
 module _ (s : Slopes) (a b : ℕ) (vs : List ℕ) (ab : a ≤ b) (toned : affine_kept s a b vs ≡ false) where
@@ -42,11 +42,11 @@ module _ (s : Slopes) (a b : ℕ) (vs : List ℕ) (ab : a ≤ b) (toned : affine
       joined-top s a b y (up_to vs) (length vs) v reach s.segments 0 (start a) (omega arith)
       ∙ scaled_all a b y ab (not_kept s.segments (b - a) y toned).1
 
-  pub affine-end : affine_tone s a b vs b ≡ b
-  affine-end = top-tone b (λ j _. le_trans (least_le _ a (b - a)) (omega arith))
+  pub affine_end : affine_tone s a b vs b ≡ b
+  affine_end = top-tone b (λ j _. le_trans (least_le _ a (b - a)) (omega arith))
 
-  pub affine-greatest : 1 ≤ length vs → Inside a b vs → affine_tone s a b vs (greatest vs) ≡ b
-  affine-greatest some inside =
+  pub affine_greatest : 1 ≤ length vs → Inside a b vs → affine_tone s a b vs (greatest vs) ≡ b
+  affine_greatest some inside =
       let m = length vs in
       let within = in-inside inside (greatest_in vs some) in
       top-tone (greatest vs) (λ j few.

@@ -2,10 +2,10 @@
 -- Assumes nothing.
 --
 --   Onward         what is left of the points gives, from point i on, the tones that the whole gives
---   onward-first   point 0
---   onward-next    the next point
---   onward-line    the line to the next point
---   end-tone       the last point
+--   onward_first   point 0
+--   onward_next    the next point
+--   onward_line    the line to the next point
+--   end_tone       the last point
 --   filled_next    entries of the next line
 use Prim.Native.Nat.{ℕ, suc, ◌+◌, ◌-◌, ◌≤◌, ◌<◌, max}
 use mathlib.Core.Path.{◌≡◌, sym, ap, subst, ◌∙◌}
@@ -19,9 +19,9 @@ use Rattle.histograms.specs.Histograms.{Refilled}
 use Rattle.points.specs.declared.Slopes.{Slopes}
 use Rattle.points.specs.declared.Point.{Point}
 use Rattle.points.specs.Points.{next_point, start, points_after, points}
-use Rattle.points.proofs.Ahead.{left-next, none_left}
+use Rattle.points.proofs.Ahead.{left_next, none_left}
 use Rattle.affine.specs.Affine.{line_tone, joined}
-use Rattle.affine.proofs.Sound.{joined-next, joined_line}
+use Rattle.affine.proofs.Sound.{joined_next, joined_line}
 
 module _ (s : Slopes) (a b y : ℕ) (c : ℕ → ℕ) (m : ℕ) where
   abbrev n : ℕ
@@ -38,8 +38,8 @@ module _ (s : Slopes) (a b y : ℕ) (c : ℕ → ℕ) (m : ℕ) where
   pub record Onward (i : ℕ) (p : Point) : Type 0 where
     pub tone : (k v : ℕ) → i + k ≡ n → p.place ≤ v → joined a b y p (left k i p) v ≡ whole v
 
-  pub onward-first : Onward 0 (start a)
-  onward-first =
+  pub onward_first : Onward 0 (start a)
+  onward_first =
       let all : (k : ℕ) → 0 + k ≡ n → k ≡ n = λ k e. omega arith in
       record { tone = λ k v e av. ap (λ (j : ℕ). joined a b y (start a) (left j 0 (start a)) v) (all k e) }
 
@@ -48,27 +48,27 @@ module _ (s : Slopes) (a b y : ℕ) (c : ℕ → ℕ) (m : ℕ) where
     abbrev next : Point
     next = next_point s a b c m (i + 1) p
 
-    pub onward-next : p.place ≤ q.place → Onward (i + 1) q
-    onward-next = subst (λ (x : Point). p.place ≤ x.place → Onward (i + 1) x) (sym is) (λ from. record {
+    pub onward_next : p.place ≤ q.place → Onward (i + 1) q
+    onward_next = subst (λ (x : Point). p.place ≤ x.place → Onward (i + 1) x) (sym is) (λ from. record {
       tone = λ k v e qv.
-          sym (joined-next a b y p next (left k (i + 1) next) qv)
-          ∙ sym (ap (λ (ps : List Point). joined a b y p ps v) (left-next s a b c m k i p))
+          sym (joined_next a b y p next (left k (i + 1) next) qv)
+          ∙ sym (ap (λ (ps : List Point). joined a b y p ps v) (left_next s a b c m k i p))
           ∙ h.tone (suc k) v (omega arith) (le_trans from qv);
     })
 
-    pub onward-line : i < n → (v : ℕ) → p.place ≤ v → v < q.place → line_tone a b y p q v ≡ whole v
-    onward-line more =
+    pub onward_line : i < n → (v : ℕ) → p.place ≤ v → v < q.place → line_tone a b y p q v ≡ whole v
+    onward_line more =
         subst (λ (x : Point). (v : ℕ) → p.place ≤ v → v < x.place → line_tone a b y p x v ≡ whole v) (sym is)
         (λ v from to.
         let k = n - i - 1 in
         sym (joined_line a b y p next (left k (i + 1) next) to)
-        ∙ sym (ap (λ (ps : List Point). joined a b y p ps v) (left-next s a b c m k i p))
+        ∙ sym (ap (λ (ps : List Point). joined a b y p ps v) (left_next s a b c m k i p))
         ∙ h.tone (suc k) v (omega arith) from)
 
   -- from the place of the last point on, the tones are its height's
-  pub end-tone : (p : Point) → Onward n p → (v : ℕ) → p.place ≤ v → scaled a b p.height y ≡ whole v
+  pub end_tone : (p : Point) → Onward n p → (v : ℕ) → p.place ≤ v → scaled a b p.height y ≡ whole v
   unfolding joined
-  end-tone p h v from =
+  end_tone p h v from =
       sym (ap (λ (ps : List Point). joined a b y p ps v) (none_left s a b c m n p)) ∙ h.tone 0 v (omega arith) from
 
 -- ## Entries of the next line

@@ -19,7 +19,7 @@ use Rattle.histograms.proofs.Scaled.{scaled_mono, scaled_above, scaled_below}
 use Rattle.points.specs.declared.Slopes.{Slopes}
 use Rattle.points.specs.declared.Point.{Point}
 use Rattle.points.specs.Points.{top_of, up_to}
-use Rattle.points.proofs.Rising.{Rising, last, more, top_high, all-rise}
+use Rattle.points.proofs.Rising.{Rising, last, more, top_high, all_rise}
 use Rattle.affine.specs.Affine.{line_tone, joined, affine_top, affine_tone}
 
 -- ## Parts of different wholes
@@ -88,10 +88,10 @@ line_mono a b y p q {v} {u} vu =
 
 module _ (a b y : ℕ) where
   -- where the next point is not after v, its line or a later one has v; else p's line has
-  pub joined-next : (p q : Point) (qs : List Point) {v : ℕ} → q.place ≤ v
+  pub joined_next : (p q : Point) (qs : List Point) {v : ℕ} → q.place ≤ v
       → joined a b y p (q ∷ qs) v ≡ joined a b y q qs v
   unfolding joined
-  joined-next p q qs {v} l =
+  joined_next p q qs {v} l =
       ap (λ (t : Bool). cond t (joined a b y q qs v) (line_tone a b y p q v)) (le-leb q.place v l)
 
   pub joined_line : (p q : Point) (qs : List Point) {v : ℕ} → v < q.place
@@ -108,7 +108,7 @@ module _ (a b y : ℕ) where
   joined-lower {p} (more {q = q} {qs = qs} places heights rest) {v} from = ⊎_elim
       (λ (l : v < q.place). le_trans (line-lower a b y heights from l) (le_of_eq (sym (joined_line p q qs l))))
       (λ l. le_trans (scaled_mono a b y heights)
-      (le_trans (joined-lower rest l) (le_of_eq (sym (joined-next p q qs l)))))
+      (le_trans (joined-lower rest l) (le_of_eq (sym (joined_next p q qs l)))))
       (less_or_not v q.place)
 
   -- no higher than the last
@@ -119,7 +119,7 @@ module _ (a b y : ℕ) where
   joined-upper {p} (more {q = q} {qs = qs} places heights rest) {v} from = ⊎_elim
       (λ (l : v < q.place). le_trans (le_of_eq (joined_line p q qs l))
       (le_trans (line-upper a b y heights from l) (scaled_mono a b y (top_high rest))))
-      (λ l. le_trans (le_of_eq (joined-next p q qs l)) (joined-upper rest l))
+      (λ l. le_trans (le_of_eq (joined_next p q qs l)) (joined-upper rest l))
       (less_or_not v q.place)
 
   joined-mono : {p : Point} {qs : List Point} → Rising p qs → {v u : ℕ} → p.place ≤ v → v ≤ u
@@ -130,10 +130,10 @@ module _ (a b y : ℕ) where
       (λ (l : v < q.place). le_trans (le_of_eq (joined_line p q qs l)) (⊎_elim
       (λ (g : u < q.place). le_trans (line_mono a b y p q vu) (le_of_eq (sym (joined_line p q qs g))))
       (λ g. le_trans (line-upper a b y heights from l)
-      (le_trans (joined-lower rest g) (le_of_eq (sym (joined-next p q qs g)))))
+      (le_trans (joined-lower rest g) (le_of_eq (sym (joined_next p q qs g)))))
       (less_or_not u q.place)))
-      (λ l. le_trans (le_of_eq (joined-next p q qs l))
-      (le_trans (joined-mono rest l vu) (le_of_eq (sym (joined-next p q qs (le_trans l vu))))))
+      (λ l. le_trans (le_of_eq (joined_next p q qs l))
+      (le_trans (joined-mono rest l vu) (le_of_eq (sym (joined_next p q qs (le_trans l vu))))))
       (less_or_not v q.place)
 
 -- ## The rule
@@ -142,7 +142,7 @@ pub affine_sound : (s : Slopes) (a b : ℕ) (vs : List ℕ) → a ≤ b → Soun
 unfolding affine_tone affine_top
 affine_sound s a b vs ab =
     let y = affine_top s a b vs in
-    let rising = all-rise s a b (up_to vs) (length vs) in
+    let rising = all_rise s a b (up_to vs) (length vs) in
     record {
       rises = λ v u av vu _. joined-mono a b y rising av vu;
       above = λ v av _. le_trans (scaled_above a b 0 y) (joined-lower a b y rising av);

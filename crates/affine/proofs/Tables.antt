@@ -17,18 +17,18 @@ use Rattle.histograms.specs.Tables.{Tabled}
 use Rattle.histograms.specs.declared.Measures.{Measures}
 use Rattle.histograms.proofs.Values.{inside_all}
 use Rattle.histograms.proofs.Measured.{measured_inside}
-use Rattle.histograms.proofs.Histograms.{histogram-sum}
+use Rattle.histograms.proofs.Histograms.{histogram_sum}
 use Rattle.points.specs.declared.Slopes.{Slopes}
 use Rattle.points.specs.declared.Point.{Point}
 use Rattle.points.specs.Points.{start, points, top_of}
 use Rattle.affine.specs.Affine.{joined, kept_at, affine_top, affine_tone, affine_kept, Drawn}
-use Rattle.points.proofs.Points.{points-same}
+use Rattle.points.proofs.Points.{points_same}
 
 -- the counts add up to the number of pixels
 pub drawn_whole : {counts : List ℕ} {c : Measures} {a b : ℕ} → Drawn counts c a b
     → sum_to (at counts) c.least c.greatest ≡ c.size
 drawn_whole {c = c} g =
-    histogram-sum g.histogram c.greatest g.range.order
+    histogram_sum g.histogram c.greatest g.range.order
     ∙ inside_all (measured_inside g.histogram.measured)
     ∙ sym g.histogram.measured.size
 
@@ -50,20 +50,20 @@ module _ (s : Slopes) {counts sums : List ℕ} {c : Measures} {a b : ℕ} (range
 
   top-same : (vs : List ℕ) → Histogram vs counts c → top ≡ affine_top s a b vs
   unfolding affine_top
-  top-same vs h = ap (λ (ps : List Point). (top_of (start a) ps).height) (points-same h range summed s)
+  top-same vs h = ap (λ (ps : List Point). (top_of (start a) ps).height) (points_same h range summed s)
 
   pub kept_same : {y : ℕ} → y ≡ top → (vs : List ℕ) → Histogram vs counts c
       → kept_at s.segments (b - a) y ≡ affine_kept s a b vs
   unfolding affine_kept
   kept_same e vs h = ap (kept_at s.segments (b - a)) (e ∙ top-same vs h)
 
-  pub affine-tabled : {y : ℕ} {table table' : List ℕ} → y ≡ top
+  pub affine_tabled : {y : ℕ} {table table' : List ℕ} → y ≡ top
       → Refilled (joined a b y (start a) (points s a b (at sums) c.size)) c.least (c.greatest + 1) table table'
       → Tabled (affine_tone s a b) c counts table'
   unfolding affine_tone
-  affine-tabled e t = record {
+  affine_tabled e t = record {
     exact = λ vs h v lv vg.
         t.new v lv (omega arith)
         ∙ ap₂ (λ (z : ℕ) (ps : List Point). joined a b z (start a) ps v) (e ∙ top-same vs h)
-        (points-same h range summed s);
+        (points_same h range summed s);
   }

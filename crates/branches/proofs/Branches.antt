@@ -20,8 +20,8 @@ use Rattle.model.specs.Passes.{changes, kept_back, component_count}
 use Rattle.model.specs.Effects.{Effect, then, pass_effect, run_effect}
 use Rattle.model.specs.Outcomes.{came, sums}
 use Rattle.model.specs.Enhancement.{section, deep}
-use Rattle.model.proofs.Recursion.{pass_few, effect_same, then_nothing, run-append}
-use Rattle.model.proofs.Sufficient.{run-few}
+use Rattle.model.proofs.Recursion.{pass_few, effect_same, then_nothing, run_append}
+use Rattle.model.proofs.Sufficient.{run_few}
 use Rattle.sections.specs.Sections.{gone, Treated}
 use Rattle.retoning.specs.Retoning.{leaves}
 use Rattle.retoning.specs.declared.Treatment.{Treatment}
@@ -68,15 +68,15 @@ told r = record { retoned = r.retoned; kept = r.kept }
 
 module _ (by : Pass → Near) where
   -- a treated section had its pass, but for the components that left before
-  pub treated-came : {n code : ℕ} {r : Treatment} {s : Pass} {u : Next}
+  pub treated_came : {n code : ℕ} {r : Treatment} {s : Pass} {u : Next}
       {plane marks queue plane' marks' queue' : List ℕ}
       → Treated (by s) n code s u plane marks queue plane' marks' queue' r
       → owing (gone (by s) n code s plane marks) (came plane' (told r)) ≡ pass_effect by s plane
-  treated-came T = effect_same T.plane_is T.retoned_is T.kept_is
+  treated_came T = effect_same T.plane_is T.retoned_is T.kept_is
 
-  pub run-one : (s : Pass) (p : List ℕ) → run_effect by (s ∷ []) p ≡ pass_effect by s p
+  pub run_one : (s : Pass) (p : List ℕ) → run_effect by (s ∷ []) p ≡ pass_effect by s p
   unfolding run_effect
-  run-one s p = then_nothing (pass_effect by s p)
+  run_one s p = then_nothing (pass_effect by s p)
 
   pub run_more : (s : Pass) (ss : List Pass) (p : List ℕ)
       → run_effect by (s ∷ ss) p ≡ then (pass_effect by s p) (run_effect by ss (pass_effect by s p).plane)
@@ -84,10 +84,10 @@ module _ (by : Pass → Near) where
   run_more s ss p = refl
 
   -- a call with an effect, and one after it that came to a run
-  pub came-then : (ss : List Pass) (r r' : Counts) (j j' : ℕ) {plane₁ plane' : List ℕ} {e : Effect}
+  pub came_then : (ss : List Pass) (r r' : Counts) (j j' : ℕ) {plane₁ plane' : List ℕ} {e : Effect}
       → owing j (came plane₁ r) ≡ e → owing j' (came plane' r') ≡ run_effect by ss plane₁
       → owing (j + j') (came plane' (sums r r')) ≡ then e (run_effect by ss e.plane)
-  came-then ss r r' j j' {plane₁} first second =
+  came_then ss r r' j j' {plane₁} first second =
       effect_same refl refl (omega arith)
       ∙ ap (then (owing j (came plane₁ r))) second
       ∙ ap (λ (e : Effect). then e (run_effect by ss e.plane)) first
@@ -127,7 +127,7 @@ counts_few : (by : Pass → Near) (ss : List Pass) (span : ℕ) (r : Counts) (j 
     → length ss ≤ span → length plane ≤ 1048576 → owing j (came plane' r) ≡ run_effect by ss plane
     → (r.retoned ≤ span * 1048576) × (r.kept ≤ span * 1048576)
 counts_few by ss span r j plane plane' sections few same =
-    let all = run-few by ss plane in
+    let all = run_few by ss plane in
     let most : length ss * length plane ≤ span * 1048576 = mul-le-mul sections few in (
       omega (arith, ap (λ (e : Effect). e.retoned) same),
       omega (arith, ap (λ (e : Effect). e.kept) same),
@@ -190,7 +190,7 @@ module _ (z : Shape) (t : Settings) {a b code x : ℕ} {u : Next} {plane marks q
       → owing before (came plane₁ (told r))
       ≡ pass_effect (pass_neighbours z) (section t.area t.rule t.neighbours a (2 ^ (d + k))) plane
   section-came W =
-      treated-came (pass_neighbours z) T ∙ ap (λ (s : Pass). pass_effect (pass_neighbours z) s plane) (the_section t W)
+      treated_came (pass_neighbours z) T ∙ ap (λ (s : Pass). pass_effect (pass_neighbours z) s plane) (the_section t W)
 
   -- with no halves
   pub leaf : {span : ℕ} {more : Bool} → Deeper a b t.last more → more ≡ false
@@ -204,7 +204,7 @@ module _ (z : Shape) (t : Settings) {a b code x : ℕ} {u : Next} {plane marks q
           ≡ run_effect (pass_neighbours z) (deep k t.area t.rule t.neighbours d a) plane
       one zero k W e =
           let none : x * r.left ≡ 0 * r.left = ap (◌* r.left) (B.exact 0 k W) in
-          effect_same refl refl (omega arith) ∙ section-came W ∙ sym (run-one (pass_neighbours z) _ plane)
+          effect_same refl refl (omega arith) ∙ section-came W ∙ sym (run_one (pass_neighbours z) _ plane)
       one (suc d) k W e = absurd (omega arith)
 
   -- with its halves: a component that left before, or leaves, is in one of them, and is kept back on all levels below
@@ -235,7 +235,7 @@ module _ (z : Shape) (t : Settings) {a b code x : ℕ} {u : Next} {plane marks q
           ap ((d + 1) *◌) gone-is ∙ mul-add (d + 1) r.left before in
           let levels : (suc d + 1) * before ≡ (d + 1) * before + before = omega arith in
           effect_same refl refl (omega arith)
-          ∙ came-then (pass_neighbours z) _ (told r) r' before ((d + 1) * below) (section-came W) (H.model d k W)
+          ∙ came_then (pass_neighbours z) _ (told r) r' before ((d + 1) * below) (section-came W) (H.model d k W)
           ∙ sym (run_more (pass_neighbours z) _ _ plane)
 
 -- ## The halves
@@ -260,8 +260,8 @@ module _ {z : Shape} {a b code span : ℕ} {r r' : Counts} {t : Settings}
           mul-add (d + 1) lower (gone_on z t ((a + b) / 2 + 1) b hcode plane marks),
           ap ((d + 1) *◌) same,
         ))
-        ∙ came-then (pass_neighbours z) (below (a + 2 ^ (d + k))) r r' _ _ (L.model d k (low_half W)) upper
-        ∙ sym (run-append (pass_neighbours z) (below a) (below (a + 2 ^ (d + k))) plane);
+        ∙ came_then (pass_neighbours z) (below (a + 2 ^ (d + k))) r r' _ _ (L.model d k (low_half W)) upper
+        ∙ sym (run_append (pass_neighbours z) (below a) (below (a + 2 ^ (d + k))) plane);
     apart = A;
     rest = rest_then L.rest H.rest;
   }

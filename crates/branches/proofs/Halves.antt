@@ -20,7 +20,7 @@ use Rattle.model.specs.Passes.{within, sufficient, counted, component_count}
 use Rattle.model.specs.Neighbourhoods.{pass_neighbours}
 use Rattle.model.proofs.Neighbourhoods.{pass_sym}
 use Rattle.model.proofs.Order.{in-of, in-to}
-use Rattle.model.proofs.Apart.{Alike, inside-alike, values-alike, counted-alike}
+use Rattle.model.proofs.Apart.{Alike, inside_alike, values_alike, counted_alike}
 use Rattle.painting.specs.Painting.{number, On}
 use Rattle.sections.specs.Sections.{gone, Coded, Section, Treated, Treats}
 use Rattle.retoning.specs.Retoning.{inert, leaves, one_if}
@@ -29,11 +29,11 @@ use Rattle.retoning.specs.declared.Treatment.{Treatment}
 use Rattle.retoning.proofs.Inert.{Part}
 use Rattle.levels.specs.Levels.{Numbered, Away}
 use Rattle.levels.specs.declared.Settings.{Settings}
-use Rattle.levels.proofs.Numbers.{numbered-order, numbered-some, twice, half-some, halves-order}
-use Rattle.levels.proofs.Numbers.{low-numbered, high-numbered, low-away, high-away}
+use Rattle.levels.proofs.Numbers.{numbered_order, numbered_some, twice, half_some, halves_order}
+use Rattle.levels.proofs.Numbers.{low_numbered, high_numbered, low_away, high_away}
 use Rattle.branches.specs.Branches.{pass_on, CodedOn, Ready, Due, Halves, Apart, gone_on, gone_below}
-use Rattle.branches.proofs.Parts.{Outside, where-is, not_within, Picks, stays_within, in-stays, out_stays}
-use Rattle.branches.proofs.Parts.{mark-stays, mark-next, part_none, part-coded, gone_at}
+use Rattle.branches.proofs.Parts.{Outside, where-is, not_within, Picks, stays_within, in_stays, out_stays}
+use Rattle.branches.proofs.Parts.{mark_stays, mark_next, part_none, part_coded, gone_at}
 
 -- ## Sections that are due
 
@@ -43,7 +43,7 @@ pub due_section : {z : Shape} {a b code span : ℕ} {due : Bool} {t : Settings} 
     → (u.low ≡ code → ⊥) × (u.high ≡ code → ⊥) → Section plane marks queue z code due (pass_on t a b) u
 due_section R D f = record {
   lent = R.lent;
-  order = numbered-order D.numbered;
+  order = numbered_order D.numbered;
   real = D.numbered.real;
   low = f.0;
   high = f.1;
@@ -62,32 +62,32 @@ module _ {near : Near} {n code : ℕ} {r : Treatment} {s : Pass} {u : Next}
     (ab : s.a ≤ s.b) (whole : length plane ≡ n)
     (T : Treated near n code s u plane marks queue plane' marks' queue' r) where
   -- with no halves: the section is done
-  pub apart-leaf : {span : ℕ} → 1 ≤ code → 1 ≤ span → MarksAre n code span marks
+  pub apart_leaf : {span : ℕ} → 1 ≤ code → 1 ≤ span → MarksAre n code span marks
       → (u.low ≡ 0) × (u.high ≡ 0) → Apart n s.a s.b code span plane marks plane' marks'
-  apart-leaf {span} real some are z = record {
-    inside = λ p l i j. in-stays ab whole T p l (i, j);
+  apart_leaf {span} real some are z = record {
+    inside = λ p l i j. in_stays ab whole T p l (i, j);
     outside = out_stays ab whole T;
     cleared = λ p l i j. elim (are p l) [
-      | inl e ↦ elim (mark-next ab whole T p l e) [ inl q ↦ q | inr (inl q) ↦ q ∙ z.0 | inr (inr q) ↦ q ∙ z.1 ]
+      | inl e ↦ elim (mark_next ab whole T p l e) [ inl q ↦ q | inr (inl q) ↦ q ∙ z.0 | inr (inr q) ↦ q ∙ z.1 ]
       | inr (inl a) ↦ absurd (omega (arith, i, a))
       | inr (inr a) ↦ absurd (omega (arith, j, a))
     ];
-    stays = λ p l a. mark-stays ab whole T p l
+    stays = λ p l a. mark_stays ab whole T p l
         (λ e. elim a [ inl x ↦ omega (arith, x, e) | inr x ↦ omega (arith, x, e, some) ]);
   }
 
   -- with halves that are done too
-  pub apart-node : {span : ℕ} {plane'' marks'' : List ℕ} → 1 ≤ code → 3 ≤ span → MarksAre n code span marks
+  pub apart_node : {span : ℕ} {plane'' marks'' : List ℕ} → 1 ≤ code → 3 ≤ span → MarksAre n code span marks
       → (u.low ≡ code + 1) × (u.high ≡ code + 1 + (span - 1) / 2)
       → Apart n s.a s.b code span plane' marks' plane'' marks''
       → Apart n s.a s.b code span plane marks plane'' marks''
-  apart-node {span} real many are z B = record {
-    inside = λ p l i j. let k = in-stays ab whole T p l (i, j) in B.inside p l k.0 k.1;
+  apart_node {span} real many are z B = record {
+    inside = λ p l i j. let k = in_stays ab whole T p l (i, j) in B.inside p l k.0 k.1;
     outside = λ p l o.
         let e = out_stays ab whole T p l o in
         B.outside p l (subst (Outside s.a s.b) (sym e) o) ∙ e;
     cleared = λ p l i j. elim (are p l) [
-      | inl e ↦ elim (mark-next ab whole T p l e) [
+      | inl e ↦ elim (mark_next ab whole T p l e) [
         | inl q ↦ B.stays p l (inl (omega (arith, q, real))) ∙ q
         | inr (inl q) ↦ B.cleared p l (omega (arith, q, z.0)) (omega (arith, q, z.0, many))
         | inr (inr q) ↦ B.cleared p l (omega (arith, q, z.1)) (omega (arith, q, z.1, many))
@@ -96,7 +96,7 @@ module _ {near : Near} {n code : ℕ} {r : Treatment} {s : Pass} {u : Next}
       | inr (inr a) ↦ absurd (omega (arith, j, a))
     ];
     stays = λ p l a.
-        let e = mark-stays ab whole T p l
+        let e = mark_stays ab whole T p l
         (λ e. elim a [ inl x ↦ omega (arith, x, e) | inr x ↦ omega (arith, x, e, many) ]) in
         B.stays p l (subst (Away code span) (sym e) a) ∙ e;
   }
@@ -132,7 +132,7 @@ module _ (z : Shape) (t : Settings) {code span d : ℕ} {s : Pass} {u : Next}
   upper = pass_on t (mid + 1) s.b
 
   ab : s.a ≤ s.b
-  ab = numbered-order N
+  ab = numbered_order N
 
   fresh : (x : ℕ) → code < x → x < code + span → (p : ℕ) → p < pixels z → at marks p ≡ x → ⊥
   fresh x i j p l e = elim (are p l) [
@@ -147,12 +147,12 @@ module _ (z : Shape) (t : Settings) {code span d : ℕ} {s : Pass} {u : Next}
   low-on : (v : ℕ) → number u v ≡ low → On u true v
   low-on v e = elim (decide (leb v u.mid)) [
     | inl d ↦ d
-    | inr d ↦ absurd (omega (arith, sym (by_value v false d) ∙ e, numbers.1, half-some N))
+    | inr d ↦ absurd (omega (arith, sym (by_value v false d) ∙ e, numbers.1, half_some N))
   ]
 
   high-on : (v : ℕ) → number u v ≡ high → On u false v
   high-on v e = elim (decide (leb v u.mid)) [
-    | inl d ↦ absurd (omega (arith, sym (by_value v true d) ∙ e, numbers.0, half-some N))
+    | inl d ↦ absurd (omega (arith, sym (by_value v true d) ∙ e, numbers.0, half_some N))
     | inr d ↦ d
   ]
 
@@ -160,7 +160,7 @@ module _ (z : Shape) (t : Settings) {code span d : ℕ} {s : Pass} {u : Next}
   picks-low = record {
     part = record { low = omega arith; high = omega (arith, ab); area = area; rule = rule; neighbours = same };
     real = omega arith;
-    fresh = fresh low (omega arith) (omega (arith, twice N, half-some N));
+    fresh = fresh low (omega arith) (omega (arith, twice N, half_some N));
     given = λ v e.
         let d = in-of lower v e in
         by_value v true (le-leb v u.mid (omega (arith, d, middle))) ∙ numbers.0;
@@ -171,7 +171,7 @@ module _ (z : Shape) (t : Settings) {code span d : ℕ} {s : Pass} {u : Next}
   picks-high = record {
     part = record { low = omega (arith, ab); high = omega arith; area = area; rule = rule; neighbours = same };
     real = omega arith;
-    fresh = fresh high (omega arith) (omega (arith, twice N, half-some N));
+    fresh = fresh high (omega arith) (omega (arith, twice N, half_some N));
     given = λ v e.
         let d = in-of upper v e in
         by_value v false (lt-leb v u.mid (omega (arith, d, middle))) ∙ numbers.1;
@@ -181,14 +181,14 @@ module _ (z : Shape) (t : Settings) {code span d : ℕ} {s : Pass} {u : Next}
   marks-after : (p : ℕ) → p < pixels z
       → ((at marks' p ≡ low) ⊎ (at marks' p ≡ high)) ⊎ Away code span (at marks' p)
   marks-after p l = elim (are p l) [
-    | inl e ↦ elim (mark-next ab whole T.treated p l e) [
+    | inl e ↦ elim (mark_next ab whole T.treated p l e) [
       | inl q ↦ inr (inl (omega (arith, q, N.real)))
       | inr (inl q) ↦ inl (inl (q ∙ numbers.0))
       | inr (inr q) ↦ inl (inr (q ∙ numbers.1))
     ]
-    | inr a ↦ inr (subst (Away code span) (sym (mark-stays ab whole T.treated p l (λ e. elim a [
+    | inr a ↦ inr (subst (Away code span) (sym (mark_stays ab whole T.treated p l (λ e. elim a [
       | inl x ↦ omega (arith, x, e)
-      | inr x ↦ omega (arith, x, e, numbered-some N)
+      | inr x ↦ omega (arith, x, e, numbered_some N)
     ]))) a)
   ]
 
@@ -196,7 +196,7 @@ module _ (z : Shape) (t : Settings) {code span d : ℕ} {s : Pass} {u : Next}
   coded-part : {a b x : ℕ} → Picks (pixels z) marks u s (pass_on t a b) x → CodedOn z t a b x plane' marks'
   coded-part {a} {b} {x} P =
       subst (λ (near : Near). Coded near (pixels z) x (pass_on t a b) plane' marks') (halves_near z P.part)
-      (part-coded ab whole T.treated P (pass_sym z s) K)
+      (part_coded ab whole T.treated P (pass_sym z s) K)
 
   halves_of : Halves z s.a s.b code span r.low r.high t plane' marks'
   halves_of = record {
@@ -243,10 +243,10 @@ module _ (z : Shape) (t : Settings) {code span d : ℕ} {s : Pass} {u : Next}
       (gone_at ab whole T.treated picks-high (pass_sym z s) K p h))
 
   -- those that have the number of neither half are the lone components of the section
-  pub gone-halves : gone_below z t s.a s.b code span plane' marks'
+  pub gone_halves : gone_below z t s.a s.b code span plane' marks'
       ≡ component_count (leaves (pass_on t s.a s.b)) (pass_neighbours z s) s plane
   unfolding gone component_count
-  gone-halves =
+  gone_halves =
       ap₂ ◌+◌ (gone-part picks-low) (gone-part picks-high)
       ∙ sym (count_sum led (apart lower low) (apart upper high) 0 (pixels z) (λ p _ h. at-pixel p (omega arith)))
       ∙ ap (λ (k : ℕ). count led (from 0 k)) (sym whole)
@@ -259,16 +259,16 @@ module _ (z : Shape) (t : Settings) {code span : ℕ} {s : Pass} {u : Next}
     (middle : u.mid ≡ (s.a + s.b) / 2)
     (numbers : (u.low ≡ code + 1) × (u.high ≡ code + 1 + (span - 1) / 2))
     (area : s.area ≤ t.area) (rule : t.rule ≡ s.rule) (same : t.neighbours ≡ s.neighbours) where
-  pub next-halves : (d : ℕ) → 0 < d → Numbered t.last s.a s.b d code span
+  pub next_halves : (d : ℕ) → 0 < d → Numbered t.last s.a s.b d code span
       → Halves z s.a s.b code span r.low r.high t plane' marks'
-  next-halves zero i N = absurd (omega arith)
-  next-halves (suc d) i N = halves_of z t whole T K are middle numbers area rule same N
+  next_halves zero i N = absurd (omega arith)
+  next_halves (suc d) i N = halves_of z t whole T K are middle numbers area rule same N
 
-  pub next-gone : (d : ℕ) → 0 < d → Numbered t.last s.a s.b d code span
+  pub next_gone : (d : ℕ) → 0 < d → Numbered t.last s.a s.b d code span
       → gone_below z t s.a s.b code span plane' marks'
       ≡ component_count (leaves (pass_on t s.a s.b)) (pass_neighbours z s) s plane
-  next-gone zero i N = absurd (omega arith)
-  next-gone (suc d) i N = gone-halves z t whole T K are middle numbers area rule same N
+  next_gone zero i N = absurd (omega arith)
+  next_gone (suc d) i N = gone_halves z t whole T K are middle numbers area rule same N
 
 -- ## The halves, one after the other
 
@@ -280,10 +280,10 @@ coded_alike : {near : Near} {n code : ℕ} {s : Pass} {plane plane' marks marks'
 coded_alike {near} {n} {code} {s} {plane} {plane'} whole A same K = record {
   coded = λ p h e. A.section p (omega arith) ∙ K.coded p h ((same p h).1 e);
   whole = λ x y hx hy e c. (same y hy).0 (K.whole x y hx hy
-      (sym (inside-alike near s plane plane' A x y (omega arith) (omega arith)) ∙ e) ((same x hx).1 c));
+      (sym (inside_alike near s plane plane' A x y (omega arith) (omega arith)) ∙ e) ((same x hx).1 c));
   others = λ p h e f.
       let d : within s (at plane p) ≡ true = sym (A.section p (omega arith)) ∙ e in
-      ap (inert s) (values-alike near s plane plane' A p (omega arith) d) ∙ K.others p h d (λ c. f ((same p h).0 c));
+      ap (inert s) (values_alike near s plane plane' A p (omega arith) d) ∙ K.others p h d (λ c. f ((same p h).0 c));
 }
 
 gone_alike : (near : Near) {n code : ℕ} {s : Pass} {plane plane' : List ℕ} (marks marks' : List ℕ) → length plane ≡ n
@@ -295,7 +295,7 @@ gone_alike near {n} {code} {s} {plane} {plane'} marks marks' whole A same = coun
     ap₂ (λ (c d : Bool). not c && d)
     (same_test (eqb (at marks' p) code) (eqb (at marks p) code)
     (λ e. eq-eqb _ _ ((same p h).1 (eqb-true _ _ e))) (λ e. eq-eqb _ _ ((same p h).0 (eqb-true _ _ e))))
-    (counted-alike near s plane plane' A (sufficient s) p (omega arith)))
+    (counted_alike near s plane plane' A (sufficient s) p (omega arith)))
 
 module _ {z : Shape} {a b code span : ℕ} {lows highs : Bool} {t : Settings} {plane marks : List ℕ}
     (H : Halves z a b code span lows highs t plane marks) where
@@ -305,15 +305,15 @@ module _ {z : Shape} {a b code span : ℕ} {lows highs : Bool} {t : Settings} {p
   abbrev middle : ℕ
   middle = (a + b) / 2
 
-  pub due-low : Due z a middle (code + 1) half lows t plane marks
-  due-low = record {
+  pub due_low : Due z a middle (code + 1) half lows t plane marks
+  due_low = record {
     d = H.d;
-    numbered = low-numbered H.numbered;
+    numbered = low_numbered H.numbered;
     coded = H.low;
     marks_are = λ p l. elim (H.marks_are p l) [
       | inl (inl e) ↦ inl e
       | inl (inr e) ↦ inr (inr (omega (arith, e)))
-      | inr e ↦ inr (low-away H.numbered (at marks p) e)
+      | inr e ↦ inr (low_away H.numbered (at marks p) e)
     ];
     found = H.low_found;
   }
@@ -325,12 +325,12 @@ module _ {z : Shape} {a b code span : ℕ} {lows highs : Bool} {t : Settings} {p
     after-low : MarksAre (pixels z) (code + 1 + half) half marks₁
     after-low p l = elim (H.marks_are p l) [
       | inl (inl e) ↦
-          let gone = A.cleared p l (omega (arith, e)) (omega (arith, e, half-some H.numbered)) in
+          let gone = A.cleared p l (omega (arith, e)) (omega (arith, e, half_some H.numbered)) in
           inr (inl (omega (arith, gone)))
       | inl (inr e) ↦ inl (A.stays p l (inr (omega (arith, e))) ∙ e)
       | inr e ↦
-          let same = A.stays p l (low-away H.numbered (at marks p) e) in
-          inr (subst (Away (code + 1 + half) half) (sym same) (high-away H.numbered (at marks p) e))
+          let same = A.stays p l (low_away H.numbered (at marks p) e) in
+          inr (subst (Away (code + 1 + half) half) (sym same) (high_away H.numbered (at marks p) e))
     ]
 
     same-high : (p : ℕ) → p < pixels z
@@ -342,10 +342,10 @@ module _ {z : Shape} {a b code span : ℕ} {lows highs : Bool} {t : Settings} {p
         | inl (inl q) ↦ absurd (omega (
           arith,
           e,
-          A.cleared p l (omega (arith, q)) (omega (arith, q, half-some H.numbered)),
+          A.cleared p l (omega (arith, q)) (omega (arith, q, half_some H.numbered)),
         ))
         | inl (inr q) ↦ q
-        | inr q ↦ sym (A.stays p l (low-away H.numbered (at marks p) q)) ∙ e
+        | inr q ↦ sym (A.stays p l (low_away H.numbered (at marks p) q)) ∙ e
       ],
     )
 
@@ -360,28 +360,28 @@ module _ {z : Shape} {a b code span : ℕ} {lows highs : Bool} {t : Settings} {p
       same = λ p l e. A.outside p (omega arith) (inr (omega (arith, in-of (pass_on t (middle + 1) b) (at plane p) e)));
     }
 
-    pub due-high : Due z (middle + 1) b (code + 1 + half) half highs t plane₁ marks₁
-    due-high = record {
+    pub due_high : Due z (middle + 1) b (code + 1 + half) half highs t plane₁ marks₁
+    due_high = record {
       d = H.d;
-      numbered = high-numbered H.numbered;
+      numbered = high_numbered H.numbered;
       coded = coded_alike whole high-alike same-high H.high;
       marks_are = after-low;
       found = λ e p i l c. H.high_found e p i l ((same-high p l).1 c);
     }
 
     -- as many components have left the upper half as before
-    pub gone-high : gone_on z t (middle + 1) b (code + 1 + half) plane₁ marks₁
+    pub gone_high : gone_on z t (middle + 1) b (code + 1 + half) plane₁ marks₁
         ≡ gone_on z t (middle + 1) b (code + 1 + half) plane marks
-    gone-high = gone_alike (pass_neighbours z (pass_on t (middle + 1) b)) marks marks₁ whole high-alike same-high
+    gone_high = gone_alike (pass_neighbours z (pass_on t (middle + 1) b)) marks marks₁ whole high-alike same-high
 
     -- and the upper half
     module _ {plane₂ marks₂ : List ℕ}
         (B : Apart (pixels z) (middle + 1) b (code + 1 + half) half plane₁ marks₁ plane₂ marks₂) where
       order : a < b
-      order = halves-order H.numbered
+      order = halves_order H.numbered
 
-      pub apart-both : Apart (pixels z) a b code span plane marks plane₂ marks₂
-      apart-both = record {
+      pub apart_both : Apart (pixels z) a b code span plane marks plane₂ marks₂
+      apart_both = record {
         inside = λ p l i j. elim (where-is a middle (at plane p)) [
           | inl k ↦ let x = A.inside p l k.0 k.1 in
               let e = B.outside p l (inl (omega (arith, x))) in
@@ -400,15 +400,15 @@ module _ {z : Shape} {a b code span : ℕ} {lows highs : Bool} {t : Settings} {p
             B.outside p l (subst (Outside (middle + 1) b) (sym e) high) ∙ e;
         cleared = λ p l i j. elim (H.marks_are p l) [
           | inl (inl e) ↦
-              let gone = A.cleared p l (omega (arith, e)) (omega (arith, e, half-some H.numbered)) in
+              let gone = A.cleared p l (omega (arith, e)) (omega (arith, e, half_some H.numbered)) in
               B.stays p l (inl (omega (arith, gone))) ∙ gone
           | inl (inr e) ↦
               let q = A.stays p l (inr (omega (arith, e))) in
-              B.cleared p l (omega (arith, q, e)) (omega (arith, q, e, half-some H.numbered))
+              B.cleared p l (omega (arith, q, e)) (omega (arith, q, e, half_some H.numbered))
           | inr (inl x) ↦ absurd (omega (arith, i, x))
           | inr (inr x) ↦ absurd (omega (arith, j, x))
         ];
         stays = λ p l x.
-            let e = A.stays p l (low-away H.numbered (at marks p) x) in
-            B.stays p l (subst (Away (code + 1 + half) half) (sym e) (high-away H.numbered (at marks p) x)) ∙ e;
+            let e = A.stays p l (low_away H.numbered (at marks p) x) in
+            B.stays p l (subst (Away (code + 1 + half) half) (sym e) (high_away H.numbered (at marks p) x)) ∙ e;
       }

@@ -22,16 +22,16 @@ use Rattle.model.specs.declared.Pass.{Pass}
 use Rattle.tones.specs.declared.Rule.{Rule}
 use Rattle.tones.specs.Lone.{lone}
 use Rattle.model.specs.Passes.{within, inside, component_values, sufficient, new_tone, passed, counted}
-use Rattle.model.proofs.Components.{out-tone, linked-values}
-use Rattle.model.proofs.Order.{in-of, in-to, passed-at}
-use Rattle.model.proofs.Apart.{section-stays}
+use Rattle.model.proofs.Components.{out_tone, linked_values}
+use Rattle.model.proofs.Order.{in-of, in-to, passed_at}
+use Rattle.model.proofs.Apart.{section_stays}
 use Rattle.painting.specs.Painting.{number}
 use Rattle.sections.specs.Sections.{Coded, Treated}
 use Rattle.retoning.specs.Retoning.{small, inert, leaves}
 use Rattle.painting.specs.declared.Next.{Next}
 use Rattle.retoning.specs.declared.Treatment.{Treatment}
-use Rattle.retoning.proofs.Inert.{Part, part_within, was-within, inside-part, inert-part, no-larger}
-use Rattle.retoning.proofs.Inert.{lone-values, lone-first}
+use Rattle.retoning.proofs.Inert.{Part, part_within, was_within, inside_part, inert_part, no_larger}
+use Rattle.retoning.proofs.Inert.{lone_values, lone_first}
 
 -- ## Values
 
@@ -70,16 +70,16 @@ module _ {near : Near} {n code : ℕ} {r : Treatment} {s : Pass} {u : Next}
     (ab : s.a ≤ s.b) (whole : length plane ≡ n)
     (T : Treated near n code s u plane marks queue plane' marks' queue' r) where
   new-at : (p : ℕ) → p < n → at plane' p ≡ new_tone near s plane p
-  new-at p l = ap (λ (q : List ℕ). at q p) T.plane_is ∙ passed-at near s plane p (omega arith)
+  new-at p l = ap (λ (q : List ℕ). at q p) T.plane_is ∙ passed_at near s plane p (omega arith)
 
   pub stays_within : (p : ℕ) → p < n → within s (at plane p) ≡ true → within s (at plane' p) ≡ true
-  stays_within p l e = ap (within s) (new-at p l) ∙ section-stays near s ab plane p e
+  stays_within p l e = ap (within s) (new-at p l) ∙ section_stays near s ab plane p e
 
-  pub in-stays : (p : ℕ) → p < n → Inside s.a s.b (at plane p) → Inside s.a s.b (at plane' p)
-  in-stays p l i = in-of s (at plane' p) (stays_within p l (in-to s (at plane p) i.0 i.1))
+  pub in_stays : (p : ℕ) → p < n → Inside s.a s.b (at plane p) → Inside s.a s.b (at plane' p)
+  in_stays p l i = in-of s (at plane' p) (stays_within p l (in-to s (at plane p) i.0 i.1))
 
   pub out_stays : (p : ℕ) → p < n → Outside s.a s.b (at plane p) → at plane' p ≡ at plane p
-  out_stays p l o = new-at p l ∙ out-tone near s plane p (not_within s (at plane p) o)
+  out_stays p l o = new-at p l ∙ out_tone near s plane p (not_within s (at plane p) o)
 
   abbrev still : ℕ → Bool
   still p = inert s (component_values near s plane p)
@@ -91,12 +91,12 @@ module _ {near : Near} {n code : ℕ} {r : Treatment} {s : Pass} {u : Next}
       T.numbered p l ∙ ap₂ (λ (x y : Bool). cond x (cond y 0 (number u (at plane' p))) (at marks p)) e f
 
   -- a pixel without the code keeps its mark; one with it gets 0 or its next mark
-  pub mark-stays : (p : ℕ) → p < n → (at marks p ≡ code → ⊥) → at marks' p ≡ at marks p
-  mark-stays p l f = by-mark p l false (still p) (ne_eqb (at marks p) code f) refl
+  pub mark_stays : (p : ℕ) → p < n → (at marks p ≡ code → ⊥) → at marks' p ≡ at marks p
+  mark_stays p l f = by-mark p l false (still p) (ne_eqb (at marks p) code f) refl
 
-  pub mark-next : (p : ℕ) → p < n → at marks p ≡ code
+  pub mark_next : (p : ℕ) → p < n → at marks p ≡ code
       → (at marks' p ≡ 0) ⊎ ((at marks' p ≡ u.low) ⊎ (at marks' p ≡ u.high))
-  mark-next p l e = go (still p) (leb (at plane' p) u.mid) refl refl
+  mark_next p l e = go (still p) (leb (at plane' p) u.mid) refl refl
     where
       go : (x y : Bool) → still p ≡ x → leb (at plane' p) u.mid ≡ y
           → (at marks' p ≡ 0) ⊎ ((at marks' p ≡ u.low) ⊎ (at marks' p ≡ u.high))
@@ -138,7 +138,7 @@ module _ {near : Near} {n code : ℕ} {r : Treatment} {s : Pass} {u : Next}
 
       was-in : (p : ℕ) → p < n → within t (at plane' p) ≡ true → within s (at plane p) ≡ true
       was-in p h d =
-          was-within near symm s t P.part plane p (omega arith) (part_within P.part (at q p) (as_passed p d))
+          was_within near symm s t P.part plane p (omega arith) (part_within P.part (at q p) (as_passed p d))
 
       is-still : (p : ℕ) → p < n → within t (at plane' p) ≡ true → (at marks' p ≡ x → ⊥) → still p ≡ true
       is-still p h d f = elim (decide (still p)) [
@@ -154,23 +154,23 @@ module _ {near : Near} {n code : ℕ} {r : Treatment} {s : Pass} {u : Next}
       unfolding inside
       whole_part i j hi hj e c =
           let had = had-code i hi c in
-          let was = inside-part near symm s t P.part plane i j (omega arith) (omega arith)
+          let was = inside_part near symm s t P.part plane i j (omega arith) (omega arith)
           (subst (λ (m : List ℕ). inside near t m i j ≡ true) T.plane_is e) in
-          let same = linked-values near symm s plane i j (omega arith) (omega arith)
+          let same = linked_values near symm s plane i j (omega arith) (omega arith)
           (link_near (inside near s plane) (length plane) was) in
           let both = and_elim_left (within t (at plane' i) && within t (at plane' j)) (near i j) e in
           gets_code j hj (K.whole i j hi hj was had.0) (ap (inert s) (sym same) ∙ had.1.0)
           (and_elim_right (within t (at plane' i)) (within t (at plane' j)) both)
 
-      pub part-coded : Coded near n x t plane' marks'
-      part-coded = record {
+      pub part_coded : Coded near n x t plane' marks'
+      part_coded = record {
         coded = λ p h e.
             let had = had-code p h e in
             P.only (at plane' p) (stays_within p h (K.coded p h had.0)) had.1.1;
         whole = whole_part;
         others = λ p h d f.
             subst (λ (m : List ℕ). inert t (component_values near t m p) ≡ true) (sym T.plane_is)
-            (inert-part near symm s t P.part plane p (omega arith) (is-still p h d f));
+            (inert_part near symm s t P.part plane p (omega arith) (is-still p h d f));
       }
 
       -- ## The part's components of sufficient area that have not its number
@@ -215,15 +215,15 @@ module _ {near : Near} {n code : ℕ} {r : Treatment} {s : Pass} {u : Next}
       inert-at p h d e (inl alone) =
           let here = as_passed p d in
           let lp : p < length plane = omega (arith, whole) in
-          let values = lone-values near symm s t P.part plane p lp e alone here in
-          let firsts = lone-first near symm s t P.part plane p lp e alone here in
+          let values = lone_values near symm s t P.part plane p lp e alone here in
+          let firsts = lone_first near symm s t P.part plane p lp e alone here in
           let too : lone t.rule (vs p) ≡ true = ap (λ (r : Rule). lone r (vs p)) P.part.rule ∙ alone in
           ap₂ (λ (ws : List ℕ) (f : Bool). within t (at q p) && sufficient t ws && f) values firsts
           ∙ ap₂ (λ (u v : Bool). u && v && leader p) (here ∙ sym (was-in p h d))
           (sym (and-true (sufficient t (vs p))) ∙ ap (sufficient t (vs p) &&◌) (sym too))
       inert-at p h d e (inr shared) =
           let few = inert-few p e shared in
-          let larger = no-larger near symm s t P.part plane p (omega (arith, whole)) in
+          let larger = no_larger near symm s t P.part plane p (omega (arith, whole)) in
           let fewer : length (component_values near t q p) < t.area = omega (arith, P.part.area) in
           ap (λ (u : Bool). within t (at q p) && u && first (length q) (inside near t q) p)
           (lt-leb t.area (length (component_values near t q p)) fewer)

@@ -6,7 +6,7 @@
 //
 // The components and the area test of Algorithm 3 are in `sections::treat_section`. The published recursion takes each
 // component of a half down to the last level before the next one; that sections with all their components end alike is
-// the theorem `enhanced-published` of the model. So one search for each section takes the place of one for each
+// the theorem `enhanced_published` of the model. So one search for each section takes the place of one for each
 // component, and no sets are kept.
 #![tactic(auto)]
 ghost use Rattle.std.specs.Prelude.{◌≡◌, ◌≤◌, length};

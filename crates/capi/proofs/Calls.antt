@@ -36,11 +36,11 @@ use Rattle.netpbm.specs.declared.Header.TheVariants as Header
 use Rattle.netpbm.specs.Reading.{read_answer}
 use Rattle.texts.specs.declared.Written.{Written}
 use Rattle.texts.specs.Writing.{written_reply, WritingOutcome}
-use Rattle.texts.proofs.Writing.{wrote_none, wrote-size}
+use Rattle.texts.proofs.Writing.{wrote_none, wrote_size}
 use Rattle.listformat.specs.Format.{other, count_of, edition_of}
 use Rattle.listformat.proofs.Format.{headed, records_low}
 use Rattle.conversion.specs.Conversion.{ConvertOutcome}
-use Rattle.conversion.proofs.Refusals.{length-converted, convertible, head_sound}
+use Rattle.conversion.proofs.Refusals.{length_converted, convertible, head_sound}
 use Rattle.netpbm.specs.Writing.{WriteOutcome}
 use Rattle.netpbm.proofs.Writing.{wrote_writable}
 use Rattle.cnumbers.specs.Numbers.{encoded, number_reply, done_reply, status_number, answer_number, written_number, Short}
@@ -106,20 +106,20 @@ module _ {n number : ℕ} {e : Effect} {plane marks queue plane' marks' queue' :
     queue_rest = o.queue_rest;
   }
 
-  pub counts-coded : {numbers numbers' : List ℕ} {r : ℤ} (s : Answer) → r ≡ answer_number s
+  pub counts_coded : {numbers numbers' : List ℕ} {r : ℤ} (s : Answer) → r ≡ answer_number s
       → numbers' ≡ counts_after s numbers
       → Outcome n number e plane marks queue (answer_reply s) plane' marks' queue'
       → CountsOutcome n number e plane marks queue numbers r plane' marks' queue' numbers'
-  counts-coded {numbers} s d f o = record {
+  counts_coded {numbers} s d f o = record {
     outcome = coded numbers s d f o;
     numbers_are = f ∙ after_counts s numbers number (counts e) o.answer;
   }
 
-  pub output-coded : {bytes output output' numbers numbers' : List ℕ} {r : ℤ} (s : Answer) → r ≡ answer_number s
+  pub output_coded : {bytes output output' numbers numbers' : List ℕ} {r : ℤ} (s : Answer) → r ≡ answer_number s
       → numbers' ≡ counts_after s numbers
       → OutputOutcome n number e bytes plane marks queue output (answer_reply s) plane' marks' queue' output'
       → CountsOutputOutcome n number e bytes plane marks queue output numbers r plane' marks' queue' output' numbers'
-  output-coded {numbers = numbers} s d f o = record {
+  output_coded {numbers = numbers} s d f o = record {
     outcome = record { retoned = coded numbers s d f o.retoned; output_is = o.output_is };
     numbers_are = f ∙ after_counts s numbers number (counts e) o.retoned.answer;
   }
@@ -154,90 +154,90 @@ module _ (w h a b area : ℕ) (rule plane marks queue numbers : List ℕ) where
   abbrev lent : ℕ
   lent = lent_refusal z (length plane) (length marks) (length queue)
 
-  abbrev passFirst : ℕ
-  passFirst = lent ▷ form_refusal form
+  abbrev pass_first : ℕ
+  pass_first = lent ▷ form_refusal form
 
-  abbrev thePass : Pass
-  thePass = pass_of a b area rule
+  abbrev the_pass : Pass
+  the_pass = pass_of a b area rule
 
   -- a pass with these numbers, a rule and a number of neighbours
   abbrev made : Rule → ℕ → Pass
   made x y = record { a = a; b = b; area = area; rule = x; neighbours = y }
 
   -- all refusals but 14
-  abbrev passNext : ℕ
-  passNext = passFirst ▷ numbers_refusal thePass
+  abbrev pass_next : ℕ
+  pass_next = pass_first ▷ numbers_refusal the_pass
 
-  abbrev passWhole : ℕ
-  passWhole = pass_refusal_of z form thePass plane marks queue numbers
+  abbrev pass_whole : ℕ
+  pass_whole = pass_refusal_of z form the_pass plane marks queue numbers
 
-  pass-order : passWhole ≡ passNext ▷ counts_refusal (length numbers)
+  pass-order : pass_whole ≡ pass_next ▷ counts_refusal (length numbers)
   unfolding pass_refusal_of
   pass-order =
-      sym (▷_assoc lent (form_refusal form) (numbers_refusal thePass ▷ counts_refusal (length numbers)))
-      ∙ sym (▷_assoc passFirst (numbers_refusal thePass) (counts_refusal (length numbers)))
+      sym (▷_assoc lent (form_refusal form) (numbers_refusal the_pass ▷ counts_refusal (length numbers)))
+      ∙ sym (▷_assoc pass_first (numbers_refusal the_pass) (counts_refusal (length numbers)))
 
   -- refused before the pass is made
-  pub pass-refused : {k : ℕ} {r : ℤ} → k ≡ passFirst → (k ≡ 0 → ⊥) → r ≡ encoded k 0
+  pub pass_refused : {k : ℕ} {r : ℤ} → k ≡ pass_first → (k ≡ 0 → ⊥) → r ≡ encoded k 0
       → PassNumber w h a b area rule plane marks queue numbers r plane marks queue numbers
-  pass-refused {k} e f d =
-      let next : passNext ≡ k = ▷_left passFirst _ (λ x. f (e ∙ x)) ∙ sym e in
-      let is : k ≡ passWhole =
+  pass_refused {k} e f d =
+      let next : pass_next ≡ k = ▷_left pass_first _ (λ x. f (e ∙ x)) ∙ sym e in
+      let is : k ≡ pass_whole =
       sym (pass-order ∙ ap (◌▷ counts_refusal (length numbers)) next ∙ ▷_left k _ f) in
-      counts-coded (Answer.Refused k) d refl (refused_by k is f)
+      counts_coded (Answer.Refused k) d refl (refused_by k is f)
 
   -- refused for too few numbers, unless for something else
-  pub pass-short : {rule' : Rule} {number k : ℕ} {r : ℤ} → passFirst ≡ 0 → rule' ≡ rule_of form
+  pub pass_short : {rule' : Rule} {number k : ℕ} {r : ℤ} → pass_first ≡ 0 → rule' ≡ rule_of form
       → number ≡ neighbours_for rule → length numbers < 2 → k ≡ numbers_refusal (made rule' number)
       → r ≡ encoded (k ▷ 14) 0
       → PassNumber w h a b area rule plane marks queue numbers r plane marks queue numbers
-  pass-short {rule'} {number} {k} e rule_is number_is few told d =
-      let same : passNext ≡ k =
-      ▷_right passFirst _ e
+  pass_short {rule'} {number} {k} e rule_is number_is few told d =
+      let same : pass_next ≡ k =
+      ▷_right pass_first _ e
       ∙ sym (told ∙ ap₂ (λ (x : Rule) (y : ℕ). numbers_refusal (made x y)) rule_is number_is) in
-      let is : k ▷ 14 ≡ passWhole =
+      let is : k ▷ 14 ≡ pass_whole =
       sym (pass-order ∙ ap (◌▷ counts_refusal (length numbers)) same ∙ counts_short k numbers few) in
-      counts-coded (Answer.Refused (k ▷ 14)) d refl (refused_by (k ▷ 14) is (some_14 k))
+      counts_coded (Answer.Refused (k ▷ 14)) d refl (refused_by (k ▷ 14) is (some_14 k))
 
   -- with no refusal before it, those of the call are the pass's
-  pass_same : passFirst ≡ 0 → 2 ≤ length numbers → passWhole ≡ pass_call_refusal z thePass plane marks queue
+  pass_same : pass_first ≡ 0 → 2 ≤ length numbers → pass_whole ≡ pass_call_refusal z the_pass plane marks queue
   unfolding pass_refusal
   pass_same e enough =
       pass-order
-      ∙ counts_enough passNext numbers enough
-      ∙ ▷_right passFirst _ e
+      ∙ counts_enough pass_next numbers enough
+      ∙ ▷_right pass_first _ e
       ∙ sym (▷_right lent _ (▷_none lent _ e).0)
 
-  pub pass-made : {rule' : Rule} {number : ℕ} {plane' marks' queue' numbers' : List ℕ} (s : Answer) {r : ℤ}
-      → passFirst ≡ 0 → 2 ≤ length numbers → rule' ≡ rule_of form → number ≡ neighbours_for rule
+  pub pass_made : {rule' : Rule} {number : ℕ} {plane' marks' queue' numbers' : List ℕ} (s : Answer) {r : ℤ}
+      → pass_first ≡ 0 → 2 ≤ length numbers → rule' ≡ rule_of form → number ≡ neighbours_for rule
       → PassOutcome z (made rule' number) plane marks queue (answer_reply s) plane' marks' queue'
       → r ≡ answer_number s → numbers' ≡ counts_after s numbers
       → PassNumber w h a b area rule plane marks queue numbers r plane' marks' queue' numbers'
-  pass-made {plane' = plane'} {marks'} {queue'} s e enough rule_is number_is o g f =
+  pass_made {plane' = plane'} {marks'} {queue'} s e enough rule_is number_is o g f =
       let same = ap₂ made rule_is number_is in
-      let outcome : PassOutcome z thePass plane marks queue (answer_reply s) plane' marks' queue' =
+      let outcome : PassOutcome z the_pass plane marks queue (answer_reply s) plane' marks' queue' =
       subst (λ (x : Pass). PassOutcome z x plane marks queue (answer_reply s) plane' marks' queue') same o in
-      counts-coded s g f (outcome_number (sym (pass_same e enough)) outcome)
+      counts_coded s g f (outcome_number (sym (pass_same e enough)) outcome)
 
 -- ## Lists
 
 module _ (w h : ℕ) (list plane marks queue numbers : List ℕ) where
-  abbrev listNext : ℕ
-  listNext = run_list_refusal (shape_of w h) list plane marks queue
+  abbrev list_next : ℕ
+  list_next = run_list_refusal (shape_of w h) list plane marks queue
 
-  pub list-short : {k : ℕ} {r : ℤ} → length numbers < 2 → k ≡ listNext → r ≡ encoded (k ▷ 14) 0
+  pub list_short : {k : ℕ} {r : ℤ} → length numbers < 2 → k ≡ list_next → r ≡ encoded (k ▷ 14) 0
       → ListNumber w h list plane marks queue numbers r plane marks queue numbers
-  list-short {k} few told d =
+  list_short {k} few told d =
       let is : k ▷ 14 ≡ list_refusal_of (shape_of w h) list plane marks queue numbers =
-      ap (◌▷ 14) told ∙ sym (counts_short listNext numbers few) in
-      counts-coded (Answer.Refused (k ▷ 14)) d refl (refused_by (k ▷ 14) is (some_14 k))
+      ap (◌▷ 14) told ∙ sym (counts_short list_next numbers few) in
+      counts_coded (Answer.Refused (k ▷ 14)) d refl (refused_by (k ▷ 14) is (some_14 k))
 
-  pub list-made : {plane' marks' queue' numbers' : List ℕ} (s : Answer) {r : ℤ} → 2 ≤ length numbers
+  pub list_made : {plane' marks' queue' numbers' : List ℕ} (s : Answer) {r : ℤ} → 2 ≤ length numbers
       → ListOutcome (shape_of w h) list plane marks queue (answer_reply s) plane' marks' queue'
       → r ≡ answer_number s → numbers' ≡ counts_after s numbers
       → ListNumber w h list plane marks queue numbers r plane' marks' queue' numbers'
-  list-made s enough o g f =
-      counts-coded s g f (outcome_number (sym (counts_enough listNext numbers enough)) o)
+  list_made s enough o g f =
+      counts_coded s g f (outcome_number (sym (counts_enough list_next numbers enough)) o)
 
 -- ## Enhancement
 
@@ -245,83 +245,83 @@ module _ (w h last area : ℕ) (rule frame plane marks queue output numbers : Li
   abbrev shape : Shape
   shape = shape_of w h
 
-  abbrev ruleNumbers : RuleNumbers
-  ruleNumbers = numbers_for rule
+  abbrev numbers_of_rule : RuleNumbers
+  numbers_of_rule = numbers_for rule
 
   -- 1, 2, 3, 4, 14; and with 17
   abbrev memory : ℕ
   memory = enhance.memory_refusal shape (length frame) (length plane) (length marks) (length queue) (length output)
 
-  abbrev enhanceFirst : ℕ
-  enhanceFirst = memory ▷ form_refusal ruleNumbers
+  abbrev enhance_first : ℕ
+  enhance_first = memory ▷ form_refusal numbers_of_rule
 
-  abbrev theSettings : Settings
-  theSettings = settings_of last area rule
+  abbrev the_settings : Settings
+  the_settings = settings_of last area rule
 
   -- settings with these numbers, a rule and a number of neighbours
   abbrev settled : Rule → ℕ → Settings
   settled x y = record { last = last; area = area; rule = x; neighbours = y }
 
   -- all refusals but 14 for the counts
-  abbrev enhanceNext : ℕ
-  enhanceNext = enhanceFirst ▷ enhance.settings_refusal theSettings
+  abbrev enhance_next : ℕ
+  enhance_next = enhance_first ▷ enhance.settings_refusal the_settings
 
-  abbrev enhanceWhole : ℕ
-  enhanceWhole = enhance_refusal_of shape ruleNumbers theSettings frame plane marks queue output numbers
+  abbrev enhance_whole : ℕ
+  enhance_whole = enhance_refusal_of shape numbers_of_rule the_settings frame plane marks queue output numbers
 
-  enhance-order : enhanceWhole ≡ enhanceNext ▷ counts_refusal (length numbers)
+  enhance-order : enhance_whole ≡ enhance_next ▷ counts_refusal (length numbers)
   unfolding enhance_refusal_of
   enhance-order =
-      sym (▷_assoc memory (form_refusal ruleNumbers)
-      (enhance.settings_refusal theSettings ▷ counts_refusal (length numbers)))
-      ∙ sym (▷_assoc enhanceFirst (enhance.settings_refusal theSettings) (counts_refusal (length numbers)))
+      sym (▷_assoc memory (form_refusal numbers_of_rule)
+      (enhance.settings_refusal the_settings ▷ counts_refusal (length numbers)))
+      ∙ sym (▷_assoc enhance_first (enhance.settings_refusal the_settings) (counts_refusal (length numbers)))
 
   -- refused before the enhancement is made
-  pub enhance-refused : {k : ℕ} {r : ℤ} → k ≡ enhanceFirst → (k ≡ 0 → ⊥) → r ≡ encoded k 0
+  pub enhance_refused : {k : ℕ} {r : ℤ} → k ≡ enhance_first → (k ≡ 0 → ⊥) → r ≡ encoded k 0
       → EnhanceNumber w h last area rule frame plane marks queue output numbers r
       plane marks queue output numbers
-  enhance-refused {k} e f d =
-      let next : enhanceNext ≡ k = ▷_left enhanceFirst _ (λ x. f (e ∙ x)) ∙ sym e in
-      let is : k ≡ enhanceWhole =
+  enhance_refused {k} e f d =
+      let next : enhance_next ≡ k = ▷_left enhance_first _ (λ x. f (e ∙ x)) ∙ sym e in
+      let is : k ≡ enhance_whole =
       sym (enhance-order ∙ ap (◌▷ counts_refusal (length numbers)) next ∙ ▷_left k _ f) in
-      output-coded (Answer.Refused k) d refl (output_refused_by k is f)
+      output_coded (Answer.Refused k) d refl (output_refused_by k is f)
 
   -- refused for too few numbers, unless for something else
-  pub enhance-short : {rule' : Rule} {number k : ℕ} {r : ℤ} → enhanceFirst ≡ 0 → rule' ≡ rule_of ruleNumbers
+  pub enhance_short : {rule' : Rule} {number k : ℕ} {r : ℤ} → enhance_first ≡ 0 → rule' ≡ rule_of numbers_of_rule
       → number ≡ neighbours_for rule → length numbers < 2 → k ≡ enhance.settings_refusal (settled rule' number)
       → r ≡ encoded (k ▷ 14) 0
       → EnhanceNumber w h last area rule frame plane marks queue output numbers r
       plane marks queue output numbers
-  enhance-short {rule'} {number} {k} e rule_is number_is few told d =
-      let same : enhanceNext ≡ k =
-      ▷_right enhanceFirst _ e
+  enhance_short {rule'} {number} {k} e rule_is number_is few told d =
+      let same : enhance_next ≡ k =
+      ▷_right enhance_first _ e
       ∙ sym (told ∙ ap₂ (λ (x : Rule) (y : ℕ). enhance.settings_refusal (settled x y)) rule_is number_is) in
-      let is : k ▷ 14 ≡ enhanceWhole =
+      let is : k ▷ 14 ≡ enhance_whole =
       sym (enhance-order ∙ ap (◌▷ counts_refusal (length numbers)) same ∙ counts_short k numbers few) in
-      output-coded (Answer.Refused (k ▷ 14)) d refl (output_refused_by (k ▷ 14) is (some_14 k))
+      output_coded (Answer.Refused (k ▷ 14)) d refl (output_refused_by (k ▷ 14) is (some_14 k))
 
   -- with no refusal before it, those of the call are the enhancement's
-  enhance-same : enhanceFirst ≡ 0 → 2 ≤ length numbers
-      → enhanceWhole ≡ enhance.enhance_call_refusal shape theSettings frame plane marks queue output
+  enhance-same : enhance_first ≡ 0 → 2 ≤ length numbers
+      → enhance_whole ≡ enhance.enhance_call_refusal shape the_settings frame plane marks queue output
   unfolding enhance.enhance_refusal
   enhance-same e enough =
       enhance-order
-      ∙ counts_enough enhanceNext numbers enough
-      ∙ ▷_right enhanceFirst _ e
+      ∙ counts_enough enhance_next numbers enough
+      ∙ ▷_right enhance_first _ e
       ∙ sym (▷_right memory _ (▷_none memory _ e).0)
 
-  pub enhance-made : {rule' : Rule} {number : ℕ} {plane' marks' queue' output' numbers' : List ℕ} (s : Answer) {r : ℤ}
-      → enhanceFirst ≡ 0 → 2 ≤ length numbers → rule' ≡ rule_of ruleNumbers → number ≡ neighbours_for rule
+  pub enhance_made : {rule' : Rule} {number : ℕ} {plane' marks' queue' output' numbers' : List ℕ} (s : Answer) {r : ℤ}
+      → enhance_first ≡ 0 → 2 ≤ length numbers → rule' ≡ rule_of numbers_of_rule → number ≡ neighbours_for rule
       → enhance.EnhanceOutcome shape (settled rule' number) frame plane marks queue output (answer_reply s)
       plane' marks' queue' output'
       → r ≡ answer_number s → numbers' ≡ counts_after s numbers
       → EnhanceNumber w h last area rule frame plane marks queue output numbers r
       plane' marks' queue' output' numbers'
-  enhance-made {plane' = plane'} {marks'} {queue'} {output'} s e enough rule_is number_is o g f =
+  enhance_made {plane' = plane'} {marks'} {queue'} {output'} s e enough rule_is number_is o g f =
       let Made : Settings → Type 0 =
       λ x. enhance.EnhanceOutcome shape x frame plane marks queue output (answer_reply s)
       plane' marks' queue' output' in
-      output-coded s g f (output_number (sym (enhance-same e enough)) (subst Made (ap₂ settled rule_is number_is) o))
+      output_coded s g f (output_number (sym (enhance-same e enough)) (subst Made (ap₂ settled rule_is number_is) o))
 
 -- ## Reading
 
@@ -353,7 +353,7 @@ write_short raster w h {output} {output'} s o = record {
       let fits = wrote_writable raster w h wrote in
       let sides = fits.size in
       let short = heading_short w h (omega (arith, sides.narrow)) (omega (arith, sides.low)) in
-      omega (arith, wrote-size wrote, length-append (heading w h) raster, sides.few, fits.filled);
+      omega (arith, wrote_size wrote, length-append (heading w h) raster, sides.few, fits.filled);
 }
 
 -- a list has few records, so what is written of it is short
@@ -365,5 +365,5 @@ convert_short list {output} {output'} s o = record {
       subst (λ (x : Written). ConvertOutcome list output (written_reply x) output') e o in
       let head = headed list (head_sound list (convertible list (length output) (wrote_none wrote))) in
       let low = records_low (other (edition_of list)) (count_of list) head.few in
-      omega (arith, wrote-size wrote, length-converted list);
+      omega (arith, wrote_size wrote, length_converted list);
 }

@@ -8,7 +8,7 @@ use native.Mathlib.Omega.{arith}
 use lib.ListN.{length, set, length-set}
 use Rattle.planes.specs.Rounding.{rounded}
 use Rattle.planes.proofs.Stores.{at_set}
-use Rattle.planes.proofs.Quotients.{by-inverse}
+use Rattle.planes.proofs.Quotients.{by_inverse}
 use Rattle.channels.specs.Scales.{inverse, InversesBelow, Quotient}
 
 -- ## The table
@@ -46,10 +46,10 @@ module _ {x m by : ℕ} (q : Quotient x m by) where
       mul-le-mul {n₂ = 130305} {m₂ = 67108865} dividend-le (omega (arith, q.inverted, inverse_le m))
 
   -- and its whole part is the rounded quotient
-  pub rounded-by-inverse : (2 * x + m) * by / 67108864 ≡ rounded x m
+  pub rounded_by_inverse : (2 * x + m) * by / 67108864 ≡ rounded x m
   unfolding inverse
-  rounded-by-inverse =
+  rounded_by_inverse =
       let d = 2 * m in
       let y = 2 * x + m in
       let small : y * d ≤ 130305 * 510 = mul-le-mul {n₂ = 130305} {m₂ = 510} dividend-le (omega (arith, q.small)) in
-      by-inverse 67108864 d by y (omega (arith, q.some)) q.inverted (omega arith)
+      by_inverse 67108864 d by y (omega (arith, q.some)) q.inverted (omega arith)

@@ -27,7 +27,7 @@ use Rattle.model.specs.declared.Answer.TheVariants as Answer
 use Rattle.model.specs.Effects.{Effect, counts}
 use Rattle.model.specs.Outcomes.{answer_reply, Outcome, OutputOutcome}
 use Rattle.model.specs.Calls.{numbers_refusal, pass_refusal}
-use Rattle.model.proofs.Outcomes.{outcome_number, output_number, outcome-stays, output-stays}
+use Rattle.model.proofs.Outcomes.{outcome_number, output_number, outcome_stays, output_stays}
 use Rattle.levels.specs.declared.Settings.{Settings}
 use Rattle.passes.specs.Calls.{pass_call_refusal, PassOutcome}
 use Rattle.enhance.specs.Calls.{settings_refusal, memory_refusal, enhance_refusal, enhance_call_refusal, EnhanceOutcome}
@@ -40,7 +40,7 @@ use Rattle.netpbm.specs.Reading.{read_answer}
 use Rattle.netpbm.specs.Writing.{WriteOutcome}
 use Rattle.texts.specs.Writing.{written_reply}
 use Rattle.conversion.specs.Conversion.{ConvertOutcome}
-use Rattle.netpbm.proofs.Replies.{refused-answer, framed_answer, refused_some}
+use Rattle.netpbm.proofs.Replies.{refused_answer, framed_answer, refused_some}
 use Rattle.cnumbers.specs.Numbers.{encoded, number_reply, done_reply, status_number, written_number}
 use Rattle.cnumbers.specs.Numbers.{counts_refusal, counts_reply}
 use Rattle.crules.specs.Rules.{numbers_for}
@@ -120,15 +120,15 @@ module _ {n number : ℕ} {e : Effect} {plane marks queue plane' marks' queue' :
       → (reply ≡ refuses number) × ((plane' ≡ plane) × ((marks' ≡ marks) × (queue' ≡ queue)))
   refused-outcome some O =
       let is = O.answer ∙ replied_refused number (counts e) some in
-      (is, outcome-stays (subst (λ (y : Reply). Outcome n number e plane marks queue y plane' marks' queue') is O))
+      (is, outcome_stays (subst (λ (y : Reply). Outcome n number e plane marks queue y plane' marks' queue') is O))
 
-  refused-output : {bytes output output' : List ℕ} {reply : Reply} → (number ≡ 0 → ⊥)
+  refused_output : {bytes output output' : List ℕ} {reply : Reply} → (number ≡ 0 → ⊥)
       → OutputOutcome n number e bytes plane marks queue output reply plane' marks' queue' output'
       → (reply ≡ refuses number)
       × ((plane' ≡ plane) × ((marks' ≡ marks) × ((queue' ≡ queue) × (output' ≡ output))))
-  refused-output {bytes} {output} {output'} some O =
+  refused_output {bytes} {output} {output'} some O =
       let memory = refused-outcome some O.retoned in
-      let same = output-stays
+      let same = output_stays
       (subst (λ (y : Reply). OutputOutcome n number e bytes plane marks queue output y plane' marks' queue' output')
       memory.0 O) in
       (memory.0, (memory.1.0, (memory.1.1.0, (memory.1.1.1, same))))
@@ -149,7 +149,7 @@ module _ {n number : ℕ} {e : Effect} {plane marks queue plane' marks' queue' :
       → (number_reply r ≡ refuses k)
       × (((plane' ≡ plane) × ((marks' ≡ marks) × ((queue' ≡ queue) × (output' ≡ output)))) × (numbers' ≡ numbers))
   output-refused {numbers = numbers} {numbers'} {r} k is some O =
-      let refused = refused-output (λ z. some (sym is ∙ z)) O.outcome in (
+      let refused = refused_output (λ z. some (sym is ∙ z)) O.outcome in (
         told_alone r numbers' (refused.0 ∙ ap refuses is),
         (refused.1, O.numbers_are ∙ after_refused number numbers _ (λ z. some (sym is ∙ z))),
       )
@@ -323,7 +323,7 @@ c_functions = record {
   of_convert = λ list {output} {output'} r O. stands_written (λ y. ConvertOutcome list output y output') r O;
   of_write = λ raster w h {output} {output'} r O.
       stands_written (λ y. WriteOutcome raster w h output y output') r O;
-  of_read_refused = λ bytes numbers r k e R. read-refuses bytes numbers r R k (refused-answer bytes greatest_pixels e);
+  of_read_refused = λ bytes numbers r k e R. read-refuses bytes numbers r R k (refused_answer bytes greatest_pixels e);
   of_read = λ bytes numbers r w h offset e R. reads bytes numbers r R w h offset (framed_answer bytes greatest_pixels e);
   of_read_short = λ bytes numbers r w h offset e R. short bytes numbers r R w h offset
       (framed_answer bytes greatest_pixels e);

@@ -15,8 +15,8 @@ use Rattle.planes.specs.Replies.{Reply, refuses, gives, replied, after, overwrit
 use Rattle.planes.proofs.Replies.{refuses_not_gives, gives_same, replied_refuses, replied_gives}
 use Rattle.colours.specs.Frames.{intensity, recolour}
 use Rattle.colours.specs.Calls.{intensity_refusal, recolour_refusal, IntensityOutcome, RecolourOutcome}
-use Rattle.colours.proofs.Calls.{intensity-given, intensity-accepted, recolour-accepts, recolour-given, filled-length}
-use Rattle.colours.proofs.Frames.{length-recolour, recolour-at, recolour-bytes, channels-ordered}
+use Rattle.colours.proofs.Calls.{intensity_given, intensity_accepted, recolour_accepts, recolour_given, filled_length}
+use Rattle.colours.proofs.Frames.{length_recolour, recolour_at, recolour_bytes, channels_ordered}
 use Rattle.model.specs.declared.Pass.{Pass}
 use Rattle.model.specs.Effects.{Effect, counts}
 use Rattle.model.specs.Outcomes.{Outcome, OutputOutcome}
@@ -24,30 +24,30 @@ use Rattle.model.specs.Neighbourhoods.{pass_neighbours}
 use Rattle.model.specs.Calls.{retoned_in, kept_in, total, AllAccepted, State, start, chain, chain_effect, chain_sufficient}
 use Rattle.model.specs.Runs.{All, Carries}
 use Rattle.model.specs.Enhancement.{passes, call_of, enhanced}
-use Rattle.model.proofs.Outcomes.{outcome-given, outcome-stays, output-given}
-use Rattle.model.proofs.Chains.{Fine, chain_fine, chain-keeps, all_carry_within}
+use Rattle.model.proofs.Outcomes.{outcome_given, outcome_stays, output_given}
+use Rattle.model.proofs.Chains.{Fine, chain_fine, chain_keeps, all_carry_within}
 use Rattle.model.proofs.Recursion.{all_map}
-use Rattle.model.proofs.Connected.{passes-carry}
-use Rattle.model.proofs.Sufficient.{pass_sufficient_lem, run-sufficient, chain-sufficient, enhanced-sufficient}
+use Rattle.model.proofs.Connected.{passes_carry}
+use Rattle.model.proofs.Sufficient.{pass_sufficient_lem, run_sufficient_lem, chain_sufficient_lem, enhanced_sufficient}
 use Rattle.passes.specs.Calls.{call_on}
 use Rattle.passes.proofs.Calls.{sequence_is, sequence_within}
 use Rattle.levels.specs.declared.Settings.{Settings}
 use Rattle.enhance.specs.Calls.{chain_of, sufficient_of, EnhanceOutcome}
 use Rattle.enhance.proofs.Calls.{fine, chain_accepted}
-use Rattle.enhance.proofs.Published.{chain-published}
+use Rattle.enhance.proofs.Published.{chain_published}
 use Rattle.netpbm.specs.Reading.{read_reply}
 use Rattle.texts.specs.Writing.{WritingOutcome}
-use Rattle.netpbm.proofs.Replies.{malformed-reply, headed_reply, framed-reply}
+use Rattle.netpbm.proofs.Replies.{malformed_reply, headed_reply, framed_reply}
 use Rattle.netpbm.proofs.Uncommented.{reads_as_before, comments_got_10}
-use Rattle.tones.proofs.Before.{form-before, rule-before, two-refused}
+use Rattle.tones.proofs.Before.{form_before, rule_before_lem, two_refused}
 use Rattle.listformat.specs.Format.{passes_of}
 use Rattle.listformat.proofs.Format.{decodes}
-use Rattle.listchecks.proofs.Refusals.{accepted-list, places_second}
+use Rattle.listchecks.proofs.Refusals.{accepted_list, places_second}
 use Rattle.conversion.proofs.Editions.{restored}
 use Rattle.passlists.proofs.Editions.{converted_alike, editions_alike, convert_refuses}
-use Rattle.passlists.proofs.Chains.{list-taken, list-chain, passes-taken, passes-chain}
+use Rattle.passlists.proofs.Chains.{list_taken, list_chain, passes_taken, passes_chain_lem}
 use Rattle.frames.specs.Program.{program_output}
-use Rattle.frames.proofs.Program.{long-output, frame-output, refused-output}
+use Rattle.frames.proofs.Program.{long_output, frame_output, refused_output}
 use Rattle.claims.specs.Claims.{AsListed, ReadAsListed, Writes, Demand1, Had, Demand2, ShapePreserving, Coloured}
 use Rattle.claims.specs.Claims.{Demand3Holds, passes_chain, Chained, ListsAreChains, Editions, AsBefore}
 use Rattle.claims.proofs.ShapePreserving.{fine_shapes, shapes_fine, grey_file}
@@ -78,7 +78,7 @@ module _ {n number : ℕ} {e : Effect} {plane marks queue plane' marks' queue' :
 
   unchanged : (k : ℕ) → reply ≡ refuses k → (plane' ≡ plane) × ((marks' ≡ marks) × (queue' ≡ queue))
   unchanged k q =
-      outcome-stays (subst (λ (y : Reply). Outcome n number e plane marks queue y plane' marks' queue') q O)
+      outcome_stays (subst (λ (y : Reply). Outcome n number e plane marks queue y plane' marks' queue') q O)
 
 module _ {n number : ℕ} {e : Effect} {bytes plane marks queue output plane' marks' queue' output' : List ℕ}
     {reply : Reply}
@@ -108,16 +108,16 @@ written_given {number} {bytes} {output} O =
 
 reads : (bytes : List ℕ) (limit : ℕ) → ReadAsListed bytes limit (read_reply bytes limit)
 reads bytes limit = record {
-  malformed = malformed-reply bytes limit;
+  malformed = malformed_reply bytes limit;
   headed = λ w h maxval raster p. headed_reply limit p;
-  framed = framed-reply bytes limit;
+  framed = framed_reply bytes limit;
 }
 
 writes : (input : List ℕ) → Writes input (program_output input)
 writes input = record {
-  long = long-output input;
-  frame = λ short w h offset f. frame-output input short f;
-  refused = λ short k e. refused-output input short e;
+  long = long_output input;
+  frame = λ short w h offset f. frame_output input short f;
+  refused = λ short k e. refused_output input short e;
 }
 
 pub demand_1 : Demand1
@@ -145,7 +145,7 @@ had : {n number sufficient : ℕ} {e : Effect} {plane marks queue values plane' 
     → e.retoned + e.kept ≡ sufficient → Outcome n number e plane marks queue (gives values) plane' marks' queue'
     → Had n e sufficient marks queue values plane' marks' queue'
 had together O =
-    let given = outcome-given O in
+    let given = outcome_given O in
     record {
       values_are = given.1.0;
       together = together;
@@ -158,28 +158,28 @@ had together O =
 both_sums : (z : Shape) (t : Settings) (frame : List ℕ) → (
     let e = chain_effect (chain_of z t frame) in
     e.retoned + e.kept ≡ sufficient_of z t frame)
-both_sums z t frame = enhanced-sufficient z (intensity frame) t.last t.area t.rule t.neighbours
+both_sums z t frame = enhanced_sufficient z (intensity frame) t.last t.area t.rule t.neighbours
 
 pub demand_2 : Demand2
 demand_2 = record {
-  of_intensity = λ w h {frame} {plane} O. (intensity-given w h frame plane O).1;
+  of_intensity = λ w h {frame} {plane} O. (intensity_given w h frame plane O).1;
   of_pass = λ z s {plane} O. had (pass_sufficient_lem (pass_neighbours z s) s plane) O;
   of_recolour = λ w h {frame} {plane} {output} O.
       let number = recolour_refusal w h (length frame) (length plane) (length output) in
-      (recolour-given w h frame plane output (replied_gives number [] (sym O.answer)).0 O).1;
+      (recolour_given w h frame plane output (replied_gives number [] (sym O.answer)).0 O).1;
   of_enhance = λ z t frame {plane} {marks} {queue} {output} O.
-      let taken = (outcome-given O.retoned).0 in (
+      let taken = (outcome_given O.retoned).0 in (
         had (both_sums z t frame) O.retoned,
         (
-          output-given O,
+          output_given O,
           (
             chain_accepted z t frame plane marks queue output taken,
-            λ bytes. chain-published z t frame plane marks queue output (λ k. omega (arith, bytes.each k)) taken,
+            λ bytes. chain_published z t frame plane marks queue output (λ k. omega (arith, bytes.each k)) taken,
           ),
         ),
       );
-  of_list = λ z list {plane} O. had (run-sufficient (pass_neighbours z) (passes_of list) plane) O;
-  of_passes = λ z ss {plane} O. had (run-sufficient (pass_neighbours z) ss plane) O;
+  of_list = λ z list {plane} O. had (run_sufficient_lem (pass_neighbours z) (passes_of list) plane) O;
+  of_passes = λ z ss {plane} O. had (run_sufficient_lem (pass_neighbours z) ss plane) O;
   of_convert = λ list O. written_given O;
   of_write = λ raster w h O. written_given O;
 }
@@ -194,12 +194,12 @@ coloured {z} {frame} {plane} output {output'} size keeps e =
     let new = recolour frame plane in
     let exact : take (3 * pixels z) output' ≡ new =
     ap (take (3 * pixels z)) e
-    ∙ take_at new (drop (length new) output) (3 * pixels z) (length-recolour frame plane ∙ size) in
+    ∙ take_at new (drop (length new) output) (3 * pixels z) (length_recolour frame plane ∙ size) in
     record {
       exact = exact;
-      byte = λ k h. subst (λ (x : ℕ). x ≤ 255) (recolour-at frame plane (k / 3) k refl h)
-          (recolour-bytes frame plane k);
-      channels = λ k l hk hl p h. channels-ordered frame plane k l hk hl p (le_of_lt h);
+      byte = λ k h. subst (λ (x : ℕ). x ≤ 255) (recolour_at frame plane (k / 3) k refl h)
+          (recolour_bytes frame plane k);
+      channels = λ k l hk hl p h. channels_ordered frame plane k l hk hl p (le_of_lt h);
       grey_file = λ grey.
           subst (λ (f : List ℕ). ShapePreserving (neighbours z) (intensity frame) (intensity f)) (sym exact)
           (grey_file (neighbours z) (neighbours_sym z) frame plane grey keeps);
@@ -219,20 +219,20 @@ enhanced_fine_eight : (z : Shape) (t : Settings) (frame : List ℕ) → t.neighb
     → Fine (adjacency z 8) (intensity frame) (chain_of z t frame).plane
 unfolding enhanced call_of
 enhanced_fine_eight z t frame e =
-    let all = all_map (λ s c. c ∙ e) (passes-carry t.area t.rule t.neighbours t.last) in
-    chain-keeps (adjacency z 8) z (start (intensity frame)) _
+    let all = all_map (λ s c. c ∙ e) (passes_carry t.area t.rule t.neighbours t.last) in
+    chain_keeps (adjacency z 8) z (start (intensity frame)) _
     (all_carry_within z (length (intensity frame)) 8 (call_of (pixels z)) (λ s. refl) all)
 
 module _ {z : Shape} {frame lent values first : List ℕ}
     (I : IntensityOutcome z.w z.h frame lent (gives values) first) where
   abbrev pub filled : first ≡ intensity frame
-  filled = (intensity-given z.w z.h frame lent I).1
+  filled = (intensity_given z.w z.h frame lent I).1
 
   abbrev accepts : intensity_refusal z.w z.h (length frame) (length lent) ≡ 0
-  accepts = (intensity-given z.w z.h frame lent I).0
+  accepts = (intensity_given z.w z.h frame lent I).0
 
   channels : length frame ≡ 3 * pixels z
-  channels = (intensity-accepted z.w z.h (length frame) (length lent) accepts).channels
+  channels = (intensity_accepted z.w z.h (length frame) (length lent) accepts).channels
 
   -- recolouring from a plane that keeps the order of the first
   pub recolours : {last output output' : List ℕ} {reply : Reply} → Fine (neighbours z) first last
@@ -240,11 +240,11 @@ module _ {z : Shape} {frame lent values first : List ℕ}
       → RecolourOutcome z.w z.h frame last output reply output'
       → (reply ≡ gives []) × Coloured z frame last output'
   recolours {last} {output} keeps room O =
-      let size = (intensity-accepted z.w z.h (length frame) (length lent) accepts).pixels in
-      let same : length last ≡ length lent = keeps.size ∙ filled-length z.w z.h frame lent I ∙ sym size in
+      let size = (intensity_accepted z.w z.h (length frame) (length lent) accepts).pixels in
+      let same : length last ≡ length lent = keeps.size ∙ filled_length z.w z.h frame lent I ∙ sym size in
       let fine = ap (intensity_refusal z.w z.h (length frame)) same ∙ accepts in
-      let taken = recolour-accepts z.w z.h (length frame) (length last) (length output) fine room in
-      let given = recolour-given z.w z.h frame last output taken O in
+      let taken = recolour_accepts z.w z.h (length frame) (length last) (length output) fine room in
+      let given = recolour_given z.w z.h frame last output taken O in
       (given.0, coloured output channels (subst (λ (p : List ℕ). Fine (neighbours z) p last) filled keeps) given.1)
 
   -- an accepted enhancement
@@ -257,7 +257,7 @@ module _ {z : Shape} {frame lent values first : List ℕ}
   enhances t {output = output} {plane' = plane'} O =
       let H = had (both_sums z t frame) O.retoned in
       let keeps = subst (Fine (neighbours z) (intensity frame)) (sym H.plane_is) (enhanced_fine z t frame) in
-      let written = output-given O ∙ ap (λ (p : List ℕ). overwritten output (recolour frame p)) (sym H.plane_is) in
+      let written = output_given O ∙ ap (λ (p : List ℕ). overwritten output (recolour frame p)) (sym H.plane_is) in
       let shapes = subst (λ (p : List ℕ). ShapePreserving (neighbours z) p plane') (sym filled)
       (fine_shapes (neighbours_sym z) keeps) in
       let eight : t.neighbours ≡ 8 → ShapePreserving (adjacency z 8) first plane' = λ e.
@@ -269,7 +269,7 @@ module _ {z : Shape} {frame lent values first : List ℕ}
           H.values_are,
           (
             (shapes, coloured output channels keeps written),
-            (passes-carry t.area t.rule t.neighbours t.last, eight),
+            (passes_carry t.area t.rule t.neighbours t.last, eight),
           ),
         ),
       )
@@ -284,11 +284,11 @@ demand_3 z frame lent values first last calls replies I S =
       replies_are = sym (ap (λ (s : State). s.answers) model);
       last_is = sym last_is;
       together = ap (λ (s : State). total retoned_in s.answers + total kept_in s.answers) (sym model)
-          ∙ chain-sufficient z (start first) calls
+          ∙ chain_sufficient_lem z (start first) calls
           ∙ zero-add (chain_sufficient z first calls);
       shapes = fine_shapes (neighbours_sym z) keeps;
       shapes_eight = λ carry. fine_shapes (adjacency_sym z 8) (subst (Fine (adjacency z 8) first) last_is
-          (chain-keeps (adjacency z 8) z (start first) calls (sequence_within 8 S carry)));
+          (chain_keeps (adjacency z 8) z (start first) calls (sequence_within 8 S carry)));
       recoloured = λ room O. recolours I keeps room O;
       enhanced = λ t O. enhances I t O;
     }
@@ -307,18 +307,18 @@ chained {z} {marks} {queue} {plane = plane} accepted e = record {
   shapes = subst (ShapePreserving (neighbours z) plane) (sym e.0)
       (fine_shapes (neighbours_sym z) (chain_fine z (start plane) _));
   shapes_eight = λ all. subst (ShapePreserving (adjacency z 8) plane) (sym e.0)
-      (fine_shapes (adjacency_sym z 8) (chain-keeps (adjacency z 8) z (start plane) _
+      (fine_shapes (adjacency_sym z 8) (chain_keeps (adjacency z 8) z (start plane) _
       (all_carry_within z (length plane) 8 (call_on marks queue) (λ s. refl) all)));
 }
 
 pub lists_are_chains : ListsAreChains
 lists_are_chains = record {
   of_list = λ z list {plane} {marks} {queue} O.
-      let taken = (outcome-given O).0 in
-      chained (list-taken z plane marks queue list taken) (list-chain z plane marks queue _ _ _ _ list taken O);
+      let taken = (outcome_given O).0 in
+      chained (list_taken z plane marks queue list taken) (list_chain z plane marks queue _ _ _ _ list taken O);
   of_passes = λ z ss {plane} {marks} {queue} O.
-      let taken = (outcome-given O).0 in
-      chained (passes-taken z plane marks queue ss taken) (passes-chain z plane marks queue _ _ _ _ ss taken O);
+      let taken = (outcome_given O).0 in
+      chained (passes_taken z plane marks queue ss taken) (passes_chain_lem z plane marks queue _ _ _ _ ss taken O);
 }
 
 -- ## Both editions of a list
@@ -326,7 +326,7 @@ lists_are_chains = record {
 pub editions : Editions
 editions = record {
   decodes = decodes;
-  accepted = λ list e. (accepted-list list e).0;
+  accepted = λ list e. (accepted_list list e).0;
   restored = restored;
   alike = converted_alike;
   both = editions_alike;
@@ -340,9 +340,9 @@ pub as_before : AsBefore
 as_before = record {
   of_read = reads_as_before;
   commented = λ bytes limit w h maxval raster p e. comments_got_10 limit p e;
-  of_form = form-before;
-  of_rule = rule-before;
-  affine = two-refused;
+  of_form = form_before;
+  of_rule = rule_before_lem;
+  affine = two_refused;
   of_pass = λ z s plane e. (pass_before_lem z s plane e, numbers_before_lem s e);
   of_few = λ list h. (few_listed list h, convert_by list (few_listed list h));
   of_few_passes = few_passes;

@@ -26,8 +26,8 @@ use Rattle.enhance.specs.Calls.{settings_refusal, chain_of, EnhanceOutcome}
 use Rattle.listformat.specs.declared.Edition.{Edition}
 use Rattle.listformat.specs.declared.Edition.TheVariants.{First, Second}
 use Rattle.listformat.specs.Format.{NeighboursFit}
-use Rattle.passlists.proofs.Recursion.{Sections, by_levels, by_recursion, Accepted, sections-few, sections-accepted}
-use Rattle.passlists.proofs.Recursion.{sections-stored, memory-enhances, file-enhances}
+use Rattle.passlists.proofs.Recursion.{Sections, by_levels, by_recursion, Accepted, sections_few, sections_accepted}
+use Rattle.passlists.proofs.Recursion.{sections_stored, memory_enhances, file_enhances}
 use Rattle.claims.specs.Claims.{AsEnhanced, StoredIn, StandsFor, EnhancementsAreLists}
 use Rattle.claims.proofs.Claims.{filled, recolours, enhances, enhanced_fine}
 
@@ -40,11 +40,11 @@ module _ (t : Settings) (z : Shape) {frame lent told first : List ℕ}
   same-chain : enhanced z first t.last t.area t.rule t.neighbours ≡ chain_of z t frame
   same-chain = ap (λ (p : List ℕ). enhanced z p t.last t.area t.rule t.neighbours) (filled I)
 
-  pub as-enhanced : {reply : Reply} {last : List ℕ}
+  pub as_enhanced : {reply : Reply} {last : List ℕ}
       → (last ≡ (enhanced z first t.last t.area t.rule t.neighbours).plane)
       × (reply ≡ gives (counts (chain_effect (enhanced z first t.last t.area t.rule t.neighbours))))
       → AsEnhanced z frame values plane' output' reply last
-  as-enhanced {last = last} came =
+  as_enhanced {last = last} came =
       let done = enhances I t O in
       let chain-plane = came.0 ∙ ap (λ s. s.plane) same-chain in
       let same = chain-plane ∙ sym done.0 in
@@ -80,26 +80,26 @@ module _ (t : Settings) (fine : settings_refusal t ≡ 0) where
   module _ {ss : List Pass} (S : Sections t.last t.area t.rule t.neighbours ss) where
     stored-in : (e : Edition) → NeighboursFit e t.neighbours → StoredIn e t ss
     stored-in e fits =
-        let file = sections-stored accepted S e fits in
+        let file = sections_stored accepted S e fits in
         record {
           accepted = file.0;
           read = file.1;
           runs = record {
             does = λ z {first = first} I O {marks₁} {queue₁} {last} {marks₂} {queue₂} {reply} sound R.
-                as-enhanced t z I O
-                (file-enhances accepted S z first marks₁ queue₁ sound e fits reply last marks₂ queue₂ R);
+                as_enhanced t z I O
+                (file_enhances accepted S z first marks₁ queue₁ sound e fits reply last marks₂ queue₂ R);
           };
         }
 
     stands : StandsFor t ss
     stands = record {
       size = S.size;
-      few = sections-few accepted S;
-      within = omega (arith, sections-few accepted S);
-      accepted = sections-accepted accepted S;
+      few = sections_few accepted S;
+      within = omega (arith, sections_few accepted S);
+      accepted = sections_accepted accepted S;
       runs = record {
         does = λ z {first = first} I O {marks₁} {queue₁} {last} {marks₂} {queue₂} {reply} sound R.
-            as-enhanced t z I O (memory-enhances accepted S z first marks₁ queue₁ sound reply last marks₂ queue₂ R);
+            as_enhanced t z I O (memory_enhances accepted S z first marks₁ queue₁ sound reply last marks₂ queue₂ R);
       };
       version_2 = stored-in Second (byte t.neighbours accepted.number_fine);
       version_1 = λ four. stored-in First four;

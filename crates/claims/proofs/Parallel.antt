@@ -21,16 +21,16 @@ use Rattle.model.specs.Outcomes.{Outcome}
 use Rattle.model.specs.Runs.{All}
 use Rattle.model.specs.Calls.{retoned_in, kept_in}
 use Rattle.model.proofs.Chains.{ordered, carries_within}
-use Rattle.model.proofs.Enhancement.{start-runs}
+use Rattle.model.proofs.Enhancement.{start_runs}
 use Rattle.model.proofs.Neighbourhoods.{pass_wider}
-use Rattle.model.proofs.Outcomes.{outcome-given}
+use Rattle.model.proofs.Outcomes.{outcome_given}
 use Rattle.model.proofs.Recursion.{all_map}
 use Rattle.levels.specs.declared.Settings.{Settings}
 use Rattle.enhance.specs.Calls.{EnhanceOutcome}
 use Rattle.enhance.proofs.Calls.{fine, fine_passes, fine_length}
 use Rattle.listformat.specs.Format.{passes_of}
 use Rattle.listchecks.specs.Refusals.{list_refusal, passes_refusal}
-use Rattle.listchecks.proofs.Refusals.{accepted-list}
+use Rattle.listchecks.proofs.Refusals.{accepted_list}
 use Rattle.passlists.specs.Outcomes.{slices_refusal}
 use Rattle.passlists.proofs.Chains.{all_fine}
 use Rattle.passlists.proofs.Refusals.{fine_passes as passes-fine}
@@ -38,14 +38,14 @@ use Rattle.schedules.specs.Orders.{PairwiseDisjoint}
 use Rattle.schedules.specs.Copies.{Work, Worked, work_passes, together, Rounds, rounds_total, level_rounds}
 use Rattle.schedules.proofs.Orders.{all_both, Ordered, permuted_same}
 use Rattle.schedules.proofs.Runs.{run_fine}
-use Rattle.schedules.proofs.Calls.{orders-plane, orders-answers, answered-is}
-use Rattle.schedules.proofs.Copies.{works-ordered, together-run, copies-plane, copies-answers}
-use Rattle.schedules.proofs.Levels.{level-disjoint, levels_effect}
-use Rattle.schedules.proofs.Components.{locally-alike, calls_alike}
+use Rattle.schedules.proofs.Calls.{orders_plane, orders_answers, answered_is}
+use Rattle.schedules.proofs.Copies.{works_ordered, together_run, copies_plane, copies_answers}
+use Rattle.schedules.proofs.Levels.{level_disjoint, levels_effect}
+use Rattle.schedules.proofs.Components.{locally_alike, calls_alike}
 use Rattle.claims.specs.Claims.{ShapePreserving, AsEnhanced, AnyOrder, HandedOut, Locality}
 use Rattle.claims.specs.Claims.{SectionsInParallel}
 use Rattle.claims.proofs.Claims.{filled}
-use Rattle.claims.proofs.Enhancements.{as-enhanced}
+use Rattle.claims.proofs.Enhancements.{as_enhanced}
 use Rattle.claims.proofs.ShapePreserving.{fine_shapes}
 
 -- ## Lists
@@ -64,8 +64,8 @@ module _ (z : Shape) {ss ts : List Pass} (d : PairwiseDisjoint ss) (r : Permutat
       plane₂ marks₂' queue₂'
       → (values₁ ≡ values₂) × (plane₁ ≡ plane₂)
   runs-alike {plane = plane} O₁ O₂ =
-      let done₁ = (outcome-given O₁).1 in
-      let done₂ = (outcome-given O₂).1 in
+      let done₁ = (outcome_given O₁).1 in
+      let done₂ = (outcome_given O₂).1 in
       let same = (permuted_same (pass_neighbours z) r o d).effects plane in (
         done₁.0 ∙ ap counts same ∙ sym done₂.0,
         done₁.1 ∙ ap (λ (e : Effect). e.plane) same ∙ sym done₂.1,
@@ -73,14 +73,14 @@ module _ (z : Shape) {ss ts : List Pass} (d : PairwiseDisjoint ss) (r : Permutat
 
 any_order : AnyOrder
 any_order = record {
-  of_calls = λ z S₁ S₂ a₁ a₂ d r. (orders-plane z S₁ S₂ a₁ a₂ d r, orders-answers z S₁ S₂ a₁ a₂ d r);
-  on_first = λ z S a d s reply y. answered-is z S a d y;
+  of_calls = λ z S₁ S₂ a₁ a₂ d r. (orders_plane z S₁ S₂ a₁ a₂ d r, orders_answers z S₁ S₂ a₁ a₂ d r);
+  on_first = λ z S a d s reply y. answered_is z S a d y;
   of_passes = λ z ss ts d r {plane} {marks₁} {queue₁} O₁ O₂.
-      let fine = (▷_none (slices_refusal z plane marks₁ queue₁) (passes_refusal ss) (outcome-given O₁).0).1 in
+      let fine = (▷_none (slices_refusal z plane marks₁ queue₁) (passes_refusal ss) (outcome_given O₁).0).1 in
       runs-alike z d r (passes_ordered ss fine) O₁ O₂;
   of_lists = λ z list₁ list₂ d r {plane} {marks₁} {queue₁} O₁ O₂.
-      let fine = (▷_none (slices_refusal z plane marks₁ queue₁) (list_refusal list₁) (outcome-given O₁).0).1 in
-      runs-alike z d r (passes_ordered (passes_of list₁) (accepted-list list₁ fine).1) O₁ O₂;
+      let fine = (▷_none (slices_refusal z plane marks₁ queue₁) (list_refusal list₁) (outcome_given O₁).0).1 in
+      runs-alike z d r (passes_ordered (passes_of list₁) (accepted_list list₁ fine).1) O₁ O₂;
 }
 
 -- ## Copies
@@ -91,8 +91,8 @@ together_shapes : (near : Near) → Symmetric near → (z : Shape) {first : List
     → ShapePreserving near first (together works first)
 together_shapes near symm z {first} {works} W d inside =
     let within : All (λ s. Ordered s × Narrower near (pass_neighbours z s)) (work_passes works) =
-    all_both (λ s o w. (o, w)) (works-ordered z first W) inside in
-    subst (ShapePreserving near first) (sym (together-run z first W d))
+    all_both (λ s o w. (o, w)) (works_ordered z first W) inside in
+    subst (ShapePreserving near first) (sym (together_run z first W d))
     (fine_shapes symm (run_fine near z (work_passes works) within first))
 
 -- what an accepted enhancement comes to from the plane that intensity filled is the run of its passes, and so what its
@@ -108,20 +108,20 @@ by_levels : (z : Shape) (t : Settings) {frame lent told first : List ℕ}
 unfolding enhanced
 by_levels z t {frame} {first = first} I {plane} {marks} {queue} {output} O R =
     let F = fine z (length frame) (length plane) (length marks) (length queue) (length output) t
-    (outcome-given O.retoned).0 in
+    (outcome_given O.retoned).0 in
     let whole = ap length (filled I) ∙ fine_length frame F in
-    let same = start-runs z (passes t.last t.area t.rule t.neighbours) (fine_passes F) first whole
+    let same = start_runs z (passes t.last t.area t.rule t.neighbours) (fine_passes F) first whole
     ∙ levels_effect t.last t.area t.rule t.neighbours R in
-    as-enhanced t z I O (sym (ap (λ (e : Effect). e.plane) same), ap (λ (e : Effect). gives (counts e)) (sym same))
+    as_enhanced t z I O (sym (ap (λ (e : Effect). e.plane) same), ap (λ (e : Effect). gives (counts e)) (sym same))
 
 handed_out : HandedOut
 handed_out = record {
-  copies = λ z {first} W d S a r. (copies-plane z first W S a d r, copies-answers z first W S a d r);
+  copies = λ z {first} W d S a r. (copies_plane z first W S a d r, copies_answers z first W S a d r);
   shapes = λ z {first} W d. together_shapes (neighbours z) (neighbours_sym z) z W d
-      (all_map (λ s o. pass_wider z s) (works-ordered z first W));
+      (all_map (λ s o. pass_wider z s) (works_ordered z first W));
   shapes_eight = λ z W d carry. together_shapes (adjacency z 8) (adjacency_sym z 8) z W d
       (all_map (λ s e. carries_within z s e) carry);
-  of_level = λ l area rule number. level-disjoint area rule number l;
+  of_level = λ l area rule number. level_disjoint area rule number l;
   by_levels = λ z t I O R. by_levels z t I O R;
 }
 
@@ -129,7 +129,7 @@ handed_out = record {
 
 locality : Locality
 locality = record {
-  of_model = λ near s p q C size K agree ring. locally-alike near s p q size K agree ring;
+  of_model = λ near s p q C size K agree ring. locally_alike near s p q size K agree ring;
   of_calls = λ z s O₁ O₂ K agree ring. calls_alike z s O₁ O₂ K agree ring;
 }
 

@@ -18,12 +18,12 @@ use Rattle.planes.specs.Lists.{at}
 use Rattle.planes.specs.Neighbours.{Near}
 use Rattle.planes.specs.Shapes.{Symmetric}
 use Rattle.planes.specs.Extrema.{gtb}
-use Rattle.planes.proofs.Order.{equal-stay, never-reversed}
+use Rattle.planes.proofs.Order.{equal_stay, never_reversed}
 use Rattle.planes.proofs.Extrema.{geb, leb_order, geb_order, contained}
-use Rattle.planes.proofs.Fewer.{no-more-maxima, no-more-minima}
+use Rattle.planes.proofs.Fewer.{no_more_maxima, no_more_minima}
 use Rattle.colours.specs.Frames.{red, intensity, recolour, Grey}
-use Rattle.colours.proofs.Frames.{length_intensity, length-recolour}
-use Rattle.colours.proofs.Grey.{grey-intensity, grey-recoloured, grey_mono}
+use Rattle.colours.proofs.Frames.{length_intensity, length_recolour}
+use Rattle.colours.proofs.Grey.{grey_intensity, grey_recoloured, grey_mono}
 use Rattle.model.proofs.Chains.{Fine}
 use Rattle.claims.specs.Claims.{ShapePreserving}
 
@@ -33,14 +33,14 @@ fine_shapes {near} {p} {q} symm F =
     let keeps = F.keeps in
     record {
       size = F.size;
-      equal = equal-stay near symm (length p) p q keeps;
-      ordered = never-reversed near symm (length p) p q keeps;
+      equal = equal_stay near symm (length p) p q keeps;
+      ordered = never_reversed near symm (length p) p q keeps;
       tops = contained leb ltb leb_order near symm p q F.size (λ i j hi hj d l.
           le-leb _ _ (keeps.ordered i j hi hj d (leb-true (at p i) (at p j) l)));
       pits = contained geb gtb geb_order near symm p q F.size (λ i j hi hj d l.
           le-leb _ _ (keeps.ordered j i hj hi (symm j i ∙ d) (leb-true (at p j) (at p i) l)));
-      fewer_tops = no-more-maxima near symm p q F.size keeps;
-      fewer_pits = no-more-minima near symm p q F.size keeps;
+      fewer_tops = no_more_maxima near symm p q F.size keeps;
+      fewer_pits = no_more_minima near symm p q F.size keeps;
     }
 
 -- and back
@@ -58,7 +58,7 @@ shapes_fine {near} {p} {q} S = record {
 grey_fine : (near : Near) (frame last : List ℕ) → Grey frame → Fine near (intensity frame) last
     → Fine near (intensity frame) (intensity (recolour frame last))
 grey_fine near frame last grey F = record {
-  size = length_intensity (recolour frame last) ∙ ap (λ (n : ℕ). n / 3) (length-recolour frame last)
+  size = length_intensity (recolour frame last) ∙ ap (λ (n : ℕ). n / 3) (length_recolour frame last)
       ∙ sym (length_intensity frame);
   keeps = record { ordered = ordered };
 }
@@ -71,8 +71,8 @@ grey_fine near frame last grey F = record {
         → at (intensity (recolour frame last)) i ≤ at (intensity (recolour frame last)) j
     ordered i j hi hj e h =
         let old : red frame i ≤ red frame j =
-        rw (← grey-intensity frame grey i (pixel i hi), ← grey-intensity frame grey j (pixel j hj)) h in
-        rw (grey-recoloured frame grey i (pixel i hi) last, grey-recoloured frame grey j (pixel j hj) last)
+        rw (← grey_intensity frame grey i (pixel i hi), ← grey_intensity frame grey j (pixel j hj)) h in
+        rw (grey_recoloured frame grey i (pixel i hi) last, grey_recoloured frame grey j (pixel j hj) last)
         (grey_mono (red frame i) (red frame j) (at last i) (at last j) old (F.keeps.ordered i j hi hj e h))
 
 pub grey_file : (near : Near) → Symmetric near → (frame last : List ℕ) → Grey frame → Fine near (intensity frame) last

@@ -15,7 +15,7 @@ use Rattle.colours.specs.Frames.{intensity, recolour}
 use Rattle.colours.specs.Calls.{intensity_refusal, recolour_refusal, Accepted, status_reply}
 use Rattle.colours.specs.Calls.{IntensityOutcome, RecolourOutcome}
 use Rattle.colours.specs.Steps.{with_frame}
-use Rattle.colours.proofs.Frames.{length_intensity, length-recolour}
+use Rattle.colours.proofs.Frames.{length_intensity, length_recolour}
 
 -- ## Refusals
 
@@ -24,9 +24,9 @@ module _ (w h frame plane : ℕ) where
   abbrev lengths : ℕ
   lengths = length_refusal plane (w * h) ▷ length_refusal frame (3 * (w * h))
 
-  pub intensity-accepted : intensity_refusal w h frame plane ≡ 0 → Accepted w h frame plane
+  pub intensity_accepted : intensity_refusal w h frame plane ≡ 0 → Accepted w h frame plane
   unfolding intensity_refusal
-  intensity-accepted e =
+  intensity_accepted e =
       let tests = ▷_none (size_refusal w h greatest_pixels) lengths e in
       let fit = ▷_none (length_refusal plane (w * h)) (length_refusal frame (3 * (w * h))) tests.1 in
       record {
@@ -36,34 +36,34 @@ module _ (w h frame plane : ℕ) where
       }
 
   -- and back
-  pub intensity-accepts : Accepted w h frame plane → intensity_refusal w h frame plane ≡ 0
+  pub intensity_accepts : Accepted w h frame plane → intensity_refusal w h frame plane ≡ 0
   unfolding intensity_refusal
-  intensity-accepts a =
+  intensity_accepts a =
       ▷_both (size_refusal w h greatest_pixels) lengths (sized_none w h greatest_pixels a.size)
       (▷_both (length_refusal plane (w * h)) _ (length_none plane (w * h) a.pixels)
       (length_none frame (3 * (w * h)) a.channels))
 
   module _ (output : ℕ) where
     -- the refusals of `recolour` are those of `intensity`, then 14
-    pub recolour-order : recolour_refusal w h frame plane output
+    pub recolour_order : recolour_refusal w h frame plane output
         ≡ intensity_refusal w h frame plane ▷ output_refusal output (3 * (w * h))
     unfolding intensity_refusal recolour_refusal
-    recolour-order =
+    recolour_order =
         let last = output_refusal output (3 * (w * h)) in
         ap (◌▷◌ (size_refusal w h greatest_pixels)) (sym (▷_assoc (length_refusal plane (w * h)) _ last))
         ∙ sym (▷_assoc (size_refusal w h greatest_pixels) lengths last)
 
-    pub recolour-accepted : recolour_refusal w h frame plane output ≡ 0
+    pub recolour_accepted : recolour_refusal w h frame plane output ≡ 0
         → Accepted w h frame plane × (3 * (w * h) ≤ output)
-    recolour-accepted e =
-        let tests = ▷_none (intensity_refusal w h frame plane) _ (sym recolour-order ∙ e) in
-        (intensity-accepted tests.0, output_fits output (3 * (w * h)) tests.1)
+    recolour_accepted e =
+        let tests = ▷_none (intensity_refusal w h frame plane) _ (sym recolour_order ∙ e) in
+        (intensity_accepted tests.0, output_fits output (3 * (w * h)) tests.1)
 
     -- a frame and a plane that `intensity` accepts are accepted by `recolour`, with an output that is long enough
-    pub recolour-accepts : intensity_refusal w h frame plane ≡ 0 → 3 * (w * h) ≤ output
+    pub recolour_accepts : intensity_refusal w h frame plane ≡ 0 → 3 * (w * h) ≤ output
         → recolour_refusal w h frame plane output ≡ 0
-    recolour-accepts e room =
-        recolour-order ∙ ▷_both (intensity_refusal w h frame plane) _ e (output_none output (3 * (w * h)) room)
+    recolour_accepts e room =
+        recolour_order ∙ ▷_both (intensity_refusal w h frame plane) _ e (output_none output (3 * (w * h)) room)
 
 -- ## Outcomes
 
@@ -75,32 +75,32 @@ module _ (w h : ℕ) (frame plane : List ℕ) where
   abbrev filling : ℕ
   filling = intensity_refusal w h (length frame) (length plane)
 
-  pub intensity-refused : (k : ℕ) → (k ≡ 0 → ⊥) → k ≡ filling
+  pub intensity_refused : (k : ℕ) → (k ≡ 0 → ⊥) → k ≡ filling
       → IntensityOutcome w h frame plane (status_reply (Refused k)) plane
-  intensity-refused k some e = record {
+  intensity_refused k some e = record {
     answer = sym (replied_refused k [] some) ∙ ap (λ (j : ℕ). replied j []) e;
     plane_is = sym (after_refused k plane (intensity frame) some) ∙ ap (λ (j : ℕ). after j plane (intensity frame)) e;
   }
 
-  pub intensity-done : {plane' : List ℕ} → filling ≡ 0 → plane' ≡ intensity frame
+  pub intensity_done : {plane' : List ℕ} → filling ≡ 0 → plane' ≡ intensity frame
       → IntensityOutcome w h frame plane (status_reply Done) plane'
-  intensity-done e filled = record {
+  intensity_done e filled = record {
     answer = done_reply_lem filling e;
     plane_is = filled ∙ ap (λ (j : ℕ). after j plane (intensity frame)) (sym e);
   }
 
   -- a call that gives its values was not refused, and filled the plane
-  pub intensity-given : {vs plane' : List ℕ} → IntensityOutcome w h frame plane (gives vs) plane'
+  pub intensity_given : {vs plane' : List ℕ} → IntensityOutcome w h frame plane (gives vs) plane'
       → (filling ≡ 0) × (plane' ≡ intensity frame)
-  intensity-given o =
+  intensity_given o =
       let none = (replied_gives filling [] (sym o.answer)).0 in
       (none, o.plane_is ∙ ap (λ (j : ℕ). after j plane (intensity frame)) none)
 
   -- a plane that was filled has one byte for each pixel
-  pub filled-length : {vs plane' : List ℕ} → IntensityOutcome w h frame plane (gives vs) plane' → length plane' ≡ w * h
-  filled-length o =
-      let filled = intensity-given o in
-      let accepted = intensity-accepted w h (length frame) (length plane) filled.0 in
+  pub filled_length : {vs plane' : List ℕ} → IntensityOutcome w h frame plane (gives vs) plane' → length plane' ≡ w * h
+  filled_length o =
+      let filled = intensity_given o in
+      let accepted = intensity_accepted w h (length frame) (length plane) filled.0 in
       rw filled.1 (omega (arith, length_intensity frame, accepted.channels))
 
 module _ (w h : ℕ) (frame plane output : List ℕ) where
@@ -110,26 +110,26 @@ module _ (w h : ℕ) (frame plane output : List ℕ) where
   abbrev coloured : List ℕ
   coloured = overwritten output (recolour frame plane)
 
-  pub recolour-refused : (k : ℕ) → (k ≡ 0 → ⊥) → k ≡ colouring
+  pub recolour_refused : (k : ℕ) → (k ≡ 0 → ⊥) → k ≡ colouring
       → RecolourOutcome w h frame plane output (status_reply (Refused k)) output
-  recolour-refused k some e = record {
+  recolour_refused k some e = record {
     answer = sym (replied_refused k [] some) ∙ ap (λ (j : ℕ). replied j []) e;
     output_is = sym (after_refused k output coloured some) ∙ ap (λ (j : ℕ). after j output coloured) e;
   }
 
-  pub recolour-done : {output' : List ℕ} → colouring ≡ 0 → output' ≡ with_frame frame plane output
+  pub recolour_done : {output' : List ℕ} → colouring ≡ 0 → output' ≡ with_frame frame plane output
       → RecolourOutcome w h frame plane output (status_reply Done) output'
-  recolour-done e stored = record {
+  recolour_done e stored = record {
     answer = done_reply_lem colouring e;
     output_is = stored
-        ∙ ap (λ (k : ℕ). recolour frame plane ++ drop k output) (sym (length-recolour frame plane))
+        ∙ ap (λ (k : ℕ). recolour frame plane ++ drop k output) (sym (length_recolour frame plane))
         ∙ ap (λ (j : ℕ). after j output coloured) (sym e);
   }
 
   -- what a call that was not refused leaves: the recoloured frame, and beyond it what was there
-  pub recolour-given : {reply : Reply} {output' : List ℕ} → colouring ≡ 0
+  pub recolour_given : {reply : Reply} {output' : List ℕ} → colouring ≡ 0
       → RecolourOutcome w h frame plane output reply output' → (reply ≡ gives []) × (output' ≡ coloured)
-  recolour-given none o = (
+  recolour_given none o = (
     o.answer ∙ ap (λ (j : ℕ). replied j []) none,
     o.output_is ∙ ap (λ (j : ℕ). after j output coloured) none,
   )

@@ -53,28 +53,28 @@ channel_below frame i k e = go (k % 3) (omega arith) (omega arith)
 -- ## Recolouring
 
 module _ (frame plane : List ℕ) where
-  pub length-recolour : length (recolour frame plane) ≡ length frame
+  pub length_recolour : length (recolour frame plane) ≡ length frame
   unfolding recolour
-  length-recolour = length_all (new_channel_at frame plane) (length frame)
+  length_recolour = length_all (new_channel_at frame plane) (length frame)
 
   -- what the channel at index k of pixel i becomes
-  pub recolour-at : (i k : ℕ) → k / 3 ≡ i → k < length frame
+  pub recolour_at : (i k : ℕ) → k / 3 ≡ i → k < length frame
       → at (recolour frame plane) k
       ≡ new_channel (pixel_intensity frame i) (greatest_channel frame i) (at plane i) (at frame k)
   unfolding recolour
-  recolour-at i k e h = rw e at (all_at (new_channel_at frame plane) (length frame) k h)
+  recolour_at i k e h = rw e at (all_at (new_channel_at frame plane) (length frame) k h)
 
   -- every number of the recoloured frame is in 0 to 255
-  pub recolour-bytes : (k : ℕ) → at (recolour frame plane) k ≤ 255
-  recolour-bytes k = elim (less_or_not k (length frame)) [
-    | inl h ↦ rw (recolour-at (k / 3) k refl h) (channel_byte _ _ _ _ (channel_below frame (k / 3) k refl))
+  pub recolour_bytes : (k : ℕ) → at (recolour frame plane) k ≤ 255
+  recolour_bytes k = elim (less_or_not k (length frame)) [
+    | inl h ↦ rw (recolour_at (k / 3) k refl h) (channel_byte _ _ _ _ (channel_below frame (k / 3) k refl))
     | inr h ↦
-        let past : length (recolour frame plane) ≤ k = omega (arith, length-recolour) in
+        let past : length (recolour frame plane) ≤ k = omega (arith, length_recolour) in
         rw (get_or-eq_default (recolour frame plane) 0 past) zero-le
   ]
 
   -- of the channels at k and l of one pixel, if the first is no higher in the frame, it is no higher afterwards
-  pub channels-ordered : (k l : ℕ) → k < length frame → l < length frame → k / 3 ≡ l / 3
+  pub channels_ordered : (k l : ℕ) → k < length frame → l < length frame → k / 3 ≡ l / 3
       → at frame k ≤ at frame l → at (recolour frame plane) k ≤ at (recolour frame plane) l
-  channels-ordered k l hk hl e h =
-      rw (recolour-at (l / 3) k e hk, recolour-at (l / 3) l refl hl) (channel_mono _ _ _ h)
+  channels_ordered k l hk hl e h =
+      rw (recolour_at (l / 3) k e hk, recolour_at (l / 3) l refl hl) (channel_mono _ _ _ h)

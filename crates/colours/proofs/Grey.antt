@@ -2,8 +2,8 @@
 -- 255, and black where it was black. So recolouring from a plane that is no higher at one pixel than at another, where
 -- the frame is not either, leaves the one no higher. Assumes nothing.
 --
---   grey-intensity   the intensity of a grey frame
---   grey-recoloured  the intensity of a recoloured grey frame
+--   grey_intensity   the intensity of a grey frame
+--   grey_recoloured  the intensity of a recoloured grey frame
 --   grey_mono        which never falls in the old and the new intensity
 use Prim.Native.Nat.{ℕ, zero, suc, ◌+◌, ◌*◌, ◌/◌, ◌≤◌, ◌<◌, zero-le}
 use mathlib.Core.Path.{◌≡◌, refl, ap, ◌∙◌}
@@ -19,7 +19,7 @@ use Rattle.planes.specs.Rounding.{rounded}
 use Rattle.planes.proofs.Rounding.{rounded_exact}
 use Rattle.channels.specs.Channels.{third, new_channel}
 use Rattle.colours.specs.Frames.{red, pixel_intensity, intensity, greatest_channel, recolour, Grey}
-use Rattle.colours.proofs.Frames.{intensity_at, length-recolour, recolour-at}
+use Rattle.colours.proofs.Frames.{intensity_at, length_recolour, recolour_at}
 
 third_of : (g : ℕ) → third (g + g + g) ≡ g
 unfolding third
@@ -76,18 +76,18 @@ module _ (frame : List ℕ) (grey : Grey frame) (i : ℕ) (inside : i < length f
   unfolding greatest_channel
   greatest = rw ((grey i inside).0, (grey i inside).1) (omega arith)
 
-  pub grey-intensity : at (intensity frame) i ≡ red frame i
-  grey-intensity = intensity_at frame i inside ∙ grey-pixel
+  pub grey_intensity : at (intensity frame) i ≡ red frame i
+  grey_intensity = intensity_at frame i inside ∙ grey-pixel
 
   module _ (plane : List ℕ) where
     becomes : (k : ℕ) → k / 3 ≡ i → k < length frame → at frame k ≡ red frame i
         → at (recolour frame plane) k ≡ greyed (red frame i) (at plane i)
-    becomes k e h same = rw (recolour-at frame plane i k e h, grey-pixel, greatest, same)
+    becomes k e h same = rw (recolour_at frame plane i k e h, grey-pixel, greatest, same)
 
-    pub grey-recoloured : at (intensity (recolour frame plane)) i ≡ greyed (red frame i) (at plane i)
+    pub grey_recoloured : at (intensity (recolour frame plane)) i ≡ greyed (red frame i) (at plane i)
     unfolding pixel_intensity
-    grey-recoloured =
-        let within : i < length (recolour frame plane) / 3 = omega (arith, length-recolour frame plane) in
+    grey_recoloured =
+        let within : i < length (recolour frame plane) / 3 = omega (arith, length_recolour frame plane) in
         intensity_at (recolour frame plane) i within
         ∙ rw (
           becomes (3 * i) (omega arith) (omega arith) refl,

@@ -24,17 +24,17 @@ use Rattle.planes.proofs.Tests.{same_test, less_or_not}
 use Rattle.planes.proofs.Counts.{count_all, count_le, length_from}
 use Rattle.planes.proofs.Stores.{at_set}
 use Rattle.planes.proofs.Neighbours.{filled}
-use Rattle.planes.proofs.Enumerations.{among-at, among-place, count-among, entries-size}
+use Rattle.planes.proofs.Enumerations.{among_at, among_place, count_among, entries_size}
 use Rattle.rows.specs.Rows.{in_row, row_end, Width}
 use Rattle.rows.specs.Codes.{alike, Joined, Shut}
 use Rattle.rows.specs.Runs.{Room, Taken, none, one, Reached}
-use Rattle.rows.proofs.Rows.{row-end-le, width_of}
-use Rattle.rows.proofs.Codes.{alike_of, alike-to, alike-near, alike_on}
-use Rattle.rows.proofs.Taken.{room_for, room-less, room_whole, taken-kept, taken-room, taken-was, taken-map}
+use Rattle.rows.proofs.Rows.{row_end_le, width_of}
+use Rattle.rows.proofs.Codes.{alike_of, alike_to, alike_near, alike_on}
+use Rattle.rows.proofs.Taken.{room_for, room_less, room_whole, taken_kept, taken_room, taken_was, taken_map}
 use Rattle.components.specs.Regions.{region}
 use Rattle.spreading.specs.Spreads.{JoinedBeyond, Spread}
 use Rattle.components.specs.Floods.{Floodable, Flooded}
-use Rattle.components.proofs.Regions.{region-below, region-linked}
+use Rattle.components.proofs.Regions.{region_below, region_linked}
 
 -- the first `tail` entries are pixels of the component of `start`, each once; they lost their marks, and nothing else
 -- has changed since marks₀ and queue₀
@@ -136,7 +136,7 @@ take_all : {near : Near} {n code start tail tail' : ℕ} {marks₀ queue₀ mark
     → Taken (Chain (alike near marks₀ code) n start) n code marks queue tail marks' queue' tail'
     → Searched near n code start marks₀ queue₀ marks' queue' tail'
 take_all I R none = I
-take_all I R (one {q} t c h e) = push (take_all I R t) (taken-room R t) q h e c
+take_all I R (one {q} t c h e) = push (take_all I R t) (taken_room R t) q h e c
 
 -- ## The first run
 
@@ -160,14 +160,14 @@ module _ {marks queue : List ℕ} {z : Shape} {inverse code start : ℕ}
   n = pixels z
 
   ends : row_end z.w start ≤ n
-  ends = row-end-le z.w n start F.size.wide (mul-mod_right z.w z.h) F.inside
+  ends = row_end_le z.w n start F.size.wide (mul-mod_right z.w z.h) F.inside
 
   whole : Room marks queue n code 0
   whole = room_whole marks queue n code F.size.few F.real F.covered F.spare
 
   -- what `reach` requires of the first pixel
-  pub may-begin : Width z.w inverse × Room marks queue (row_end z.w start) code 0
-  may-begin = (width_of F.size F.inverse_is, room-less whole (row_end z.w start) ends)
+  pub may_begin : Width z.w inverse × Room marks queue (row_end z.w start) code 0
+  may_begin = (width_of F.size F.inverse_is, room_less whole (row_end z.w start) ends)
 
   module _ {near : Near} (rows-near : Narrower (in_row z.w) near) where
     -- a chain leads to what is joined to `start` in its row
@@ -176,14 +176,14 @@ module _ {marks queue : List ℕ} {z : Shape} {inverse code start : ℕ}
     first-chain x j =
         alike_on (in_row z.w) near (row_end z.w start) n code marks marks ends rows-near (λ u e. e) here j.chain
 
-    pub flood-begin : {tail' : ℕ} {marks' queue' : List ℕ}
+    pub flood_begin : {tail' : ℕ} {marks' queue' : List ℕ}
         → Reached z.w code start marks queue 0 marks' queue' tail'
         → Flooding near z.w n code start marks queue marks' queue' 0 tail'
-    flood-begin T =
-        let taken = taken-map ends first-chain T.taken in
+    flood_begin T =
+        let taken = taken_map ends first-chain T.taken in
         record {
           searched = take_all (nothing_yet near n code start marks queue) whole taken;
-          room = taken-room whole taken;
+          room = taken_room whole taken;
           begun = T.off;
           order = omega arith;
           rows = λ k l. T.rows k (omega arith) l;
@@ -201,7 +201,7 @@ few_entries {n = n} {tail = tail} {queue = queue} F =
       arith,
       length-take-le tail queue fits,
       count_all (take tail queue),
-      count-among queue n tail F.searched.below F.searched.fresh fits (λ x. true),
+      count_among queue n tail F.searched.below F.searched.fresh fits (λ x. true),
       count_le (λ z. among queue tail z && true) (from 0 n),
       length_from 0 n,
     )
@@ -212,11 +212,11 @@ module _ {near : Near} {w n code start head tail : ℕ} {marks₀ queue₀ marks
   entry-off : (k : ℕ) → k < tail → at marks (at queue k) ≡ 0
   entry-off k h =
       F.searched.marks_are (at queue k)
-      ∙ ap (λ (t : Bool). cond t 0 (at marks₀ (at queue k))) (among-at queue tail k h)
+      ∙ ap (λ (t : Bool). cond t 0 (at marks₀ (at queue k))) (among_at queue tail k h)
 
   -- the one at the head has not the code
-  pub head-off : at marks (at queue head) ≡ code → ⊥
-  head-off e = absurd (omega (arith, F.room.real, sym (entry-off head l) ∙ e))
+  pub head_off : at marks (at queue head) ≡ code → ⊥
+  head_off e = absurd (omega (arith, F.room.real, sym (entry-off head l) ∙ e))
 
   -- a pixel that has the code had it at the beginning
   first-had : (x : ℕ) → at marks x ≡ code → at marks₀ x ≡ code
@@ -244,11 +244,11 @@ module _ {near : Near} {w n code start head tail : ℕ} {marks₀ queue₀ marks
       → Spread near near w n code (at queue head) marks queue tail marks' queue' tail'
       → Flooding near w n code start marks₀ queue₀ marks' queue' (head + 1) tail'
   turn S =
-      let kept = taken-kept S.reaches.taken in
-      let was = taken-was F.room S.reaches.taken in
+      let kept = taken_kept S.reaches.taken in
+      let was = taken_was F.room S.reaches.taken in
       record {
-        searched = take_all F.searched F.room (taken-map (omega arith) from_start S.reaches.taken);
-        room = taken-room F.room S.reaches.taken;
+        searched = take_all F.searched F.room (taken_map (omega arith) from_start S.reaches.taken);
+        room = taken_room F.room S.reaches.taken;
         begun = λ e. F.begun (was start e);
         order = omega (arith, kept.0);
         rows = λ k h x. elim (less_or_not k tail) [
@@ -283,40 +283,40 @@ module _ {near : Near} {w n code start : ℕ} {marks₀ queue₀ marks queue : L
   -- the entries are closed under neighbours
   shut : (u v : ℕ) → u < n → v < n → among queue tail u ≡ true → Link u v ≡ true → among queue tail v ≡ true
   shut u v hu hv m e =
-      let r = among-place queue tail u m in
-      let nearby = alike-near near code marks₀ u v e in
-      gone v (alike-to near code marks₀ u v e) (λ d. F.closed r.index v (omega (arith, r.below)) hv
+      let r = among_place queue tail u m in
+      let nearby = alike_near near code marks₀ u v e in
+      gone v (alike_to near code marks₀ u v e) (λ d. F.closed r.index v (omega (arith, r.below)) hv
       (subst (λ (x : ℕ). near x v ≡ true) (sym r.holds) nearby) d)
 
   -- and a chain leads to each
   come : (u : ℕ) → u < n → among queue tail u ≡ true → Chain Link n start u
   come u h m =
-      let r = among-place queue tail u m in
+      let r = among_place queue tail u m in
       subst (Chain Link n start) r.holds (F.searched.reached r.index r.below)
 
   is-region : (x : ℕ) → among queue tail x ≡ region near n marks₀ code start x
   is-region x = elim (less_or_not x n) [
     | inl h ↦ filled Link n start (among queue tail) inside (gone start has F.begun) shut come x h
-        ∙ sym (region-linked near n code marks₀ start x h)
+        ∙ sym (region_linked near n code marks₀ start x h)
     | inr h ↦ same_test (among queue tail x) (region near n marks₀ code start x)
-        (λ m. let r = among-place queue tail x m in
+        (λ m. let r = among_place queue tail x m in
         absurd (omega (arith, F.searched.below r.index r.below, r.holds)))
-        (λ m. absurd (omega (arith, region-below near n code marks₀ start x m)))
+        (λ m. absurd (omega (arith, region_below near n code marks₀ start x m)))
   ]
 
   the-region : Enumerates queue tail n (region near n marks₀ code start)
   the-region = record {
     fits = omega (arith, F.room.spare);
     below = F.searched.below;
-    inside = λ k l. sym (is-region (at queue k)) ∙ among-at queue tail k l;
+    inside = λ k l. sym (is-region (at queue k)) ∙ among_at queue tail k l;
     distinct = λ j k l m e.
-        true≢false (sym (subst (λ (x : ℕ). among queue k x ≡ true) e (among-at queue k j l)) ∙ F.searched.fresh k m);
-    every = λ p h e. among-place queue tail p (is-region p ∙ e);
+        true≢false (sym (subst (λ (x : ℕ). among queue k x ≡ true) e (among_at queue k j l)) ∙ F.searched.fresh k m);
+    every = λ p h e. among_place queue tail p (is-region p ∙ e);
   }
 
   pub finish : Flooded near n code start marks₀ queue₀ marks queue tail
   finish = record {
-    size = entries-size the-region;
+    size = entries_size the-region;
     enumerates = the-region;
     marks_are = λ p. F.searched.marks_are p ∙ ap (λ (t : Bool). cond t 0 (at marks₀ p)) (is-region p);
     rest = F.searched.rest;

@@ -15,11 +15,11 @@ use Rattle.histograms.specs.Values.{least, greatest}
 use Rattle.histograms.specs.Histograms.{values, Alike, Measured, Tally}
 use Rattle.histograms.specs.declared.Measures.{Measures}
 use Rattle.histograms.proofs.Values.{In, in-at, least_le, greatest_ge}
-use Rattle.histograms.proofs.Components.{values-size, values-at, alike_of}
+use Rattle.histograms.proofs.Components.{values_size, values_at, alike_of}
 use Rattle.histograms.proofs.Measured.{least_snoc, values_more, tally_more, greatest_more}
 use Rattle.histograms.proofs.Measured.{alike_turned, tally_alike, measured_alike}
 use Rattle.components.specs.Floods.{Flooded, region_values, Gauged}
-use Rattle.components.proofs.Regions.{region-self}
+use Rattle.components.proofs.Regions.{region_self}
 
 -- the counts of the values vs, and the least and the greatest of s and vs
 pub record Gauging (s : ℕ) (vs counts : List ℕ) (low high : ℕ) : Type 0 where
@@ -43,10 +43,10 @@ gauging_none plane queue s t = record {
 values_same : (plane queue queue' : List ℕ) (m : ℕ) → m ≤ length queue → m ≤ length queue'
     → ((k : ℕ) → k < m → at queue' k ≡ at queue k) → values plane queue' m ≡ values plane queue m
 values_same plane queue queue' m h h' kept =
-    let size = values-size plane queue' m h' in
-    ext_get_or 0 (values plane queue' m) (values plane queue m) (size ∙ sym (values-size plane queue m h))
+    let size = values_size plane queue' m h' in
+    ext_get_or 0 (values plane queue' m) (values plane queue m) (size ∙ sym (values_size plane queue m h))
     (λ k l. let km : k < m = omega arith in
-    values-at plane queue' m h' k km ∙ ap (at plane) (kept k km) ∙ sym (values-at plane queue m h k km))
+    values_at plane queue' m h' k km ∙ ap (at plane) (kept k km) ∙ sym (values_at plane queue m h k km))
 
 -- entry i of the queue is one more, and the entries up to it stay
 module _ (plane queue : List ℕ) (i : ℕ) {s low high : ℕ} {counts : List ℕ}
@@ -63,10 +63,10 @@ module _ (plane queue : List ℕ) (i : ℕ) {s low high : ℕ} {counts : List �
     greatest_is = omega (arith, G.greatest_is, greatest_more plane queue i room);
   }
 
-  pub gauging-next : (queue' : List ℕ) → length queue' ≡ length queue
+  pub gauging_next : (queue' : List ℕ) → length queue' ≡ length queue
       → ((k : ℕ) → k < i + 1 → at queue' k ≡ at queue k)
       → Gauging s (values plane queue' (i + 1)) (set counts v (at counts v + 1)) (min low v) (max high v)
-  gauging-next queue' size kept =
+  gauging_next queue' size kept =
       rw (values_same plane queue queue' (i + 1) (omega arith) (omega arith) kept) gauging-more
 
 -- ## All values
@@ -78,14 +78,14 @@ least_again s (x ∷ vs) i = min-eq_right (least_le s (x ∷ vs) i)
 module _ {near : Near} {n code start : ℕ} {marks₀ queue₀ marks queue : List ℕ} {m : ℕ}
     (F : Flooded near n code start marks₀ queue₀ marks queue m) (inside : start < n) (plane : List ℕ) where
   place : Place queue m start
-  place = F.enumerates.every start inside (region-self near n code marks₀ start inside)
+  place = F.enumerates.every start inside (region_self near n code marks₀ start inside)
 
   first-in : In (at plane start) (values plane queue m)
   first-in =
       let room = F.enumerates.fits in
       let there = in-at (values plane queue m) place.index
-      (omega (arith, place.below, values-size plane queue m room)) in
-      rw (values-at plane queue m room place.index place.below, place.holds) at there
+      (omega (arith, place.below, values_size plane queue m room)) in
+      rw (values_at plane queue m room place.index place.below, place.holds) at there
 
   is-region : Alike (values plane queue m) (region_values near n marks₀ code start plane)
   unfolding region_values
@@ -98,14 +98,14 @@ module _ {near : Near} {n code start : ℕ} {marks₀ queue₀ marks queue : Lis
 
       all-measured : Measured (values plane queue m) c
       all-measured = record {
-        size = sym (values-size plane queue m F.enumerates.fits);
+        size = sym (values_size plane queue m F.enumerates.fits);
         least_is = G.least_is ∙ least_again (at plane start) (values plane queue m) first-in;
         greatest_is = G.greatest_is ∙ max-eq_right (greatest_ge (at plane start) (values plane queue m) first-in);
       }
 
       pub gauged : Gauged near n code start plane marks₀ c counts
       gauged =
-          let size = values-size plane queue m F.enumerates.fits in
+          let size = values_size plane queue m F.enumerates.fits in
           record {
             measured = measured_alike (omega (arith, place.below)) is-region all-measured;
             tally = tally_alike is-region G.tally;

@@ -13,9 +13,9 @@ use Rattle.planes.specs.Lists.{at}
 use Rattle.planes.specs.Neighbours.{Near, Chain, here, step, linked}
 use Rattle.planes.specs.Shapes.{Symmetric}
 use Rattle.planes.proofs.Tests.{same_test}
-use Rattle.planes.proofs.Links.{linked-iff, link_near, link-refl, link-trans, link-sym}
+use Rattle.planes.proofs.Links.{linked_iff, link_near, link_refl, link_trans, link_sym}
 use Rattle.rows.specs.Codes.{alike}
-use Rattle.rows.proofs.Codes.{alike_of, alike_from, alike-to, alike-near, alike-sym, alike_on}
+use Rattle.rows.proofs.Codes.{alike_of, alike_from, alike_to, alike_near, alike_sym, alike_on}
 use Rattle.components.specs.Regions.{region}
 
 -- ## Regions as sets
@@ -27,24 +27,24 @@ module _ (near : Near) (n code : ℕ) (marks : List ℕ) where
   abbrev Region : ℕ → ℕ → Bool
   Region = region near n marks code
 
-  pub region-below : (s x : ℕ) → Region s x ≡ true → x < n
+  pub region_below : (s x : ℕ) → Region s x ≡ true → x < n
   unfolding region
-  region-below s x e = ltb-true x n (and_elim_left (ltb x n) (linked Link n s x) e)
+  region_below s x e = ltb-true x n (and_elim_left (ltb x n) (linked Link n s x) e)
 
-  pub region-linked : (s x : ℕ) → x < n → Region s x ≡ linked Link n s x
+  pub region_linked : (s x : ℕ) → x < n → Region s x ≡ linked Link n s x
   unfolding region
-  region-linked s x h = ap (◌&& linked Link n s x) (lt-ltb x n h)
+  region_linked s x h = ap (◌&& linked Link n s x) (lt-ltb x n h)
 
-  pub region-self : (s : ℕ) → s < n → Region s s ≡ true
-  region-self s h = region-linked s s h ∙ link-refl Link n s
+  pub region_self : (s : ℕ) → s < n → Region s s ≡ true
+  region_self s h = region_linked s s h ∙ link_refl Link n s
 
-  pub region-chain : (s x : ℕ) → s < n → Region s x ≡ true → Chain Link n s x
-  region-chain s x h e =
-      let k = region-below s x e in
-      (linked-iff Link n s x h k).0 (sym (region-linked s x k) ∙ e)
+  pub region_chain : (s x : ℕ) → s < n → Region s x ≡ true → Chain Link n s x
+  region_chain s x h e =
+      let k = region_below s x e in
+      (linked_iff Link n s x h k).0 (sym (region_linked s x k) ∙ e)
 
-  pub region-of : (s x : ℕ) → s < n → x < n → Chain Link n s x → Region s x ≡ true
-  region-of s x h k c = region-linked s x k ∙ (linked-iff Link n s x h k).1 c
+  pub region_of : (s x : ℕ) → s < n → x < n → Chain Link n s x → Region s x ≡ true
+  region_of s x h k c = region_linked s x k ∙ (linked_iff Link n s x h k).1 c
 
   -- a test that neighbours share is the same along a chain
   pub along : (f : ℕ → Bool) → ((u v : ℕ) → u < n → v < n → Link u v ≡ true → f u ≡ f v)
@@ -54,24 +54,24 @@ module _ (near : Near) (n code : ℕ) (marks : List ℕ) where
 
   coded-along : {s x : ℕ} → at marks s ≡ code → Chain Link n s x → at marks x ≡ code
   coded-along a here = a
-  coded-along a (step {j = j} {k = k} c e l) = alike-to near code marks j k e
+  coded-along a (step {j = j} {k = k} c e l) = alike_to near code marks j k e
 
-  pub region-coded : (s x : ℕ) → s < n → at marks s ≡ code → Region s x ≡ true → at marks x ≡ code
-  region-coded s x h a e = coded-along a (region-chain s x h e)
+  pub region_coded : (s x : ℕ) → s < n → at marks s ≡ code → Region s x ≡ true → at marks x ≡ code
+  region_coded s x h a e = coded-along a (region_chain s x h e)
 
   module _ (symm : Symmetric near) where
-    pub region-sym : (s x : ℕ) → s < n → x < n → Region s x ≡ Region x s
-    region-sym s x h k =
-        region-linked s x k ∙ link-sym Link (alike-sym near code marks symm) n s x ∙ sym (region-linked x s h)
+    pub region_sym : (s x : ℕ) → s < n → x < n → Region s x ≡ Region x s
+    region_sym s x h k =
+        region_linked s x k ∙ link_sym Link (alike_sym near code marks symm) n s x ∙ sym (region_linked x s h)
 
     -- neighbours that have the code are in the same regions
-    pub region-whole : (s u v : ℕ) → u < n → v < n → Link u v ≡ true → Region s u ≡ Region s v
-    region-whole s u v hu hv e =
-        region-linked s u hu
+    pub region_whole : (s u v : ℕ) → u < n → v < n → Link u v ≡ true → Region s u ≡ Region s v
+    region_whole s u v hu hv e =
+        region_linked s u hu
         ∙ same_test (linked Link n s u) (linked Link n s v)
-        (λ d. link-trans Link n s u v hu d (link_near Link n e))
-        (λ d. link-trans Link n s v u hv d (link_near Link n (alike-sym near code marks symm v u ∙ e)))
-        ∙ sym (region-linked s v hv)
+        (λ d. link_trans Link n s u v hu d (link_near Link n e))
+        (λ d. link_trans Link n s v u hv d (link_near Link n (alike_sym near code marks symm v u ∙ e)))
+        ∙ sym (region_linked s v hv)
 
 -- ## Whole regions get other marks
 
@@ -105,14 +105,14 @@ module _ (near : Near) (n code : ℕ) (marks marks' : List ℕ) (gone : ℕ → 
       let dj : gone j ≡ false = sym r.1 ∙ d in
       let dk : gone k ≡ false = sym (whole j k r.0 l e) ∙ dj in
       let from-j = is j dj (alike_from near code marks j k e) in
-      let to-k = is k dk (alike-to near code marks j k e) in
-      step (after h d c) (alike_of near code marks' from-j to-k (alike-near near code marks j k e)) l
+      let to-k = is k dk (alike_to near code marks j k e) in
+      step (after h d c) (alike_of near code marks' from-j to-k (alike_near near code marks j k e)) l
 
   -- the region of a pixel that still has the code is what it was
-  pub region-stays : (s x : ℕ) → s < n → at marks' s ≡ code
+  pub region_stays : (s x : ℕ) → s < n → at marks' s ≡ code
       → region near n marks' code s x ≡ region near n marks code s x
-  region-stays s x h e = same_test (region near n marks' code s x) (region near n marks code s x)
-      (λ d. region-of near n code marks s x h (region-below near n code marks' s x d)
-      (before (region-chain near n code marks' s x h d)))
-      (λ d. region-of near n code marks' s x h (region-below near n code marks s x d)
-      (after h (was s e).0 (region-chain near n code marks s x h d)))
+  region_stays s x h e = same_test (region near n marks' code s x) (region near n marks code s x)
+      (λ d. region_of near n code marks s x h (region_below near n code marks' s x d)
+      (before (region_chain near n code marks' s x h d)))
+      (λ d. region_of near n code marks' s x h (region_below near n code marks s x d)
+      (after h (was s e).0 (region_chain near n code marks s x h d)))

@@ -17,11 +17,11 @@ use Rattle.planes.specs.declared.Shape.{Shape}
 use Rattle.histograms.specs.Histograms.{values, Tally}
 use Rattle.histograms.specs.declared.Measures.{Measures}
 use Rattle.histograms.proofs.Measured.{tally_le}
-use Rattle.rows.proofs.Taken.{taken-kept}
+use Rattle.rows.proofs.Taken.{taken_kept}
 use Rattle.spreading.specs.Spreads.{Spread, Spreadable}
 use Rattle.components.specs.Floods.{Seen, Floodable, Flooded, FloodGives}
-use Rattle.components.proofs.Gauging.{Gauging, gauging_none, gauging-next, gauged}
-use Rattle.components.proofs.Flooding.{Flooding, head-off, few_entries, turn, finish}
+use Rattle.components.proofs.Gauging.{Gauging, gauging_none, gauging_next, gauged}
+use Rattle.components.proofs.Flooding.{Flooding, head_off, few_entries, turn, finish}
 
 -- what a flood of `start` has taken since marks₀ and queue₀
 abbrev pub FloodingTo : Near → Shape → ℕ → ℕ → List ℕ → List ℕ → List ℕ → List ℕ → ℕ → ℕ → Type 0
@@ -58,28 +58,28 @@ going_none near z code start plane marks queue tail none = record {
 module _ {near : Near} {w n code start head tail : ℕ} {marks₀ queue₀ marks queue : List ℕ}
     (K : Flooding near w n code start marks₀ queue₀ marks queue head tail) (due : head < tail) where
   -- the pixel at the head is one, and the queue has the entry
-  pub head-inside : at queue head < n
-  head-inside = K.searched.below head due
+  pub head_inside : at queue head < n
+  head_inside = K.searched.below head due
 
-  pub head-room : head < length queue
-  head-room = omega (arith, K.room.spare)
+  pub head_room : head < length queue
+  head_room = omega (arith, K.room.spare)
 
   -- its offset and the pixel fit their types
-  pub head-offset : Fits w64 (head * 4)
-  head-offset = record { fits = omega (arith, few_entries K, K.room.few) }
+  pub head_offset : Fits w64 (head * 4)
+  head_offset = record { fits = omega (arith, few_entries K, K.room.few) }
 
-  pub head-fits : Fits w64 (at queue head)
-  head-fits = record { fits = omega (arith, head-inside, K.room.few) }
+  pub head_fits : Fits w64 (at queue head)
+  head_fits = record { fits = omega (arith, head_inside, K.room.few) }
 
   -- what `see` requires
-  pub may-see : (plane counts : List ℕ) (low high : ℕ) → length plane ≡ n
+  pub may_see : (plane counts : List ℕ) (low high : ℕ) → length plane ≡ n
       → Gauging (at plane start) (values plane queue head) counts low high
       → (at queue head < length plane)
       × ((head < greatest_pixels) × (at counts (at plane (at queue head)) < greatest_pixels))
-  may-see plane counts low high whole G =
+  may_see plane counts low high whole G =
       let few = few_entries K in
       let counted = tally_le plane queue head (at plane (at queue head)) G.tally in
-      (omega (arith, head-inside), (omega (arith, K.room.few), omega (arith, K.room.few)))
+      (omega (arith, head_inside), (omega (arith, K.room.few), omega (arith, K.room.few)))
 
 -- what spreading from it requires
 pub spreadable : {near : Near} {z : Shape} {inverse code start head tail : ℕ} {marks₀ queue₀ marks queue : List ℕ}
@@ -89,8 +89,8 @@ spreadable F K due = record {
   reachable = record {
     size = F.size;
     inverse_is = F.inverse_is;
-    inside = head-inside K due;
-    off = head-off K due;
+    inside = head_inside K due;
+    off = head_off K due;
     room = K.room;
   };
   shut = K.rows _ due;
@@ -109,8 +109,8 @@ module _ {near : Near} {z : Shape} {code start head₀ tail₀ tail tail' : ℕ}
     marks_length = omega (arith, K.marks_length);
     queue_length = omega (arith, K.queue_length);
     gauging = rw (N.size, N.least_is, N.greatest_is, N.counts_are)
-        (gauging-next plane queue seen.size K.gauging room byte queue' same_queue
-        (λ k h. (taken-kept S.reaches.taken).1 k (omega arith)));
+        (gauging_next plane queue seen.size K.gauging room byte queue' same_queue
+        (λ k h. (taken_kept S.reaches.taken).1 k (omega arith)));
     flooding = λ m q f.
         subst (λ (head : ℕ). FloodingTo near z code start m q marks' queue' head tail') (sym N.size)
         (turn (K.flooding m q f) due S);

@@ -17,16 +17,16 @@ use Rattle.planes.specs.Shapes.{pixels, adjacency}
 use Rattle.planes.specs.declared.Shape.{Shape}
 use Rattle.planes.proofs.Tests.{less_or_not}
 use Rattle.planes.proofs.Links.{chain_map}
-use Rattle.planes.proofs.Enumerations.{entries-size}
+use Rattle.planes.proofs.Enumerations.{entries_size}
 use Rattle.planes.proofs.Shapes.{adjacency_chain}
 use Rattle.histograms.specs.Histograms.{values}
-use Rattle.histograms.proofs.Components.{values-size, values-at}
+use Rattle.histograms.proofs.Components.{values_size, values_at}
 use Rattle.scans.specs.Taking.{PlaneTaken}
 use Rattle.rows.specs.Codes.{alike}
 use Rattle.rows.proofs.Codes.{alike_of}
 use Rattle.components.specs.Regions.{region}
 use Rattle.components.specs.Floods.{Flooded}
-use Rattle.components.proofs.Regions.{region-of}
+use Rattle.components.proofs.Regions.{region_of}
 
 -- ## All pixels are one component
 
@@ -37,12 +37,12 @@ module _ (z : Shape) (number code : ℕ) (marks : List ℕ) (wide : 1 ≤ z.w)
   near = adjacency z number
 
   -- the chain that leads to p has the code all along
-  pub plane-region : (p : ℕ) → p < pixels z → region near (pixels z) marks code 0 p ≡ true
-  plane-region p h =
+  pub plane_region : (p : ℕ) → p < pixels z → region near (pixels z) marks code 0 p ≡ true
+  plane_region p h =
       let same = chain_map (pixels z) near (alike near marks code)
       (λ u v hu hv e. alike_of near code marks (all u hu) (all v hv) e)
       (omega arith) (adjacency_chain z number (pixels z) wide p h) in
-      region-of near (pixels z) code marks 0 p (omega arith) h same.1
+      region_of near (pixels z) code marks 0 p (omega arith) h same.1
 
 -- no pixel past the first n is in a region
 region_past : (near : Near) (n code : ℕ) (marks : List ℕ) (s p : ℕ) → n ≤ p → region near n marks code s p ≡ false
@@ -72,13 +72,13 @@ module _ {n : ℕ} {marks queue marks' queue' : List ℕ} (T : PlaneTaken n mark
   ]
 
   -- the values of the pixels taken are the plane, in its own order
-  pub values-plane : {plane : List ℕ} → length plane ≡ n → values plane queue' n ≡ plane
-  values-plane {plane} e =
+  pub values_plane : {plane : List ℕ} → length plane ≡ n → values plane queue' n ≡ plane
+  values_plane {plane} e =
       let fits : n ≤ length queue' = omega (arith, T.queue_rest.size) in
-      let size = values-size plane queue' n fits in
+      let size = values_size plane queue' n fits in
       ext_get_or 0 (values plane queue' n) plane (size ∙ sym e)
       (λ k l. let below : k < n = omega arith in
-      values-at plane queue' n fits k below ∙ ap (at plane) (T.listed k below))
+      values_at plane queue' n fits k below ∙ ap (at plane) (T.listed k below))
 
 -- where they all had one code, they are one component, flooded; m is their number
 pub plane_flooded : (z : Shape) (number code : ℕ) {marks queue marks' queue' : List ℕ} → 1 ≤ z.w
@@ -86,11 +86,11 @@ pub plane_flooded : (z : Shape) (number code : ℕ) {marks queue marks' queue' :
     → ((p : ℕ) → p < pixels z → at marks p ≡ code) → {m : ℕ} → m ≡ pixels z
     → Flooded (adjacency z number) (pixels z) code 0 marks queue marks' queue' m
 plane_flooded z number code {marks} wide T room all e =
-    let component = plane-region z number code marks wide all in
+    let component = plane_region z number code marks wide all in
     let one = region (adjacency z number) (pixels z) marks code 0 in
     let pixels-are = lists-all T room one component in
     rw e (record {
-      size = entries-size pixels-are;
+      size = entries_size pixels-are;
       enumerates = pixels-are;
       marks_are = all-off T room one component (region_past (adjacency z number) (pixels z) code marks 0);
       rest = T.queue_rest.rest;

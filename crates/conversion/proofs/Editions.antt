@@ -1,7 +1,7 @@
 -- Both editions of a list. Assumes nothing.
 --
 --   encoded_converts   passes that version 1 can store, in either edition, are refused as in memory, and then with 14
---   converted-passes   a list that may be converted has the same passes in the other edition, and is not refused there
+--   converted_passes   a list that may be converted has the same passes in the other edition, and is not refused there
 --   there_and_back     converted, it may be converted again, and that restores it byte for byte
 --   restored           so two calls of `convert`, one on what the other wrote, restore the list
 use Prim.Native.Nat.{ℕ, ◌≤◌, ◌<◌}
@@ -17,7 +17,7 @@ use Rattle.planes.specs.Refusals.{when, ◌▷◌, output_refusal}
 use Rattle.planes.specs.Replies.{Reply, gives}
 use Rattle.planes.proofs.Refusals.{when_none, ▷_none, ▷_both}
 use Rattle.planes.proofs.Replies.{replied_none}
-use Rattle.texts.proofs.Writing.{wrote_none, wrote-bytes}
+use Rattle.texts.proofs.Writing.{wrote_none, wrote_bytes}
 use Rattle.model.specs.declared.Pass.{Pass}
 use Rattle.tones.specs.Refusals.{rule_refusal}
 use Rattle.model.specs.Calls.{interval_refusal, area_refusal, neighbour_refusal, numbers_refusal}
@@ -27,14 +27,14 @@ use Rattle.listformat.specs.declared.Edition.{Edition}
 use Rattle.listformat.specs.declared.Edition.TheVariants.{First, Second}
 use Rattle.listformat.specs.Format.{other, record_start, edition_of, passes_of, greatest_count, decode, encode, Bytes}
 use Rattle.listformat.specs.Format.{Storable}
-use Rattle.listformat.proofs.Format.{headed, length_passes_of, length-encode, storable_passes, passes-encode}
-use Rattle.listformat.proofs.Format.{edition-encode}
+use Rattle.listformat.proofs.Format.{headed, length_passes_of, length_encode, storable_passes, passes_encode}
+use Rattle.listformat.proofs.Format.{edition_encode}
 use Rattle.listformat.proofs.Format.{encode_decode}
 use Rattle.listchecks.specs.Refusals.{first_refusal, list_refusal, count_refusal, passes_refusal, place_refusal}
 use Rattle.listchecks.specs.Refusals.{places_refusal}
-use Rattle.listchecks.proofs.Refusals.{accepted-list, encoded-refusal}
+use Rattle.listchecks.proofs.Refusals.{accepted_list, encoded_refusal}
 use Rattle.conversion.specs.Conversion.{converted, convert_refusal, ConvertOutcome}
-use Rattle.conversion.proofs.Refusals.{Convertible, convertible, convertible-none, head_sound}
+use Rattle.conversion.proofs.Refusals.{Convertible, convertible, convertible_none, head_sound}
 
 -- ## Passes that both editions can store
 
@@ -110,9 +110,9 @@ encoded_converts ss told fit e output =
     let fits = stored e ss fit in
     ap₂ (λ (d : Edition) (ps : List Pass).
     list_refusal (encode e ss) ▷ places_refusal (other d) ps ▷ output_refusal output (length (encode (other d) ps)))
-    (edition-encode e ss) (passes-encode e ss told fits).0
+    (edition_encode e ss) (passes_encode e ss told fits).0
     ∙ ap₂ (λ (k n : ℕ). k ▷ places_refusal (other e) ss ▷ output_refusal output n)
-    (encoded-refusal e ss told fits) (length-encode (other e) ss)
+    (encoded_refusal e ss told fits) (length_encode (other e) ss)
     ∙ ap (λ (k : ℕ). passes_refusal ss ▷ k ▷ short) (has_place (other e) ss (stored (other e) ss fit))
 
 -- ## A list and its other edition
@@ -125,7 +125,7 @@ module _ (bs : List ℕ) (b : Bytes bs) {output : ℕ} (fine : Convertible bs ou
   e = edition_of bs
 
   read : (decode bs ≡ some ss) × (passes_refusal ss ≡ 0)
-  read = accepted-list bs fine.sound
+  read = accepted_list bs fine.sound
 
   few : length ss ≤ greatest_count
   few = subst (◌≤ greatest_count) (sym (length_passes_of bs)) (headed bs (head_sound bs fine)).few
@@ -136,29 +136,29 @@ module _ (bs : List ℕ) (b : Bytes bs) {output : ℕ} (fine : Convertible bs ou
       let numbers = (▷_none (count_refusal (length ss)) (first_refusal (map numbers_refusal ss)) read.1).1 in
       storable_other e ss (storable_passes bs b) numbers fine.placed
 
-  pub converted-edition : edition_of (converted bs) ≡ other e
+  pub converted_edition : edition_of (converted bs) ≡ other e
   unfolding converted
-  converted-edition = edition-encode (other e) ss
+  converted_edition = edition_encode (other e) ss
 
-  pub converted-passes : passes_of (converted bs) ≡ ss
+  pub converted_passes : passes_of (converted bs) ≡ ss
   unfolding converted
-  converted-passes = (passes-encode (other e) ss (omega (arith, few)) fit).0
+  converted_passes = (passes_encode (other e) ss (omega (arith, few)) fit).0
 
-  pub converted-sound : list_refusal (converted bs) ≡ 0
+  pub converted_sound : list_refusal (converted bs) ≡ 0
   unfolding converted
-  converted-sound = encoded-refusal (other e) ss (omega (arith, few)) fit ∙ read.1
+  converted_sound = encoded_refusal (other e) ss (omega (arith, few)) fit ∙ read.1
 
   -- converted again, it is the list
   pub back : converted (converted bs) ≡ bs
   unfolding converted
   back =
-      ap₂ (λ (d : Edition) (ps : List Pass). encode (other d) ps) converted-edition converted-passes
+      ap₂ (λ (d : Edition) (ps : List Pass). encode (other d) ps) converted_edition converted_passes
       ∙ ap (λ (d : Edition). encode d ss) (other_other e) ∙ sym (encode_decode bs b ss read.0)
 
   pub there_and_back : (room : ℕ) → length bs ≤ room → Convertible (converted bs) room
   there_and_back room h = record {
-    sound = converted-sound;
-    placed = ap₂ (λ (d : Edition) (ps : List Pass). places_refusal (other d) ps) converted-edition converted-passes
+    sound = converted_sound;
+    placed = ap₂ (λ (d : Edition) (ps : List Pass). places_refusal (other d) ps) converted_edition converted_passes
         ∙ ap (λ (d : Edition). places_refusal d ss) (other_other e) ∙ has_place e ss (storable_passes bs b);
     room = subst (◌≤ room) (sym (ap length back)) h;
   }
@@ -170,9 +170,9 @@ pub restored : (bs : List ℕ) → Bytes bs → {output output' : List ℕ} {siz
     → (reply ≡ gives (length bs ∷ [])) × (take (length bs) lent' ≡ bs)
 restored bs b {output} {output'} {size} there {lent} {lent'} {reply} room again =
     let fine = convertible bs (length output) (wrote_none there) in
-    let second = subst (λ (l : List ℕ). ConvertOutcome l lent reply lent') (wrote-bytes there) again in
-    let accepted = convertible-none (converted bs) (length lent) (there_and_back bs b fine (length lent) room) in
+    let second = subst (λ (l : List ℕ). ConvertOutcome l lent reply lent') (wrote_bytes there) again in
+    let accepted = convertible_none (converted bs) (length lent) (there_and_back bs b fine (length lent) room) in
     let given : reply ≡ gives (length bs ∷ []) =
     second.answer ∙ replied_none _ _ accepted ∙ ap (λ (l : List ℕ). gives (length l ∷ [])) (back bs b fine) in
     let wrote = subst (λ (r : Reply). ConvertOutcome (converted bs) lent r lent') given second in
-    (given, wrote-bytes wrote ∙ back bs b fine)
+    (given, wrote_bytes wrote ∙ back bs b fine)

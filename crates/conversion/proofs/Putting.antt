@@ -1,7 +1,7 @@
 -- A list written in the other edition, record by record. What is put and what is left make up the whole. Assumes
 -- nothing.
 --
---   record-put   the fields of a record, and what follows them, are its pass's record in the other edition
+--   record_put   the fields of a record, and what follows them, are its pass's record in the other edition
 --   Putting      the first records are put
 use Prim.Native.Nat.{ℕ, ◌+◌, ◌-◌, ◌≤◌, ◌<◌, zero-le}
 use mathlib.Core.Path.{◌≡◌, refl, sym, ap, ap₂, subst, ◌∙◌}
@@ -78,16 +78,16 @@ module _ (bs : List ℕ) {output : ℕ} (fine : Convertible bs output) where
   starts = record_start (edition_of bs)
 
   -- the fields of record j stand in the list
-  pub fields-inside : (j : ℕ) → j < count_of bs → starts j + fields_length ≤ length bs
-  fields-inside j h =
+  pub fields_inside : (j : ℕ) → j < count_of bs → starts j + fields_length ≤ length bs
+  fields_inside j h =
       omega (arith, (record-inside bs j (head_sound bs fine) h).1, fields_within (edition_of bs))
 
-  pub record-put : Bytes bs → (j : ℕ) → j < count_of bs
+  pub record_put : Bytes bs → (j : ℕ) → j < count_of bs
       → take fields_length (drop (starts j) bs) ++ encode_rest target 4 ≡ encode_pass target (pass_here bs j)
   unfolding encode_pass
-  record-put b j h =
+  record_put b j h =
       ap₂ ◌++◌
-      (written_fields (edition_of bs) bs (starts j) b (formed_each bs fine.sound j h) (fields-inside j h))
+      (written_fields (edition_of bs) bs (starts j) b (formed_each bs fine.sound j h) (fields_inside j h))
       (rest_same (edition_of bs) bs (starts j))
 
 -- ## Record by record
@@ -112,10 +112,10 @@ pub record Putting (bs output₀ : List ℕ) (j at : ℕ) (output : List ℕ) : 
   pub whole : done ++ left bs j ≡ converted bs
 
 module _ {bs output₀ : List ℕ} where
-  pub putting-none : {at : ℕ} {output : List ℕ}
+  pub putting_none : {at : ℕ} {output : List ℕ}
       → Put output₀ 0 (encode_head (other (edition_of bs)) (count_of bs)) at output → Putting bs output₀ 0 at output
   unfolding converted encode
-  putting-none p = record {
+  putting_none p = record {
     done = encode_head (other (edition_of bs)) (count_of bs);
     put = p;
     upto = zero-le;
@@ -133,34 +133,34 @@ module _ {bs output₀ : List ℕ} where
     pub put_same : length output ≡ length output₀
     put_same = put_length p.put (omega (arith, size, p.put.next, fine.room))
 
-    left-next : j < count_of bs → left bs j ≡ encode_pass (other (edition_of bs)) (pass_here bs j) ++ left bs (j + 1)
+    left_next : j < count_of bs → left bs j ≡ encode_pass (other (edition_of bs)) (pass_here bs j) ++ left bs (j + 1)
     unfolding encode_passes
-    left-next h = ap (encode_passes (other (edition_of bs))) (next_pass bs j h)
+    left_next h = ap (encode_passes (other (edition_of bs))) (next_pass bs j h)
 
-    pub record-room : j < count_of bs → at + record_length (other (edition_of bs)) ≤ length output
-    record-room h =
+    pub record_room : j < count_of bs → at + record_length (other (edition_of bs)) ≤ length output
+    record_room h =
         let bytes = encode_pass (other (edition_of bs)) (pass_here bs j) in
-        let sum = ap length (left-next h) ∙ length-append bytes (left bs (j + 1)) in
+        let sum = ap length (left_next h) ∙ length-append bytes (left bs (j + 1)) in
         omega (arith, size, fine.room, put_same, length_pass (other (edition_of bs)) (pass_here bs j))
 
-    pub putting-more : j < count_of bs → {r : ℕ} {output' : List ℕ}
+    pub putting_more : j < count_of bs → {r : ℕ} {output' : List ℕ}
         → Put output at (encode_pass (other (edition_of bs)) (pass_here bs j)) r output'
         → Putting bs output₀ (j + 1) r output'
-    putting-more h q =
+    putting_more h q =
         let bytes = encode_pass (other (edition_of bs)) (pass_here bs j) in
-        let room = record-room h in
+        let room = record_room h in
         let long = length_pass (other (edition_of bs)) (pass_here bs j) in
         record {
           done = p.done ++ bytes;
           put = put_more p.put q (omega (arith, p.put.next, put_same));
           upto = omega arith;
-          whole = append_assoc p.done bytes (left bs (j + 1)) ∙ ap (p.done ++◌) (sym (left-next h)) ∙ p.whole;
+          whole = append_assoc p.done bytes (left bs (j + 1)) ∙ ap (p.done ++◌) (sym (left_next h)) ∙ p.whole;
         }
 
-  pub putting-all : {j at : ℕ} {output : List ℕ} → Putting bs output₀ j at output → count_of bs ≤ j
+  pub putting_all : {j at : ℕ} {output : List ℕ} → Putting bs output₀ j at output → count_of bs ≤ j
       → Put output₀ 0 (converted bs) at output
   unfolding encode_passes
-  putting-all {j} {at} {output} p h =
+  putting_all {j} {at} {output} p h =
       let none = drop_of_length-le (passes_of bs) {i = j} (subst (◌≤ j) (sym (length_passes_of bs)) h) in
       let all =
       sym (append-nil p.done)
@@ -178,17 +178,17 @@ module _ {bs lent : List ℕ} (fine : Convertible bs (length lent)) {e t : Editi
   place : i ≡ record_start (edition_of bs) j
   place = start ∙ ap (λ (d : Edition). record_start d j) edition
 
-  pub turn-asks : (at + record_length t ≤ length output) × (i + fields_length ≤ length bs)
-  turn-asks = (
-    subst (λ (d : Edition). at + record_length d ≤ length output) (sym into) (record-room fine p due),
-    subst (λ (n : ℕ). n + fields_length ≤ length bs) (sym place) (fields-inside bs fine j due),
+  pub turn_asks : (at + record_length t ≤ length output) × (i + fields_length ≤ length bs)
+  turn_asks = (
+    subst (λ (d : Edition). at + record_length d ≤ length output) (sym into) (record_room fine p due),
+    subst (λ (n : ℕ). n + fields_length ≤ length bs) (sym place) (fields_inside bs fine j due),
   )
 
-  pub turn-puts : Bytes bs → {r : ℕ} {output' : List ℕ}
+  pub turn_puts : Bytes bs → {r : ℕ} {output' : List ℕ}
       → Put output at (take fields_length (drop i bs) ++ encode_rest t 4) r output'
       → Putting bs lent (j + 1) r output'
-  turn-puts b {r} {output'} q =
+  turn_puts b {r} {output'} q =
       let bytes =
       ap₂ (λ (n : ℕ) (d : Edition). take fields_length (drop n bs) ++ encode_rest d 4) place into
-      ∙ record-put bs fine b j due in
-      putting-more fine p due (subst (λ (u : List ℕ). Put output at u r output') bytes q)
+      ∙ record_put bs fine b j due in
+      putting_more fine p due (subst (λ (u : List ℕ). Put output at u r output') bytes q)

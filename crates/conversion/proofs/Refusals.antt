@@ -1,9 +1,9 @@
 -- The refusals of a conversion. Assumes nothing.
 --
---   length-converted   how long the list is in the other edition
---   convert-order      the refusals in the order in which they are tested
+--   length_converted   how long the list is in the other edition
+--   convert_order      the refusals in the order in which they are tested
 --   Convertible        what a list has that is not refused
---   refused-head, refused-record, refused-short, refused_none
+--   refused_head, refused_record, refused_short, refused_none
 --                      each answer, by the tests that led to it
 use Prim.Native.Nat.{ℕ, ◌≤◌, ◌<◌}
 use mathlib.Core.Path.{◌≡◌, sym, ap, ap₂, ◌∙◌}
@@ -15,31 +15,31 @@ use Rattle.planes.specs.Refusals.{when, ◌▷◌, output_refusal}
 use Rattle.planes.proofs.Refusals.{▷_none, ▷_both, ▷_left, ▷_right, ▷_assoc, output_fits, output_none}
 use Rattle.listformat.specs.declared.Edition.{Edition}
 use Rattle.listformat.specs.Format.{other, record_start, count_of, edition_of, passes_of, head_refusal}
-use Rattle.listformat.proofs.Format.{length-encode, length_passes_of}
+use Rattle.listformat.proofs.Format.{length_encode, length_passes_of}
 use Rattle.listchecks.specs.Refusals.{first_refusal, record_refusals, list_refusal, places_refusal}
 use Rattle.conversion.specs.Conversion.{converted, convert_refusal}
 
 module _ (bs : List ℕ) where
-  pub length-converted : length (converted bs) ≡ record_start (other (edition_of bs)) (count_of bs)
+  pub length_converted : length (converted bs) ≡ record_start (other (edition_of bs)) (count_of bs)
   unfolding converted
-  length-converted =
-      length-encode (other (edition_of bs)) (passes_of bs) ∙ ap (record_start (other (edition_of bs))) (length_passes_of bs)
+  length_converted =
+      length_encode (other (edition_of bs)) (passes_of bs) ∙ ap (record_start (other (edition_of bs))) (length_passes_of bs)
 
   -- 20, by the passes
   abbrev pub unplaced : ℕ
   unplaced = places_refusal (other (edition_of bs)) (passes_of bs)
 
   -- those of the head, then those of the records and 20, then 14
-  pub convert-order : (output : ℕ) → convert_refusal bs output
+  pub convert_order : (output : ℕ) → convert_refusal bs output
       ≡ head_refusal bs ▷ (first_refusal (record_refusals bs) ▷ unplaced)
       ▷ output_refusal output (record_start (other (edition_of bs)) (count_of bs))
   unfolding convert_refusal list_refusal
-  convert-order output =
+  convert_order output =
       let records = first_refusal (record_refusals bs) in
       let short = output_refusal output (length (converted bs)) in
       ▷_assoc (head_refusal bs) records (unplaced ▷ short)
       ∙ ap (head_refusal bs ▷◌) (sym (▷_assoc records unplaced short))
-      ∙ ap (λ (n : ℕ). head_refusal bs ▷ (records ▷ unplaced) ▷ output_refusal output n) length-converted
+      ∙ ap (λ (n : ℕ). head_refusal bs ▷ (records ▷ unplaced) ▷ output_refusal output n) length_converted
 
 -- a list that is accepted as a list, whose passes have a place in the other edition, and for which there is room
 pub record Convertible (bs : List ℕ) (output : ℕ) : Type 0 where
@@ -56,9 +56,9 @@ module _ (bs : List ℕ) (output : ℕ) where
       let others = ▷_none (unplaced bs) short tests.1 in
       record { sound = tests.0; placed = others.0; room = output_fits output (length (converted bs)) others.1 }
 
-  pub convertible-none : Convertible bs output → convert_refusal bs output ≡ 0
+  pub convertible_none : Convertible bs output → convert_refusal bs output ≡ 0
   unfolding convert_refusal
-  convertible-none fine =
+  convertible_none fine =
       ▷_both _ _ fine.sound (▷_both _ _ fine.placed (output_none output (length (converted bs)) fine.room))
 
 -- its head is not refused
@@ -72,8 +72,8 @@ module _ (bs : List ℕ) (output : ℕ) where
   abbrev needed : ℕ
   needed = record_start (other (edition_of bs)) (count_of bs)
 
-  pub refused-head : {k : ℕ} → k ≡ head_refusal bs → (k ≡ 0 → ⊥) → k ≡ convert_refusal bs output
-  refused-head e some = e ∙ sym (convert-order bs output ∙ ▷_left _ _ (λ z. some (e ∙ z)))
+  pub refused_head : {k : ℕ} → k ≡ head_refusal bs → (k ≡ 0 → ⊥) → k ≡ convert_refusal bs output
+  refused_head e some = e ∙ sym (convert_order bs output ∙ ▷_left _ _ (λ z. some (e ∙ z)))
 
   module _ (head : head_refusal bs ≡ 0) {e : Edition} (edition : e ≡ other (edition_of bs)) {k : ℕ}
       (told : k ≡ first_refusal (record_refusals bs) ▷ places_refusal e (passes_of bs)) where
@@ -81,20 +81,20 @@ module _ (bs : List ℕ) (output : ℕ) where
     records-told =
         told ∙ ap (λ (d : Edition). first_refusal (record_refusals bs) ▷ places_refusal d (passes_of bs)) edition
 
-    pub refused-record : (k ≡ 0 → ⊥) → k ≡ convert_refusal bs output
-    refused-record some =
+    pub refused_record : (k ≡ 0 → ⊥) → k ≡ convert_refusal bs output
+    refused_record some =
         records-told
-        ∙ sym (convert-order bs output ∙ ▷_right _ _ head ∙ ▷_left _ _ (λ z. some (records-told ∙ z)))
+        ∙ sym (convert_order bs output ∙ ▷_right _ _ head ∙ ▷_left _ _ (λ z. some (records-told ∙ z)))
 
     module _ (none : k ≡ 0) {n count : ℕ} (start : n ≡ record_start e count) (counted : count ≡ count_of bs) where
       by-room : convert_refusal bs output ≡ output_refusal output n
       by-room =
-          convert-order bs output ∙ ▷_right _ _ head ∙ ▷_right _ _ (sym records-told ∙ none)
+          convert_order bs output ∙ ▷_right _ _ head ∙ ▷_right _ _ (sym records-told ∙ none)
           ∙ sym (ap (output_refusal output) (start ∙ ap₂ record_start edition counted))
 
-      pub refused-short : output < n → 14 ≡ convert_refusal bs output
+      pub refused_short : output < n → 14 ≡ convert_refusal bs output
       unfolding output_refusal
-      refused-short h = sym (by-room ∙ ap (λ (t : Bool). when t 14) (lt-ltb output n h))
+      refused_short h = sym (by-room ∙ ap (λ (t : Bool). when t 14) (lt-ltb output n h))
 
       pub refused_none : n ≤ output → 0 ≡ convert_refusal bs output
       refused_none h = sym (by-room ∙ output_none output n h)

@@ -18,7 +18,7 @@ use Rattle.tones.specs.declared.Rule.{Rule}
 use Rattle.colours.specs.Frames.{intensity, recolour}
 use Rattle.colours.specs.Calls.{intensity_refusal, Accepted, IntensityOutcome, RecolourOutcome}
 use Rattle.colours.proofs.Frames.{length_intensity}
-use Rattle.colours.proofs.Calls.{intensity-accepts, recolour-accepts, recolour-given}
+use Rattle.colours.proofs.Calls.{intensity_accepts, recolour_accepts, recolour_given}
 use Rattle.model.specs.declared.Pass.{Pass}
 use Rattle.tones.specs.Refusals.{rule_refusal}
 use Rattle.model.specs.Calls.{area_refusal, neighbour_refusal, numbers_refusal, pass_refusal, AllAccepted}
@@ -81,7 +81,7 @@ fine z frame plane marks queue output t e =
 frame_accepted : {z : Shape} {frame plane marks queue output : ℕ} {t : Settings}
     → Fine z frame plane marks queue output t → intensity_refusal z.w z.h frame plane ≡ 0
 frame_accepted {z} {frame} {plane} F =
-    intensity-accepts z.w z.h frame plane
+    intensity_accepts z.w z.h frame plane
     record { size = F.ready.lent.size; pixels = F.ready.lent.whole; channels = F.channels }
 
 -- ## The passes of an enhancement are accepted
@@ -138,7 +138,7 @@ as_listed : {z : Shape} {r : Counts} {frame plane marks queue output : ℕ} {t :
     → came p' r ≡ chain_effect (enhanced z p t.last t.area t.rule t.neighbours)
 as_listed {z} {t = t} {p} F whole R =
     R.model
-    ∙ sym (model.enhanced-recursion z t.last t.area t.rule t.neighbours p F.ready.last whole
+    ∙ sym (model.enhanced_recursion z t.last t.area t.rule t.neighbours p F.ready.last whole
     (fine_passes F))
 
 -- the intensity of an accepted frame has a byte for each pixel
@@ -151,7 +151,7 @@ pub chain_accepted : (z : Shape) (t : Settings) (frame plane marks queue output 
     → enhance_call_refusal z t frame plane marks queue output ≡ 0 → AllAccepted (chain_of z t frame).answers
 chain_accepted z t frame plane marks queue output taken =
     let F = fine z (length frame) (length plane) (length marks) (length queue) (length output) t taken in
-    model.enhanced-accepted z t.last t.area t.rule t.neighbours (intensity frame) (fine_length frame F)
+    model.enhanced_accepted z t.last t.area t.rule t.neighbours (intensity frame) (fine_length frame F)
     (fine_passes F)
 
 -- ## Outcomes
@@ -172,9 +172,9 @@ in-turn {z} {r} {t} {frame} {plane} {output = output} {plane₁} {plane'} F len�
     as_listed F (len₁ ∙ F.ready.lent.whole) R
     ∙ ap (λ (p : List ℕ). chain_effect (enhanced z p t.last t.area t.rule t.neighbours)) intensities in
     let plane-same : plane' ≡ (chain_of z t frame).plane = ap (λ (e : Effect). e.plane) same in
-    let accepts = recolour-accepts z.w z.h (length frame) (length plane') (length output)
+    let accepts = recolour_accepts z.w z.h (length frame) (length plane') (length output)
     (ap (intensity_refusal z.w z.h (length frame)) (len ∙ len₁) ∙ frame_accepted F) F.room in
-    let written = (recolour-given z.w z.h frame plane' output accepts C).1 in
+    let written = (recolour_given z.w z.h frame plane' output accepts C).1 in
     record {
       over = record {
         effect_is = same;

@@ -9,7 +9,7 @@ use Rattle.netpbm.specs.Reading.{maxval_refusal, raster_refusal, trailing_refusa
 use Rattle.printing.specs.Printing.{refusal_line}
 use Rattle.frames.specs.Program.{program_output}
 use Rattle.frames.specs.Examples.{ProgramRefusals}
-use Rattle.frames.proofs.Program.{long-output}
+use Rattle.frames.proofs.Program.{long_output}
 
 pub program_refusals : ProgramRefusals
 unfolding program_output refusal_line read_answer header header_with mark field gap pieces numeral
@@ -27,7 +27,7 @@ program_refusals = record {
   other_maxval = refl;
   short_raster = refl;
   long_raster = refl;
-  too_long = λ input long. long-output input long;
+  too_long = λ input long. long_output input long;
   longest = refl;
   longest_comment = refl;
 }

@@ -105,7 +105,7 @@ module _ (b : ℕ) where
   -- a byte that stops the reader
   pub record Stopped : Type 0 where
     pub no_digit : is_digit b ≡ false
-    pub no-white : is_white b ≡ false
+    pub no_white : is_white b ≡ false
     pub no_sign : is_sign b ≡ false
 
   pub stopped : move_for b ≡ Stop → Stopped
@@ -116,4 +116,4 @@ module _ (b : ℕ) where
       go true t u d w n h = let clash : ◌≡◌ {A = ℕ} 0 1 = cc in absurd (omega arith)
       go false true u d w n h = let clash : ◌≡◌ {A = ℕ} 0 1 = cc in absurd (omega arith)
       go false false true d w n h = let clash : ◌≡◌ {A = ℕ} 0 1 = cc in absurd (omega arith)
-      go false false false d w n h = record { no_digit = d; no-white = w; no_sign = n }
+      go false false false d w n h = record { no_digit = d; no_white = w; no_sign = n }

@@ -16,15 +16,15 @@ pub record Passed (size n : ℕ) (p : Parsed (Unit {0})) : Type 0 where
   pub place : n ≡ size - length rest
 
 module _ (size : ℕ) (p : Parsed (Unit {0})) where
-  pub unended-failed : gap_end_at size p ≡ Unended → p ≡ failed
-  unended-failed e = go p e
+  pub unended_failed : gap_end_at size p ≡ Unended → p ≡ failed
+  unended_failed e = go p e
     where
       go : (q : Parsed (Unit {0})) → gap_end_at size q ≡ Unended → q ≡ failed
       go failed h = refl
       go (parsed u rest) h = let clash : ◌≡◌ {A = ℕ} 0 1 = cc in absurd (omega arith)
 
-  pub at-passed : (n : ℕ) → gap_end_at size p ≡ At n → Passed size n p
-  at-passed n e = go p e
+  pub at_passed : (n : ℕ) → gap_end_at size p ≡ At n → Passed size n p
+  at_passed n e = go p e
     where
       go : (q : Parsed (Unit {0})) → gap_end_at size q ≡ At n → Passed size n q
       go failed h = let clash : ◌≡◌ {A = ℕ} 0 1 = cc in absurd (omega arith)

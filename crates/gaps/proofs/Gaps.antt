@@ -17,42 +17,42 @@ use lib.ListN.{length}
 use borrow.Author.Tests.{not-true}
 use Rattle.planes.specs.Lists.{every}
 use Rattle.planes.proofs.Tests.{or_none}
-use Rattle.planes.proofs.Lists.{every_append, every-parts}
+use Rattle.planes.proofs.Lists.{every_append, every_parts}
 use Rattle.texts.specs.Ascii.{is_digit}
 use Rattle.gaps.specs.Bytes.{is_white, is_sign, not_sign, ends_comment}
 use Rattle.gaps.specs.Parsers.{failed, parsed, take_while}
-use Rattle.gaps.specs.Gaps.{is_text, Piece, white, comment, Gap, one, more, pieces, commentThen, begun, gap}
+use Rattle.gaps.specs.Gaps.{is_text, Piece, white, comment, Gap, one, more, pieces, comment_and_then, begun, gap}
 use Rattle.gaps.proofs.Bytes.{white_not_digit, digit_not_white, digit_not_sign}
 use Rattle.gaps.proofs.Bytes.{sign_is, sign_not_digit}
 
 -- ## One byte
 
 module _ (b : ℕ) (bytes : List ℕ) where
-  pub pieces-white : is_white b ≡ true → pieces (b ∷ bytes) ≡ pieces bytes
+  pub pieces_white : is_white b ≡ true → pieces (b ∷ bytes) ≡ pieces bytes
   unfolding pieces
-  pieces-white e = rw e
+  pieces_white e = rw e
 
-  pub pieces-sign : is_white b ≡ false → is_sign b ≡ true → pieces (b ∷ bytes) ≡ commentThen bytes
+  pub pieces_sign : is_white b ≡ false → is_sign b ≡ true → pieces (b ∷ bytes) ≡ comment_and_then bytes
   unfolding pieces
-  pieces-sign d e = rw (d, e)
+  pieces_sign d e = rw (d, e)
 
-  pub pieces-stop : is_white b ≡ false → is_sign b ≡ false → pieces (b ∷ bytes) ≡ parsed tt (b ∷ bytes)
+  pub pieces_stop : is_white b ≡ false → is_sign b ≡ false → pieces (b ∷ bytes) ≡ parsed tt (b ∷ bytes)
   unfolding pieces
-  pieces-stop d e = rw (d, e)
+  pieces_stop d e = rw (d, e)
 
-  pub comment-end : ends_comment b ≡ true → commentThen (b ∷ bytes) ≡ pieces bytes
+  pub comment_end : ends_comment b ≡ true → comment_and_then (b ∷ bytes) ≡ pieces bytes
   unfolding pieces
-  comment-end e = rw e
+  comment_end e = rw e
 
-  pub comment-text : ends_comment b ≡ false → commentThen (b ∷ bytes) ≡ commentThen bytes
+  pub comment_text : ends_comment b ≡ false → comment_and_then (b ∷ bytes) ≡ comment_and_then bytes
   unfolding pieces
-  comment-text e = rw e
+  comment_text e = rw e
 
 pub pieces_none : pieces [] ≡ parsed tt []
 unfolding pieces
 pieces_none = refl
 
-pub comment_unended : commentThen [] ≡ failed
+pub comment_unended : comment_and_then [] ≡ failed
 unfolding pieces
 comment_unended = refl
 
@@ -67,17 +67,17 @@ unfolding is_sign
 sign_sign = refl
 
 comment_taken : (text : List ℕ) (end : ℕ) (t : List ℕ) → every is_text text ≡ true → ends_comment end ≡ true
-    → commentThen (text ++ (end ∷ t)) ≡ pieces t
-comment_taken [] end t e d = comment-end end t d
+    → comment_and_then (text ++ (end ∷ t)) ≡ pieces t
+comment_taken [] end t e d = comment_end end t d
 comment_taken (b ∷ text) end t e d =
     let here : ends_comment b ≡ false = not-true (ends_comment b) (and_elim_left (is_text b) (every is_text text) e) in
-    comment-text b (text ++ (end ∷ t)) here
+    comment_text b (text ++ (end ∷ t)) here
     ∙ comment_taken text end t (and_elim_right (is_text b) (every is_text text) e) d
 
 piece_taken : {p : List ℕ} → Piece p → (t : List ℕ) → pieces (p ++ t) ≡ pieces t
-piece_taken (white {b} e) t = pieces-white b t e
+piece_taken (white {b} e) t = pieces_white b t e
 piece_taken (comment text end e d) t =
-    pieces-sign 35 ((text ++ (end ∷ [])) ++ t) sign_white sign_sign
+    pieces_sign 35 ((text ++ (end ∷ [])) ++ t) sign_white sign_sign
     ∙ rw append_assoc (comment_taken text end t e d)
 
 gap_taken : {s : List ℕ} → Gap s → (t : List ℕ) → pieces (s ++ t) ≡ pieces t
@@ -126,7 +126,7 @@ gap_accepts {s} g t =
 
 -- before a digit there is none
 pub no_pieces : (b : ℕ) (bytes : List ℕ) → is_digit b ≡ true → pieces (b ∷ bytes) ≡ parsed tt (b ∷ bytes)
-no_pieces b bytes e = pieces-stop b bytes (digit_not_white b e) (digit_not_sign b e)
+no_pieces b bytes e = pieces_stop b bytes (digit_not_white b e) (digit_not_sign b e)
 
 -- ## From the parsers to the parts
 
@@ -167,13 +167,13 @@ comment_then b bytes rest sign c =
 module _ (b : ℕ) (bytes rest : List ℕ) where
   -- where a piece begins the bytes, by what follows its first byte
   split-begun : begun (b ∷ bytes) ≡ true → (pieces bytes ≡ parsed tt rest → Split bytes rest)
-      → (commentThen bytes ≡ parsed tt rest → CommentSplit bytes rest)
+      → (comment_and_then bytes ≡ parsed tt rest → CommentSplit bytes rest)
       → pieces (b ∷ bytes) ≡ parsed tt rest → GapSplit (b ∷ bytes) rest
   split-begun begins after-white after-sign e = go (is_white b) (is_sign b) refl refl begins
     where
       go : (s t : Bool) → is_white b ≡ s → is_sign b ≡ t → (s || t) ≡ true → GapSplit (b ∷ bytes) rest
-      go true t d f h = piece_then (white d) (after-white (sym (pieces-white b bytes d) ∙ e))
-      go false true d f h = comment_then b bytes rest (sign_is b f) (after-sign (sym (pieces-sign b bytes d f) ∙ e))
+      go true t d f h = piece_then (white d) (after-white (sym (pieces_white b bytes d) ∙ e))
+      go false true d f h = comment_then b bytes rest (sign_is b f) (after-sign (sym (pieces_sign b bytes d f) ∙ e))
       go false false d f h = absurd (false≢true h)
 
 mutual
@@ -183,14 +183,14 @@ mutual
       go (begun (b ∷ bytes)) refl (λ h. split-pieces bytes rest h) (λ h. split-comment bytes rest h)
     where
       go : (t : Bool) → begun (b ∷ bytes) ≡ t → (pieces bytes ≡ parsed tt rest → Split bytes rest)
-          → (commentThen bytes ≡ parsed tt rest → CommentSplit bytes rest) → Split (b ∷ bytes) rest
+          → (comment_and_then bytes ≡ parsed tt rest → CommentSplit bytes rest) → Split (b ∷ bytes) rest
       go true d after-white after-sign = inr (split-begun b bytes rest d after-white after-sign e)
       go false d after-white after-sign =
           let neither = or_none (is_white b) (is_sign b) d in
-          let same = sym (pieces-stop b bytes neither.0 neither.1) ∙ e in
+          let same = sym (pieces_stop b bytes neither.0 neither.1) ∙ e in
           inl (cc)
 
-  split-comment : (bytes rest : List ℕ) → commentThen bytes ≡ parsed tt rest → CommentSplit bytes rest
+  split-comment : (bytes rest : List ℕ) → comment_and_then bytes ≡ parsed tt rest → CommentSplit bytes rest
   split-comment [] rest e =
       let none = sym comment_unended ∙ e in
       let clash : ◌≡◌ {A = ℕ} 0 1 = cc in
@@ -199,7 +199,7 @@ mutual
       go (ends_comment b) refl (λ h. split-pieces bytes rest h) (λ h. split-comment bytes rest h)
     where
       go : (t : Bool) → ends_comment b ≡ t → (pieces bytes ≡ parsed tt rest → Split bytes rest)
-          → (commentThen bytes ≡ parsed tt rest → CommentSplit bytes rest) → CommentSplit (b ∷ bytes) rest
+          → (comment_and_then bytes ≡ parsed tt rest → CommentSplit bytes rest) → CommentSplit (b ∷ bytes) rest
       go true d after-end after_text = record {
         text = [];
         end = b;
@@ -207,10 +207,10 @@ mutual
         is = refl;
         text_is = refl;
         end_is = d;
-        then = after-end (sym (comment-end b bytes d) ∙ e);
+        then = after-end (sym (comment_end b bytes d) ∙ e);
       }
       go false d after-end after_text =
-          let c = after_text (sym (comment-text b bytes d) ∙ e) in
+          let c = after_text (sym (comment_text b bytes d) ∙ e) in
           record {
             text = b ∷ c.text;
             end = c.end;
@@ -241,7 +241,7 @@ piece_white (comment text end e d) h = absurd (false≢true h)
 pub gap_spaces : {s : List ℕ} → Gap s → every not_sign s ≡ true → every is_white s ≡ true
 gap_spaces (one p) h = piece_white p h
 gap_spaces (more {p} {s} first rest) h =
-    let both = every-parts not_sign p s h in
+    let both = every_parts not_sign p s h in
     every_append is_white p s (piece_white first both.0) (gap_spaces rest both.1)
 
 -- whitespace is a gap

@@ -136,9 +136,9 @@ module _ (f : ℕ → Bool) where
       let test : f x ≡ true = and_elim_left (f x) (every f s) e in
       (rw test (ap (λ (l : List ℕ). x ∷ l) rest.0), rw test rest.1)
 
-  pub while-stops : (s t : List ℕ) → every f s ≡ true → take_while f t ≡ []
+  pub while_stops : (s t : List ℕ) → every f s ≡ true → take_while f t ≡ []
       → (take_while f (s ++ t) ≡ s) × (drop_while f (s ++ t) ≡ t)
-  while-stops s t e none =
+  while_stops s t e none =
       let both = while-append s t e in
       let taken = both.0 ∙ ap (λ (l : List ℕ). s ++ l) none ∙ append-nil s in
       (taken, both.1 ∙ while_none f t none)
@@ -169,17 +169,17 @@ module _ (f : ℕ → Bool) (xs : List ℕ) (i : ℕ) where
   none_end h = rw (drop_of_length-le xs h)
 
   -- one byte that passes the test
-  pub one-here : i < length xs → succeeded (one_byte f (drop i xs)) ≡ f (at xs i)
-  one-here h = rw (drop_here xs i h) (passed_test (f (at xs i)) (drop (i + 1) xs))
+  pub one_here : i < length xs → succeeded (one_byte f (drop i xs)) ≡ f (at xs i)
+  one_here h = rw (drop_here xs i h) (passed_test (f (at xs i)) (drop (i + 1) xs))
 
   pub one_end : length xs ≤ i → succeeded (one_byte f (drop i xs)) ≡ false
   one_end h = rw (drop_of_length-le xs h)
 
-  pub one-within : succeeded (one_byte f (drop i xs)) ≡ true → i < length xs
-  one-within e = ⊎_elim (λ h. h) (λ h. absurd (false≢true (sym (one_end h) ∙ e))) (less_or_not i (length xs))
+  pub one_within : succeeded (one_byte f (drop i xs)) ≡ true → i < length xs
+  one_within e = ⊎_elim (λ h. h) (λ h. absurd (false≢true (sym (one_end h) ∙ e))) (less_or_not i (length xs))
 
-  pub one-rest : succeeded (one_byte f (drop i xs)) ≡ true → one_byte f (drop i xs) ≡ parsed tt (drop (i + 1) xs)
-  one-rest e =
-      let within = one-within e in
-      let test : f (at xs i) ≡ true = sym (one-here within) ∙ e in
+  pub one_rest : succeeded (one_byte f (drop i xs)) ≡ true → one_byte f (drop i xs) ≡ parsed tt (drop (i + 1) xs)
+  one_rest e =
+      let within = one_within e in
+      let test : f (at xs i) ≡ true = sym (one_here within) ∙ e in
       rw (drop_here xs i within, test)

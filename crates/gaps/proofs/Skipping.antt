@@ -12,15 +12,15 @@ use lib.ListN.{length, drop, drop_of_length-le, length-drop}
 use Rattle.planes.specs.Lists.{at}
 use Rattle.gaps.specs.Bytes.{ends_comment, move_for}
 use Rattle.gaps.specs.Parsers.{Parsed, failed, parsed, next}
-use Rattle.gaps.specs.Gaps.{pieces, commentThen}
+use Rattle.gaps.specs.Gaps.{pieces, comment_and_then}
 use Rattle.gaps.specs.Cursors.{rest_of_comment, gap_end_at}
 use Rattle.gaps.specs.declared.Move.TheVariants.{Take, Skip, Comment, Stop}
 use Rattle.gaps.specs.declared.GapEnd.TheVariants.{At, Unended}
 use Rattle.gaps.proofs.Bytes.{taken, skipped, opened, stopped}
 use Rattle.gaps.proofs.Parsers.{drop_here, Suffix, suffix_of_suffix, suffix_place}
-use Rattle.gaps.proofs.Ends.{unended-failed, at-passed, ends_at}
-use Rattle.gaps.proofs.Gaps.{pieces-white, pieces-sign, pieces-stop, pieces_none, no_pieces}
-use Rattle.gaps.proofs.Gaps.{comment-end, comment-text, comment_unended}
+use Rattle.gaps.proofs.Ends.{unended_failed, at_passed, ends_at}
+use Rattle.gaps.proofs.Gaps.{pieces_white, pieces_sign, pieces_stop, pieces_none, no_pieces}
+use Rattle.gaps.proofs.Gaps.{comment_end, comment_text, comment_unended}
 
 -- ## The rest of a comment
 
@@ -38,14 +38,14 @@ unfolding rest_of_comment
 rest_none = refl
 
 -- after it the parsers go on with pieces
-rest_then : (bytes : List ℕ) → commentThen bytes ≡ next (rest_of_comment bytes) (λ (u : Unit {0}). pieces)
+rest_then : (bytes : List ℕ) → comment_and_then bytes ≡ next (rest_of_comment bytes) (λ (u : Unit {0}). pieces)
 rest_then [] = rw (comment_unended, rest_none)
 rest_then (b ∷ bytes) = go (ends_comment b) refl (rest_then bytes)
   where
-    go : (t : Bool) → ends_comment b ≡ t → commentThen bytes ≡ next (rest_of_comment bytes) (λ (u : Unit {0}). pieces)
-        → commentThen (b ∷ bytes) ≡ next (rest_of_comment (b ∷ bytes)) (λ (u : Unit {0}). pieces)
-    go true e h = rw (comment-end b bytes e, rest_end b bytes e)
-    go false e h = rw (comment-text b bytes e, rest-text b bytes e) h
+    go : (t : Bool) → ends_comment b ≡ t → comment_and_then bytes ≡ next (rest_of_comment bytes) (λ (u : Unit {0}). pieces)
+        → comment_and_then (b ∷ bytes) ≡ next (rest_of_comment (b ∷ bytes)) (λ (u : Unit {0}). pieces)
+    go true e h = rw (comment_end b bytes e, rest_end b bytes e)
+    go false e h = rw (comment_text b bytes e, rest-text b bytes e) h
 
 -- it leaves less than all
 record Left (bytes rest : List ℕ) : Type 0 where
@@ -78,14 +78,14 @@ pub record AfterComment (bytes : List ℕ) (from n : ℕ) : Type 0 where
   pub within : n ≤ length bytes
 
 module _ (bytes : List ℕ) (from : ℕ) where
-  pub comment-lost : gap_end_at (length bytes) (rest_of_comment (drop from bytes)) ≡ Unended
+  pub comment_lost : gap_end_at (length bytes) (rest_of_comment (drop from bytes)) ≡ Unended
       → rest_of_comment (drop from bytes) ≡ failed
-  comment-lost e = unended-failed (length bytes) (rest_of_comment (drop from bytes)) e
+  comment_lost e = unended_failed (length bytes) (rest_of_comment (drop from bytes)) e
 
-  pub comment-passed : (n : ℕ) → gap_end_at (length bytes) (rest_of_comment (drop from bytes)) ≡ At n
+  pub comment_passed : (n : ℕ) → gap_end_at (length bytes) (rest_of_comment (drop from bytes)) ≡ At n
       → from ≤ length bytes → AfterComment bytes from n
-  comment-passed n e within =
-      let p = at-passed (length bytes) (rest_of_comment (drop from bytes)) n e in
+  comment_passed n e within =
+      let p = at_passed (length bytes) (rest_of_comment (drop from bytes)) n e in
       let place = p.place in
       let left = rest_left (drop from bytes) p.rest p.is in
       let less = left.less in
@@ -112,14 +112,14 @@ module _ {bytes : List ℕ} {from i : ℕ} (s : Within bytes from i) where
   within_more h e =
       record { within = omega arith; left = in-text h ∙ rest-text (at bytes i) (drop (i + 1) bytes) e }
 
-  pub within-ends : i < length bytes → ends_comment (at bytes i) ≡ true
+  pub within_ends : i < length bytes → ends_comment (at bytes i) ≡ true
       → At (i + 1) ≡ gap_end_at (length bytes) (rest_of_comment (drop from bytes))
-  within-ends h e =
+  within_ends h e =
       ends_at bytes (rest_of_comment (drop from bytes)) (i + 1) (omega arith)
       (in-text h ∙ rest_end (at bytes i) (drop (i + 1) bytes) e)
 
-  pub within-unended : length bytes ≤ i → Unended ≡ gap_end_at (length bytes) (rest_of_comment (drop from bytes))
-  within-unended h =
+  pub within_unended : length bytes ≤ i → Unended ≡ gap_end_at (length bytes) (rest_of_comment (drop from bytes))
+  within_unended h =
       let none : drop i bytes ≡ [] = drop_of_length-le bytes h in
       rw (s.left, none, rest_none)
 
@@ -137,46 +137,46 @@ module _ {bytes : List ℕ} {from i : ℕ} (s : Skipping bytes from i) where
   here : i < length bytes → pieces (drop from bytes) ≡ pieces (at bytes i ∷ drop (i + 1) bytes)
   here h = s.left ∙ ap pieces (drop_here bytes i h)
 
-  pub skipping-white : i < length bytes → move_for (at bytes i) ≡ Skip → Skipping bytes from (i + 1)
-  skipping-white h e =
+  pub skipping_white : i < length bytes → move_for (at bytes i) ≡ Skip → Skipping bytes from (i + 1)
+  skipping_white h e =
       let white = skipped (at bytes i) e in
-      record { within = omega arith; left = here h ∙ pieces-white (at bytes i) (drop (i + 1) bytes) white }
+      record { within = omega arith; left = here h ∙ pieces_white (at bytes i) (drop (i + 1) bytes) white }
 
   -- a comment is what is left of it after its number sign, and then pieces
   in-comment : i < length bytes → move_for (at bytes i) ≡ Comment
       → pieces (drop from bytes) ≡ next (rest_of_comment (drop (i + 1) bytes)) (λ (u : Unit {0}). pieces)
   in-comment h e =
       let sign = opened (at bytes i) e in
-      here h ∙ pieces-sign (at bytes i) (drop (i + 1) bytes) sign.0 sign.1 ∙ rest_then (drop (i + 1) bytes)
+      here h ∙ pieces_sign (at bytes i) (drop (i + 1) bytes) sign.0 sign.1 ∙ rest_then (drop (i + 1) bytes)
 
-  pub skipping-comment : (n : ℕ) → i < length bytes → move_for (at bytes i) ≡ Comment
+  pub skipping_comment : (n : ℕ) → i < length bytes → move_for (at bytes i) ≡ Comment
       → AfterComment bytes (i + 1) n → Skipping bytes from n
-  skipping-comment n h e after =
+  skipping_comment n h e after =
       let left = ap (λ (p : Parsed (Unit {0})). next p (λ (u : Unit {0}). pieces)) after.left in
       record { within = after.within; left = in-comment h e ∙ left }
 
-  pub skipping-unended : i < length bytes → move_for (at bytes i) ≡ Comment
+  pub skipping_unended : i < length bytes → move_for (at bytes i) ≡ Comment
       → rest_of_comment (drop (i + 1) bytes) ≡ failed
       → Unended ≡ gap_end_at (length bytes) (pieces (drop from bytes))
-  skipping-unended h e lost = rw (in-comment h e, lost)
+  skipping_unended h e lost = rw (in-comment h e, lost)
 
   -- the place i, where the parser leaves all from i on
   ends-here : pieces (drop i bytes) ≡ parsed tt (drop i bytes)
       → At i ≡ gap_end_at (length bytes) (pieces (drop from bytes))
   ends-here e = ends_at bytes (pieces (drop from bytes)) i s.within (s.left ∙ e)
 
-  pub skipping-take : (digit : ℕ) → i < length bytes → move_for (at bytes i) ≡ Take digit
+  pub skipping_take : (digit : ℕ) → i < length bytes → move_for (at bytes i) ≡ Take digit
       → At i ≡ gap_end_at (length bytes) (pieces (drop from bytes))
-  skipping-take digit h e =
+  skipping_take digit h e =
       let is_digit = (taken (at bytes i) digit e).digit_is in
       ends-here (rw (drop_here bytes i h) (no_pieces (at bytes i) (drop (i + 1) bytes) is_digit))
 
-  pub skipping-stop : i < length bytes → move_for (at bytes i) ≡ Stop
+  pub skipping_stop : i < length bytes → move_for (at bytes i) ≡ Stop
       → At i ≡ gap_end_at (length bytes) (pieces (drop from bytes))
-  skipping-stop h e =
+  skipping_stop h e =
       let none = stopped (at bytes i) e in
       ends-here
-      (rw (drop_here bytes i h) (pieces-stop (at bytes i) (drop (i + 1) bytes) none.no-white none.no_sign))
+      (rw (drop_here bytes i h) (pieces_stop (at bytes i) (drop (i + 1) bytes) none.no_white none.no_sign))
 
-  pub skipping-ends : length bytes ≤ i → At i ≡ gap_end_at (length bytes) (pieces (drop from bytes))
-  skipping-ends h = ends-here (rw (drop_of_length-le bytes h) pieces_none)
+  pub skipping_ends : length bytes ≤ i → At i ≡ gap_end_at (length bytes) (pieces (drop from bytes))
+  skipping_ends h = ends-here (rw (drop_of_length-le bytes h) pieces_none)

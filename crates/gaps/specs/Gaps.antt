@@ -6,7 +6,7 @@
 --
 -- As parsers:
 --   pieces        zero or more pieces, up to the first byte that begins none; fails where a comment does not end
---   commentThen   what is left of a comment that has begun, and then zero or more pieces
+--   comment_and_then   what is left of a comment that has begun, and then zero or more pieces
 --   gap           one or more pieces
 use Rattle.std.specs.Prelude.{ℕ, ◌≡◌, Bool, true, false, not, ◌||◌, cond, List, [], ◌∷◌, ◌++◌}
 use Rattle.planes.specs.Lists.{every}
@@ -30,11 +30,11 @@ unfoldable mutual
   pub pieces : Parser (Unit {0})
   pieces [] = parsed tt []
   pieces (b ∷ bytes) =
-      cond (is_white b) (pieces bytes) (cond (is_sign b) (commentThen bytes) (parsed tt (b ∷ bytes)))
+      cond (is_white b) (pieces bytes) (cond (is_sign b) (comment_and_then bytes) (parsed tt (b ∷ bytes)))
 
-  pub commentThen : Parser (Unit {0})
-  commentThen [] = failed
-  commentThen (b ∷ bytes) = cond (ends_comment b) (pieces bytes) (commentThen bytes)
+  pub comment_and_then : Parser (Unit {0})
+  comment_and_then [] = failed
+  comment_and_then (b ∷ bytes) = cond (ends_comment b) (pieces bytes) (comment_and_then bytes)
 
 -- a piece begins the bytes, whole or not
 abbrev pub begun : List ℕ → Bool

@@ -14,17 +14,17 @@ use Rattle.gaps.proofs.Parsers.{suffix_of_suffix, suffix_place}
 use Rattle.headers.proofs.Grammar.{field_suffix, header_passed, header_suffix}
 
 module _ (bytes : List ℕ) (from : ℕ) where
-  pub field-lost : number_at (length bytes) (field gap (drop from bytes)) ≡ Malformed
+  pub field_lost : number_at (length bytes) (field gap (drop from bytes)) ≡ Malformed
       → field gap (drop from bytes) ≡ failed
-  field-lost e = go (field gap (drop from bytes)) e
+  field_lost e = go (field gap (drop from bytes)) e
     where
       go : (p : Parsed ℕ) → number_at (length bytes) p ≡ Malformed → p ≡ failed
       go failed h = refl
       go (parsed v rest) h = let clash : ◌≡◌ {A = ℕ} 0 1 = cc in absurd (omega arith)
 
-  pub field-read : (v n : ℕ) → number_at (length bytes) (field gap (drop from bytes)) ≡ Read v n
+  pub field_read : (v n : ℕ) → number_at (length bytes) (field gap (drop from bytes)) ≡ Read v n
       → (field gap (drop from bytes) ≡ parsed v (drop n bytes)) × (n ≤ length bytes)
-  field-read v n e = go (field gap (drop from bytes)) refl e
+  field_read v n e = go (field gap (drop from bytes)) refl e
     where
       go : (p : Parsed ℕ) → field gap (drop from bytes) ≡ p → number_at (length bytes) p ≡ Read v n
           → (field gap (drop from bytes) ≡ parsed v (drop n bytes)) × (n ≤ length bytes)
@@ -37,8 +37,8 @@ module _ (bytes : List ℕ) (from : ℕ) where
           (d ∙ rw (same, there), omega arith)
 
 module _ (bytes : List ℕ) where
-  pub header-lost : fields_at (length bytes) (header bytes) ≡ Broken → header bytes ≡ failed
-  header-lost e = go (header bytes) e
+  pub header_lost : fields_at (length bytes) (header bytes) ≡ Broken → header bytes ≡ failed
+  header_lost e = go (header bytes) e
     where
       go : (p : Parsed Numbers) → fields_at (length bytes) p ≡ Broken → p ≡ failed
       go failed h = refl

@@ -56,13 +56,13 @@ mark_rest (x ∷ y ∷ xs) e = (go (eqb x 80) (eqb y 54) refl e, omega arith)
 
 -- a number after what another parser takes
 module _ (before : Parser (Unit {0})) (bytes : List ℕ) where
-  pub field-absent : before bytes ≡ failed → field before bytes ≡ failed
+  pub field_absent : before bytes ≡ failed → field before bytes ≡ failed
   unfolding field
-  field-absent e = rw e
+  field_absent e = rw e
 
-  pub field-present : (rest : List ℕ) → before bytes ≡ parsed tt rest → field before bytes ≡ numeral rest
+  pub field_present : (rest : List ℕ) → before bytes ≡ parsed tt rest → field before bytes ≡ numeral rest
   unfolding field
-  field-present rest e = rw e
+  field_present rest e = rw e
 
 -- a number that passes: its digits, and what they leave
 pub record Digits (bytes : List ℕ) (v : ℕ) (rest : List ℕ) : Type 0 where

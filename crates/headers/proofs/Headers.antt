@@ -5,7 +5,7 @@
 --   header_iff       both
 --
 -- The first two hold with any parser of what stands before the numbers that takes the header's gaps, and nothing but
--- gaps (`header-accepts-with`, `header-parts-with`).
+-- gaps (`header_accepts_with`, `header_parts_with`).
 --
 -- Assumes nothing.
 use Prim.Native.Nat.{ℕ}
@@ -24,9 +24,9 @@ use Rattle.gaps.specs.Gaps.{Gap, gap}
 use Rattle.headers.specs.Grammar.{mark, numeral, field, Numbers, header_with, header}
 use Rattle.headers.specs.Headers.{IsHeader}
 use Rattle.gaps.proofs.Bytes.{white_not_digit}
-use Rattle.gaps.proofs.Parsers.{some_present, while-stops, run_splits}
+use Rattle.gaps.proofs.Parsers.{some_present, while_stops, run_splits}
 use Rattle.gaps.proofs.Gaps.{GapSplit, gap_splits, gap_accepts, gap_no_digit, no_pieces}
-use Rattle.headers.proofs.Grammar.{Field, Parts, field-present, header_passed}
+use Rattle.headers.proofs.Grammar.{Field, Parts, field_present, header_passed}
 
 -- ## From the parts to the grammar
 
@@ -34,7 +34,7 @@ number_accepts : {x : ℕ} {s : List ℕ} → Numeral x s → (t : List ℕ) →
     → numeral (s ++ t) ≡ parsed x t
 unfolding numeral
 number_accepts {x} {s} n t none =
-    let stops = while-stops is_digit s t n.digits none in
+    let stops = while_stops is_digit s t n.digits none in
     rw (stops.0, stops.1, some_present s t n.present, le-leb (length s) 6 n.few)
     (ap (λ (v : ℕ). parsed v t) n.value_is)
 
@@ -51,13 +51,13 @@ module _ (before : Parser (Unit {0})) where
   field-accepts s {d = []} takes n t none = let some = n.present in absurd (omega arith)
   field-accepts s {d = b ∷ d} takes n t none =
       let digit : is_digit b ≡ true = and_elim_left (is_digit b) (every is_digit d) n.digits in
-      field-present before (s ++ (b ∷ (d ++ t))) (b ∷ (d ++ t)) (takes b (d ++ t) digit) ∙ number_accepts n t none
+      field_present before (s ++ (b ∷ (d ++ t))) (b ∷ (d ++ t)) (takes b (d ++ t) digit) ∙ number_accepts n t none
 
-  pub header-accepts-with : {bytes : List ℕ} {w h maxval : ℕ} {raster : List ℕ}
+  pub header_accepts_with : {bytes : List ℕ} {w h maxval : ℕ} {raster : List ℕ}
       (p : IsHeader bytes w h maxval raster) → Takes before p.gap₁ → Takes before p.gap₂ → Takes before p.gap₃
       → header_with before bytes ≡ parsed (record { width = w; height = h; maxval = maxval }) raster
   unfolding header_with mark
-  header-accepts-with {bytes} {w} {h} {maxval} {raster} p takes₁ takes₂ takes₃ =
+  header_accepts_with {bytes} {w} {h} {maxval} {raster} p takes₁ takes₂ takes₃ =
       let after_maxval = p.separator ∷ raster in
       let after-h = p.gap₃ ++ (p.maxval_digits ++ after_maxval) in
       let after-w = p.gap₂ ++ (p.h_digits ++ after-h) in
@@ -73,7 +73,7 @@ pub header_accepts : {bytes : List ℕ} {w h maxval : ℕ} {raster : List ℕ} �
     → header bytes ≡ parsed (record { width = w; height = h; maxval = maxval }) raster
 unfolding header
 header_accepts p =
-    header-accepts-with gap p (gap_taken p.gap₁_is) (gap_taken p.gap₂_is) (gap_taken p.gap₃_is)
+    header_accepts_with gap p (gap_taken p.gap₁_is) (gap_taken p.gap₂_is) (gap_taken p.gap₃_is)
 
 -- ## From the grammar to the parts
 
@@ -107,9 +107,9 @@ module _ (before : Parser (Unit {0})) (splits : Splits before) where
         };
       }
 
-  pub header-parts-with : {bytes : List ℕ} {n : Numbers} {raster : List ℕ} → Parts before bytes n raster
+  pub header_parts_with : {bytes : List ℕ} {n : Numbers} {raster : List ℕ} → Parts before bytes n raster
       → IsHeader bytes n.width n.height n.maxval raster
-  header-parts-with {bytes} {n} {raster} p =
+  header_parts_with {bytes} {n} {raster} p =
       let w = field-splits p.width_is in
       let h = field-splits p.height_is in
       let m = field-splits p.maxval_is in
@@ -139,7 +139,7 @@ module _ (before : Parser (Unit {0})) (splits : Splits before) where
 
 pub header_parts : {bytes : List ℕ} {n : Numbers} {raster : List ℕ} → Parts gap bytes n raster
     → IsHeader bytes n.width n.height n.maxval raster
-header_parts = header-parts-with gap gap_splits
+header_parts = header_parts_with gap gap_splits
 
 -- the grammar makes these numbers exactly of a header with them
 pub header_iff : (bytes : List ℕ) (n : Numbers) (raster : List ℕ)

@@ -58,18 +58,18 @@ module _ (bytes : List ℕ) (i k v : ℕ) where
       rw (drop_here bytes i h, e, counted)
 
   -- a seventh digit
-  pub number-long : i < length bytes → is_digit (at bytes i) ≡ true → number_after 6 v (drop i bytes) ≡ failed
+  pub number_long : i < length bytes → is_digit (at bytes i) ≡ true → number_after 6 v (drop i bytes) ≡ failed
   unfolding number_after
-  number-long h e =
+  number_long h e =
       let digits = take_while is_digit (drop i bytes) in
       let some : digits ≡ at bytes i ∷ take_while is_digit (drop (i + 1) bytes) = rw (drop_here bytes i h, e) in
       too_many (6 + length digits) (value_after v digits) (drop_while is_digit (drop i bytes)) (rw some (omega arith))
 
   -- the number ends where no digit follows
-  pub number-ends : i ≤ length bytes → k ≤ 6 → take_while is_digit (drop i bytes) ≡ []
+  pub number_ends : i ≤ length bytes → k ≤ 6 → take_while is_digit (drop i bytes) ≡ []
       → number_at (length bytes) (number_after k v (drop i bytes)) ≡ ended_number k v i
   unfolding number_after
-  number-ends h few e = rw (e, while_none is_digit (drop i bytes) e, add-zero k) (go k few)
+  number_ends h few e = rw (e, while_none is_digit (drop i bytes) e, add-zero k) (go k few)
     where
       go : (k : ℕ) → k ≤ 6 → number_at (length bytes) (number_of k v (drop i bytes)) ≡ ended_number k v i
       go zero few = refl
@@ -95,9 +95,9 @@ module _ {bytes : List ℕ} {from i k v : ℕ} (r : Reading bytes from i k v) wh
       let below = r.small in
       omega arith
 
-  pub reading-more : (digit : ℕ) → i < length bytes → Taken (at bytes i) digit → (k ≡ 6 → ⊥)
+  pub reading_more : (digit : ℕ) → i < length bytes → Taken (at bytes i) digit → (k ≡ 6 → ⊥)
       → Reading bytes from (i + 1) (k + 1) (10 * v + digit)
-  reading-more digit h t not-six =
+  reading_more digit h t not-six =
       let few = r.few in
       let below = r.small in
       let power : 10 ^ (k + 1) ≡ 10 ^ k * 10 = rw (add-one k) (pow-suc 10 k) in
@@ -109,12 +109,12 @@ module _ {bytes : List ℕ} {from i k v : ℕ} (r : Reading bytes from i k v) wh
         left = r.left ∙ rw t.value_is (number_more bytes i k v h t.digit_is);
       }
 
-  pub reading-ends : take_while is_digit (drop i bytes) ≡ []
+  pub reading_ends : take_while is_digit (drop i bytes) ≡ []
       → ended_number k v i ≡ number_at (length bytes) (numeral (drop from bytes))
-  reading-ends e = rw r.left (sym (number-ends bytes i k v r.within r.few e))
+  reading_ends e = rw r.left (sym (number_ends bytes i k v r.within r.few e))
 
-  pub reading-long : i < length bytes → is_digit (at bytes i) ≡ true → k ≡ 6
+  pub reading_long : i < length bytes → is_digit (at bytes i) ≡ true → k ≡ 6
       → Malformed ≡ number_at (length bytes) (numeral (drop from bytes))
-  reading-long h e six =
-      let long : number_after k v (drop i bytes) ≡ failed = rw six (number-long bytes i k v h e) in
+  reading_long h e six =
+      let long : number_after k v (drop i bytes) ≡ failed = rw six (number_long bytes i k v h e) in
       rw (r.left, long)

@@ -13,12 +13,12 @@ use native.Mathlib.Omega.{arith}
 use lib.ListN.{length, take, length-append}
 use lib.Seq.{take-append_seam}
 use Rattle.planes.specs.Lists.{every}
-use Rattle.planes.proofs.Lists.{every_both, every_append, every-parts}
+use Rattle.planes.proofs.Lists.{every_both, every_append, every_parts}
 use Rattle.gaps.specs.Bytes.{is_white, is_sign, not_sign}
 use Rattle.gaps.specs.Parsers.{Parsed, failed, parsed, take_while, take_while1}
 use Rattle.gaps.specs.Gaps.{Gap, gap}
 use Rattle.gaps.proofs.Bytes.{digit_not_white, digit_not_sign, white_not_sign}
-use Rattle.gaps.proofs.Parsers.{next_passed, Run, run_passed, some_present, while-stops, run_splits}
+use Rattle.gaps.proofs.Parsers.{next_passed, Run, run_passed, some_present, while_stops, run_splits}
 use Rattle.gaps.proofs.Gaps.{gap_spaces, spaces_gap}
 use Rattle.gaps.proofs.Cursors.{gap_some}
 use Rattle.headers.specs.Grammar.{Numbers, header}
@@ -26,7 +26,7 @@ use Rattle.headers.specs.Headers.{IsHeader}
 use Rattle.headers.specs.Uncommented.{spaces, uncommented_header, signless, Uncommented}
 use Rattle.headers.proofs.Grammar.{Field, Parts, header_passed, header_passed_with}
 use Rattle.headers.proofs.Headers.{Takes, Splits}
-use Rattle.headers.proofs.Headers.{header_accepts, header-accepts-with, header_parts, header-parts-with}
+use Rattle.headers.proofs.Headers.{header_accepts, header_accepts_with, header_parts, header_parts_with}
 
 -- ## Whitespace alone
 
@@ -34,7 +34,7 @@ spaces_taken : {s : List ℕ} → Gap s → every is_white s ≡ true → Takes 
 unfolding spaces
 spaces_taken {s} g e b t digit =
     let none : take_while is_white (b ∷ t) ≡ [] = rw (digit_not_white b digit) in
-    let stops = while-stops is_white s (b ∷ t) e none in
+    let stops = while_stops is_white s (b ∷ t) e none in
     rw (stops.0, stops.1, some_present s (b ∷ t) (gap_some g))
 
 spaces_splits : Splits spaces
@@ -54,7 +54,7 @@ spaces_splits bytes rest e =
 before_header : (bytes : List ℕ) (n : Numbers) (raster : List ℕ) → uncommented_header bytes ≡ parsed n raster
     → IsHeader bytes n.width n.height n.maxval raster
 unfolding uncommented_header
-before_header bytes n raster e = header-parts-with spaces spaces_splits (header_passed_with spaces bytes n raster e)
+before_header bytes n raster e = header_parts_with spaces spaces_splits (header_passed_with spaces bytes n raster e)
 
 -- ## A header with no number sign
 
@@ -80,12 +80,12 @@ spaced {bytes} {raster = raster} p e =
     let whole : bytes ≡ head ++ raster = p.parts ∙ simp append_assoc in
     let is-head : take (length bytes - length raster) bytes ≡ head =
     ap (λ (l : List ℕ). take (length l - length raster) l) whole ∙ before_rest head raster in
-    let plain₁ = (every-parts not_sign (80 ∷ 54 ∷ []) after₁ (sym (ap (every not_sign) is-head) ∙ e)).1 in
-    let first = every-parts not_sign p.gap₁ (p.w_digits ++ after₂) plain₁ in
-    let plain₂ = (every-parts not_sign p.w_digits after₂ first.1).1 in
-    let second = every-parts not_sign p.gap₂ (p.h_digits ++ after₃) plain₂ in
-    let plain₃ = (every-parts not_sign p.h_digits after₃ second.1).1 in
-    let third = every-parts not_sign p.gap₃ (p.maxval_digits ++ (p.separator ∷ [])) plain₃ in
+    let plain₁ = (every_parts not_sign (80 ∷ 54 ∷ []) after₁ (sym (ap (every not_sign) is-head) ∙ e)).1 in
+    let first = every_parts not_sign p.gap₁ (p.w_digits ++ after₂) plain₁ in
+    let plain₂ = (every_parts not_sign p.w_digits after₂ first.1).1 in
+    let second = every_parts not_sign p.gap₂ (p.h_digits ++ after₃) plain₂ in
+    let plain₃ = (every_parts not_sign p.h_digits after₃ second.1).1 in
+    let third = every_parts not_sign p.gap₃ (p.maxval_digits ++ (p.separator ∷ [])) plain₃ in
     record {
       first = gap_spaces p.gap₁_is first.0;
       second = gap_spaces p.gap₂_is second.0;
@@ -99,7 +99,7 @@ header_before : {bytes : List ℕ} {w h maxval : ℕ} {raster : List ℕ} (p : I
 unfolding uncommented_header
 header_before p e =
     let white = spaced p e in
-    header-accepts-with spaces p (spaces_taken p.gap₁_is white.first) (spaces_taken p.gap₂_is white.second)
+    header_accepts_with spaces p (spaces_taken p.gap₁_is white.first) (spaces_taken p.gap₂_is white.second)
     (spaces_taken p.gap₃_is white.third)
 
 -- ## Both grammars

@@ -12,7 +12,7 @@ use lib.Dec.{eqb}
 use Rattle.planes.specs.Lists.{from, keep, at}
 use Rattle.planes.specs.Enumerations.{Enumerates}
 use Rattle.planes.proofs.Counts.{count_all}
-use Rattle.planes.proofs.Enumerations.{values-count}
+use Rattle.planes.proofs.Enumerations.{values_count}
 use Rattle.histograms.specs.Histograms.{values, Component, Alike}
 
 -- ## Values of the queue's pixels
@@ -26,16 +26,16 @@ module _ (plane queue : List ℕ) (m : ℕ) (room : m ≤ length queue) where
   taken : length (take m queue) ≡ m
   taken = length-take m queue ∙ min-eq_left room
 
-  pub values-size : length (values plane queue m) ≡ m
-  values-size = length-map (take m queue) (at plane) ∙ taken
+  pub values_size : length (values plane queue m) ≡ m
+  values_size = length-map (take m queue) (at plane) ∙ taken
 
-  pub values-at : (i : ℕ) → i < m → at (values plane queue m) i ≡ at plane (at queue i)
-  values-at i h = map_at (at plane) (take m queue) i (omega (arith, taken)) ∙ ap (at plane) (get_or-take m queue i 0 h)
+  pub values_at : (i : ℕ) → i < m → at (values plane queue m) i ≡ at plane (at queue i)
+  values_at i h = map_at (at plane) (take m queue) i (omega (arith, taken)) ∙ ap (at plane) (get_or-take m queue i 0 h)
 
 -- as many values as the queue has entries
 pub queue_size : (plane queue : List ℕ) {vs : List ℕ} {m : ℕ} → m ≤ length queue → Alike vs (values plane queue m)
     → length vs ≡ m
-queue_size plane queue {m = m} h A = A.size ∙ values-size plane queue m h
+queue_size plane queue {m = m} h A = A.size ∙ values_size plane queue m h
 
 -- ## Enumerations
 
@@ -44,15 +44,15 @@ module _ {queue : List ℕ} {m n : ℕ} {S : ℕ → Bool} (E : Enumerates queue
   alike_of =
       let all : ℕ → Bool = λ x. true in
       record {
-        same = λ v. sym (values-count E plane (eqb v));
+        same = λ v. sym (values_count E plane (eqb v));
         size = sym (count_all (map (at plane) (keep S (from 0 n))))
-            ∙ sym (values-count E plane all)
+            ∙ sym (values_count E plane all)
             ∙ count_all (values plane queue m);
       }
 
-  pub component-of : {a b : ℕ} → n ≤ length plane → a ≤ b → 1 ≤ m → m ≤ 1048576
+  pub component_of : {a b : ℕ} → n ≤ length plane → a ≤ b → 1 ≤ m → m ≤ 1048576
       → ((p : ℕ) → p < n → S p ≡ true → (a ≤ at plane p) × (at plane p ≤ b)) → Component plane queue m a b
-  component-of size ab some few within = record {
+  component_of size ab some few within = record {
     order = ab;
     some = some;
     few = few;

@@ -8,7 +8,7 @@ use Rattle.planes.specs.Lists.{at}
 use Rattle.histograms.specs.Histograms.{Gathered, Histogram}
 use Rattle.histograms.specs.Tables.{Tabled, Ruled, RuleTables}
 use Rattle.histograms.specs.declared.Measures.{Measures}
-use Rattle.histograms.proofs.Histograms.{histogram-of, gathered-within}
+use Rattle.histograms.proofs.Histograms.{histogram_of, gathered_within}
 
 -- the values themselves, where a test with the answer r keeps them
 pub ruled_kept : {kept : List ℕ → Bool} {tone : List ℕ → ℕ → ℕ} {c : Measures} {r : Bool} {counts table : List ℕ}
@@ -38,6 +38,6 @@ pub tables_of : {kept : List ℕ → Bool} {tone : List ℕ → ℕ → ℕ} {pl
     → Gathered plane queue counts c a b → Ruled kept tone c counts table r
     → RuleTables kept tone plane queue table c.size r
 tables_of g u vs s =
-    let h = histogram-of g s in
-    let within = gathered-within g in
+    let h = histogram_of g s in
+    let within = gathered_within g in
     record { answer = u.answer vs h; entry = λ i im. u.exact vs h _ (within i im).0 (within i im).1 }

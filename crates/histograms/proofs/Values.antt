@@ -158,6 +158,6 @@ module _ (f : ℕ → ℕ) (rises : (v u : ℕ) → v ≤ u → f v ≤ f u) whe
       (λ l. max-eq_left (rises _ _ l))
       (λ l. max-eq_right (rises _ _ l))
 
-  pub spread-map : (vs : List ℕ) → 1 ≤ length vs → spread (map f vs) ≡ f (greatest vs) - f (least vs)
-  spread-map [] h = absurd (omega arith)
-  spread-map (x ∷ xs) h = ap₂ ◌-◌ (greatest-map x xs) (least-map x xs)
+  pub spread_map : (vs : List ℕ) → 1 ≤ length vs → spread (map f vs) ≡ f (greatest vs) - f (least vs)
+  spread_map [] h = absurd (omega arith)
+  spread_map (x ∷ xs) h = ap₂ ◌-◌ (greatest-map x xs) (least-map x xs)

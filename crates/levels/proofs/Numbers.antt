@@ -16,11 +16,11 @@ use Rattle.levels.proofs.Widths.{low_half, high_half}
 -- ## A branch
 
 module _ {last a b d code span : ℕ} (N : Numbered last a b d code span) where
-  pub numbered-order : a ≤ b
-  numbered-order = omega (arith, N.wide.width, pow_pos (d + N.k))
+  pub numbered_order : a ≤ b
+  numbered_order = omega (arith, N.wide.width, pow_pos (d + N.k))
 
-  pub numbered-some : 1 ≤ span
-  numbered-some = omega (arith, N.spans, ap (2 ^◌) (add-one d), pow-suc 2 d, pow_pos d)
+  pub numbered_some : 1 ≤ span
+  numbered_some = omega (arith, N.spans, ap (2 ^◌) (add-one d), pow-suc 2 d, pow_pos d)
 
 pub numbered_many : {last a b code span : ℕ} (d : ℕ) → Numbered last a b d code span → 0 < d → 3 ≤ span
 numbered_many zero N h = absurd (omega arith)
@@ -47,18 +47,18 @@ module _ {last a b d code span : ℕ} (N : Numbered last a b (suc d) code span) 
   pub twice : span ≡ 1 + (span - 1) / 2 + (span - 1) / 2
   twice = omega (arith, N.spans, ap (2 ^◌) (suc-add d 1), pow-suc 2 (d + 1), pow_pos (d + 1))
 
-  pub half-some : 1 ≤ (span - 1) / 2
-  half-some = omega (arith, half-spans, ap (2 ^◌) (add-one d), pow-suc 2 d, pow_pos d)
+  pub half_some : 1 ≤ (span - 1) / 2
+  half_some = omega (arith, half-spans, ap (2 ^◌) (add-one d), pow-suc 2 d, pow_pos d)
 
-  pub halves-order : a < b
-  halves-order =
+  pub halves_order : a < b
+  halves_order =
       omega (arith, N.wide.width, ap (2 ^◌) (suc-add d N.k), pow-suc 2 (d + N.k), pow_pos (d + N.k))
 
-  pub halves-room : code + 1 + (span - 1) / 2 < 256
-  halves-room = omega (arith, N.fits, twice, half-some)
+  pub halves_room : code + 1 + (span - 1) / 2 < 256
+  halves_room = omega (arith, N.fits, twice, half_some)
 
-  pub low-numbered : Numbered last a ((a + b) / 2) d (code + 1) ((span - 1) / 2)
-  low-numbered = record {
+  pub low_numbered : Numbered last a ((a + b) / 2) d (code + 1) ((span - 1) / 2)
+  low_numbered = record {
     k = N.k;
     wide = low_half N.wide;
     spans = half-spans;
@@ -66,8 +66,8 @@ module _ {last a b d code span : ℕ} (N : Numbered last a b (suc d) code span) 
     fits = omega (arith, N.fits, twice);
   }
 
-  pub high-numbered : Numbered last ((a + b) / 2 + 1) b d (code + 1 + (span - 1) / 2) ((span - 1) / 2)
-  high-numbered = record {
+  pub high_numbered : Numbered last ((a + b) / 2 + 1) b d (code + 1 + (span - 1) / 2) ((span - 1) / 2)
+  high_numbered = record {
     k = N.k;
     wide = high_half N.wide;
     spans = half-spans;
@@ -76,13 +76,13 @@ module _ {last a b d code span : ℕ} (N : Numbered last a b (suc d) code span) 
   }
 
   -- what is away from a branch is away from those of its halves
-  pub low-away : (x : ℕ) → Away code span x → Away (code + 1) ((span - 1) / 2) x
-  low-away x (inl i) = inl (omega arith)
-  low-away x (inr i) = inr (omega (arith, twice))
+  pub low_away : (x : ℕ) → Away code span x → Away (code + 1) ((span - 1) / 2) x
+  low_away x (inl i) = inl (omega arith)
+  low_away x (inr i) = inr (omega (arith, twice))
 
-  pub high-away : (x : ℕ) → Away code span x → Away (code + 1 + (span - 1) / 2) ((span - 1) / 2) x
-  high-away x (inl i) = inl (omega arith)
-  high-away x (inr i) = inr (omega (arith, twice))
+  pub high_away : (x : ℕ) → Away code span x → Away (code + 1 + (span - 1) / 2) ((span - 1) / 2) x
+  high_away x (inl i) = inl (omega arith)
+  high_away x (inr i) = inr (omega (arith, twice))
 
 -- ## Next marks
 

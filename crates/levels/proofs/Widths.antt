@@ -62,8 +62,8 @@ module _ {last a b d k : ℕ} (W : Wide last a b (suc d) k) where
 -- l is the level of a section, by its width
 module _ {a b last l : ℕ} (ab : a ≤ b) (small : last ≤ 7)
     (at_level : (k : ℕ) → k ≤ 8 → (b - a) + 1 ≡ 2 ^ k → l ≡ 8 - k) where
-  pub below-some : l < last → Below a b last (last - l)
-  below-some h = record {
+  pub below_some : l < last → Below a b last (last - l)
+  below_some h = record {
     exact = λ d k W. omega (arith, at_level (d + k) W.few (omega (arith, W.width)), W.few, W.lowest);
     some = λ _. go (b - a) refl;
     few = omega arith;
@@ -81,8 +81,8 @@ module _ {a b last l : ℕ} (ab : a ≤ b) (small : last ≤ 7)
   }
 
 module _ {a b last r : ℕ} (B : Below a b last r) where
-  pub deeper-yes : (r ≡ 0 → ⊥) → Deeper a b last true
-  deeper-yes f = record {
+  pub deeper_yes : (r ≡ 0 → ⊥) → Deeper a b last true
+  deeper_yes f = record {
     some = λ _. B.some (positive r f);
     yes = λ _ d k W. omega (arith, B.exact d k W, positive r f);
     none = λ e. absurd (true≢false e);
@@ -92,8 +92,8 @@ module _ {a b last r : ℕ} (B : Below a b last r) where
       positive zero f = absurd (f refl)
       positive (suc x) f = omega arith
 
-  pub deeper-no : r ≡ 0 → Deeper a b last false
-  deeper-no e = record {
+  pub deeper_no : r ≡ 0 → Deeper a b last false
+  deeper_no e = record {
     some = λ f. absurd (false≢true f);
     yes = λ f. absurd (false≢true f);
     none = λ _ d k W. omega (arith, B.exact d k W);

@@ -19,7 +19,7 @@ use Rattle.histograms.specs.declared.Measures.{Measures}
 use Rattle.histograms.proofs.Sums.{sum_le, sum_same, sum_thousand, sum_to_low, sum_to_high}
 use Rattle.histograms.proofs.Stores.{outside_both, refilled_outside}
 use Rattle.histograms.proofs.Measured.{measured_inside}
-use Rattle.histograms.proofs.Histograms.{summed_rise, histogram-of, gathered-range, gathered-within}
+use Rattle.histograms.proofs.Histograms.{summed_rise, histogram_of, gathered_range, gathered_within}
 
 -- ## Sums of clipped counts
 
@@ -66,9 +66,9 @@ clipped_none k vs v e = omega arith
 module _ {k a b : ℕ} {vs counts sums : List ℕ} {c : Measures} (range : Ranged c a b) (s : ClippedSums k c counts sums)
     (h : Histogram vs counts c) where
   -- they are the sums of the limited rule, for every list of values that has the measures and the counts
-  pub clipped-sums : (v : ℕ) → c.least ≤ v → v ≤ c.greatest → at sums v ≡ sum_to (clipped k vs) a v
+  pub clipped_sums : (v : ℕ) → c.least ≤ v → v ≤ c.greatest → at sums v ≡ sum_to (clipped k vs) a v
   unfolding clipped
-  clipped-sums v lv vg =
+  clipped_sums v lv vg =
       let each : (u : ℕ) → clipped_at (k * c.size) counts u ≡ clipped k vs u = λ u.
       ap₂ (λ (q n : ℕ). min (1000 * q) (k * n)) (h.tally.entry u) h.measured.size in
       let low = (measured_inside h.measured).low in
@@ -80,13 +80,13 @@ module _ {k a b : ℕ} {vs counts sums : List ℕ} {c : Measures} (range : Range
   clipped-whole : at sums c.greatest ≡ sum_to (clipped k vs) a b
   clipped-whole =
       let high = (measured_inside h.measured).high in
-      clipped-sums c.greatest range.order (omega arith)
+      clipped_sums c.greatest range.order (omega arith)
       ∙ sym (sum_to_high (clipped k vs) (omega arith) range.to (λ u gu. clipped_none k vs u (high u gu)))
 
   -- and they give its tones
-  pub limited-by-sums : (v : ℕ) → c.least ≤ v → v ≤ c.greatest → limited_by sums c a b v ≡ limited_tone k a b vs v
+  pub limited_by_sums : (v : ℕ) → c.least ≤ v → v ≤ c.greatest → limited_by sums c a b v ≡ limited_tone k a b vs v
   unfolding limited_tone
-  limited-by-sums v lv vg = rw (clipped-sums v lv vg, clipped-whole, h.measured.size)
+  limited_by_sums v lv vg = rw (clipped_sums v lv vg, clipped-whole, h.measured.size)
 
 -- ## Tables
 
@@ -96,6 +96,6 @@ pub limited_tables : {plane queue counts sums table : List ℕ} {k a b : ℕ} {c
     → Filled (limited_by sums c a b) plane queue table c.size
     → RuleTables never_kept (limited_tone k a b) plane queue table c.size true
 limited_tables g u f vs s =
-    let tones = limited-by-sums (gathered-range g) u (histogram-of g s) in
-    let within = gathered-within g in
+    let tones = limited_by_sums (gathered_range g) u (histogram_of g s) in
+    let within = gathered_within g in
     record { answer = refl; entry = λ i im. f.entry i im ∙ tones _ (within i im).0 (within i im).1 }

@@ -28,15 +28,15 @@ module _ {ks : List ℕ} {i : ℕ} (clear : Clear ks i) where
       let e : drop i ks ≡ at ks i ∷ drop (i + 1) ks = rw add-one (drop-cons ks i 0 h) in
       sym (ap first_refusal e) ∙ clear.same
 
-  pub clear-more : i < length ks → at ks i ≡ 0 → Clear ks (i + 1)
-  clear-more h e = record { upto = omega arith; same = sym (▷_right (at ks i) _ e) ∙ next h }
+  pub clear_more : i < length ks → at ks i ≡ 0 → Clear ks (i + 1)
+  clear_more h e = record { upto = omega arith; same = sym (▷_right (at ks i) _ e) ∙ next h }
 
   -- the refusal at index i applies, so it is the first
-  pub clear-stop : i < length ks → (at ks i ≡ 0 → ⊥) → at ks i ≡ first_refusal ks
-  clear-stop h f = sym (▷_left (at ks i) _ f) ∙ next h
+  pub clear_stop : i < length ks → (at ks i ≡ 0 → ⊥) → at ks i ≡ first_refusal ks
+  clear_stop h f = sym (▷_left (at ks i) _ f) ∙ next h
 
-  pub clear-all : length ks ≤ i → 0 ≡ first_refusal ks
-  clear-all h = sym (ap first_refusal (drop_of_length-le ks h)) ∙ clear.same
+  pub clear_all : length ks ≤ i → 0 ≡ first_refusal ks
+  clear_all h = sym (ap first_refusal (drop_of_length-le ks h)) ∙ clear.same
 
 -- where none applies, the one at index i does not
 pub clear_each : (ks : List ℕ) → first_refusal ks ≡ 0 → (i : ℕ) → i < length ks → at ks i ≡ 0

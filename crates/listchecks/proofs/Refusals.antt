@@ -1,12 +1,12 @@
 -- A list of bytes and its passes in memory meet with the same refusals. Assumes nothing.
 --
---   records-length, records-at, record-told   the refusals of a list's records, one for each
---   decoded-refusal   a list that is read meets with the refusal of its passes
+--   records_length, records_at, record_told   the refusals of a list's records, one for each
+--   decoded_refusal   a list that is read meets with the refusal of its passes
 --   formed_each       no record of a list that is not refused is malformed
---   accepted-list     a list that is not refused is read, and its passes are not refused
---   encoded-refusal   passes that are written, in either edition, meet with the refusal that they meet with in memory
+--   accepted_list     a list that is not refused is read, and its passes are not refused
+--   encoded_refusal   passes that are written, in either edition, meet with the refusal that they meet with in memory
 --   places_second     version 2 has a place for every pass
---   places-length, places-at, place-told   the refusals of a list's passes by their places, one for each
+--   places_length, places_at, place_told   the refusals of a list's passes by their places, one for each
 use Prim.Native.Nat.{ℕ, ◌≤◌, ◌<◌}
 use mathlib.Core.Path.{◌≡◌, refl, sym, ap, ap₂, subst, ◌∙◌}
 use mathlib.Core.Bool.{Bool, true, false, not, cond, ◌&&◌}
@@ -27,58 +27,58 @@ use Rattle.listformat.specs.declared.Edition.{Edition}
 use Rattle.listformat.specs.declared.Edition.TheVariants.{Second}
 use Rattle.listformat.specs.Format.{edition_of, record_start, count_of, pass_here, passes_of, greatest_count, malformed_at}
 use Rattle.listformat.specs.Format.{well, head_refusal, decode, encode, Storable}
-use Rattle.listformat.proofs.Format.{headed, decoded, length_passes_of, head-encode, passes-encode}
+use Rattle.listformat.proofs.Format.{headed, decoded, length_passes_of, head_encode, passes_encode}
 use Rattle.listchecks.specs.declared.Record.{Record}
 use Rattle.listchecks.specs.Refusals.{first_refusal, record_at, record_refusal, record_refusals, list_refusal}
 use Rattle.listchecks.specs.Refusals.{passes_refusal, place_refusal, places_refusal}
 use Rattle.listchecks.proofs.First.{clear_each}
 
 module _ (bs : List ℕ) where
-  abbrev refusalHere : ℕ → ℕ
-  refusalHere j = record_refusal (edition_of bs) bs (record_start (edition_of bs) j)
+  abbrev refusal_here : ℕ → ℕ
+  refusal_here j = record_refusal (edition_of bs) bs (record_start (edition_of bs) j)
 
   abbrev bad : ℕ → Bool
   bad j = malformed_at (edition_of bs) bs (record_start (edition_of bs) j)
 
-  pub records-length : length (record_refusals bs) ≡ count_of bs
+  pub records_length : length (record_refusals bs) ≡ count_of bs
   unfolding record_refusals
-  records-length = length_all refusalHere (count_of bs)
+  records_length = length_all refusal_here (count_of bs)
 
-  pub records-at : (j : ℕ) → j < count_of bs → at (record_refusals bs) j ≡ refusalHere j
+  pub records_at : (j : ℕ) → j < count_of bs → at (record_refusals bs) j ≡ refusal_here j
   unfolding record_refusals
-  records-at j h = all_at refusalHere (count_of bs) j h
+  records_at j h = all_at refusal_here (count_of bs) j h
 
   -- a record that was read meets with its refusal
-  pub record-told : {found : Record} {j : ℕ} → found ≡ record_at bs j → j < count_of bs
+  pub record_told : {found : Record} {j : ℕ} → found ≡ record_at bs j → j < count_of bs
       → found.form ▷ numbers_refusal found.pass ≡ at (record_refusals bs) j
   unfolding record_refusal
-  record-told {j = j} is h = ap (λ (r : Record). r.form ▷ numbers_refusal r.pass) is ∙ sym (records-at j h)
+  record_told {j = j} is h = ap (λ (r : Record). r.form ▷ numbers_refusal r.pass) is ∙ sym (records_at j h)
 
   -- a record that is not malformed meets with the refusal of its pass
-  refusal-formed : (j : ℕ) → well bs j ≡ true → refusalHere j ≡ numbers_refusal (pass_here bs j)
+  refusal-formed : (j : ℕ) → well bs j ≡ true → refusal_here j ≡ numbers_refusal (pass_here bs j)
   unfolding record_refusal
   refusal-formed j e =
       ap (λ (t : Bool). when t 17 ▷ numbers_refusal (pass_here bs j)) (not-true (bad j) e)
 
   refusals-formed : (js : List ℕ) → every (well bs) js ≡ true
-      → map refusalHere js ≡ map numbers_refusal (map (pass_here bs) js)
+      → map refusal_here js ≡ map numbers_refusal (map (pass_here bs) js)
   refusals-formed [] e = refl
   refusals-formed (j ∷ js) e =
       ap₂ ◌∷◌ (refusal-formed j (and_elim_left (well bs j) (every (well bs) js) e))
       (refusals-formed js (and_elim_right (well bs j) (every (well bs) js) e))
 
   -- the records' refusals are those of the passes
-  pub records-passes : every (well bs) (from 0 (count_of bs)) ≡ true
+  pub records_passes : every (well bs) (from 0 (count_of bs)) ≡ true
       → record_refusals bs ≡ map numbers_refusal (passes_of bs)
   unfolding record_refusals passes_of
-  records-passes = refusals-formed (from 0 (count_of bs))
+  records_passes = refusals-formed (from 0 (count_of bs))
 
   -- records that are not refused are not malformed
-  unrefused : (js : List ℕ) → first_refusal (map refusalHere js) ≡ 0 → every (well bs) js ≡ true
+  unrefused : (js : List ℕ) → first_refusal (map refusal_here js) ≡ 0 → every (well bs) js ≡ true
   unfolding record_refusal
   unrefused [] e = refl
   unrefused (j ∷ js) e =
-      let two = ▷_none (refusalHere j) (first_refusal (map refusalHere js)) e in
+      let two = ▷_none (refusal_here j) (first_refusal (map refusal_here js)) e in
       let one = ▷_none (when (bad j) 17) (numbers_refusal (pass_here bs j)) two.0 in
       and_intro (ap not (when_none (bad j) 16 one.0)) (unrefused js two.1)
 
@@ -91,17 +91,17 @@ module _ (bs : List ℕ) where
       → list_refusal bs ≡ passes_refusal (passes_of bs)
   unfolding list_refusal passes_refusal
   formed-refusal h e =
-      ap₂ ◌▷◌ h (ap first_refusal (records-passes e))
+      ap₂ ◌▷◌ h (ap first_refusal (records_passes e))
       ∙ ap (◌▷ first_refusal (map numbers_refusal (passes_of bs))) (sym (few_passes h))
 
-  pub decoded-refusal : (ss : List Pass) → decode bs ≡ some ss → list_refusal bs ≡ passes_refusal ss
-  decoded-refusal ss e =
+  pub decoded_refusal : (ss : List Pass) → decode bs ≡ some ss → list_refusal bs ≡ passes_refusal ss
+  decoded_refusal ss e =
       let d = decoded bs ss e in
       formed-refusal d.head d.formed ∙ ap passes_refusal d.passes
 
-  pub accepted-list : list_refusal bs ≡ 0 → (decode bs ≡ some (passes_of bs)) × (passes_refusal (passes_of bs) ≡ 0)
+  pub accepted_list : list_refusal bs ≡ 0 → (decode bs ≡ some (passes_of bs)) × (passes_refusal (passes_of bs) ≡ 0)
   unfolding list_refusal record_refusals decode
-  accepted-list e =
+  accepted_list e =
       let two = ▷_none (head_refusal bs) (first_refusal (record_refusals bs)) e in
       let formed = unrefused (from 0 (count_of bs)) two.1 in
       let read : (eqb (head_refusal bs) 0 && every (well bs) (from 0 (count_of bs))) ≡ true =
@@ -114,18 +114,18 @@ pub formed_each : (bs : List ℕ) → list_refusal bs ≡ 0 → (j : ℕ) → j 
 unfolding list_refusal record_refusal
 formed_each bs e j h =
     let records = (▷_none (head_refusal bs) (first_refusal (record_refusals bs)) e).1 in
-    let inside = subst (j <◌) (sym (records-length bs)) h in
-    let none = sym (records-at bs j h) ∙ clear_each (record_refusals bs) records j inside in
+    let inside = subst (j <◌) (sym (records_length bs)) h in
+    let none = sym (records_at bs j h) ∙ clear_each (record_refusals bs) records j inside in
     when_none (bad bs j) 16 (▷_none (when (bad bs j) 17) (numbers_refusal (pass_here bs j)) none).0
 
 -- any passes that a list's count can tell, also more than it may have, in either edition
 module _ (e : Edition) (ss : List Pass) (told : length ss < 65536) (fit : All (Storable e) ss) where
-  pub encoded-refusal : list_refusal (encode e ss) ≡ passes_refusal ss
+  pub encoded_refusal : list_refusal (encode e ss) ≡ passes_refusal ss
   unfolding list_refusal passes_refusal
-  encoded-refusal =
-      let records = passes-encode e ss told fit in
-      ap₂ ◌▷◌ (head-encode e ss told)
-      (ap first_refusal (records-passes (encode e ss) records.1 ∙ ap (map numbers_refusal) records.0))
+  encoded_refusal =
+      let records = passes_encode e ss told fit in
+      ap₂ ◌▷◌ (head_encode e ss told)
+      (ap first_refusal (records_passes (encode e ss) records.1 ∙ ap (map numbers_refusal) records.0))
 
 -- ## Places for neighbours
 
@@ -144,16 +144,16 @@ module _ (e : Edition) (bs : List ℕ) where
   abbrev pub places : List ℕ
   places = map (place_refusal e) (passes_of bs)
 
-  pub places-length : length places ≡ count_of bs
-  places-length = length-map (passes_of bs) (place_refusal e) ∙ length_passes_of bs
+  pub places_length : length places ≡ count_of bs
+  places_length = length-map (passes_of bs) (place_refusal e) ∙ length_passes_of bs
 
-  pub places-at : (j : ℕ) → j < count_of bs → at places j ≡ place_refusal e (pass_here bs j)
+  pub places_at : (j : ℕ) → j < count_of bs → at places j ≡ place_refusal e (pass_here bs j)
   unfolding passes_of
-  places-at j h =
+  places_at j h =
       ap (λ (ks : List ℕ). at ks j) (compose (from 0 (count_of bs)))
       ∙ all_at (λ j. place_refusal e (pass_here bs j)) (count_of bs) j h
 
   -- a pass that was read meets with its refusal
-  pub place-told : {found : Record} {j : ℕ} → found ≡ record_at bs j → j < count_of bs
+  pub place_told : {found : Record} {j : ℕ} → found ≡ record_at bs j → j < count_of bs
       → place_refusal e found.pass ≡ at places j
-  place-told {j = j} is h = ap (λ (r : Record). place_refusal e r.pass) is ∙ sym (places-at j h)
+  place_told {j = j} is h = ap (λ (r : Record). place_refusal e r.pass) is ∙ sym (places_at j h)

@@ -1,10 +1,10 @@
 -- The byte format: a list that is written and read back gives its passes again, and a list of bytes is read exactly
 -- when it is what its passes are written as, in either edition. Assumes nothing.
 --
---   read-pass       a pass, written and read
+--   read_pass       a pass, written and read
 --   written_fields  the fields that both editions have, read and written
 --   written_pass    a record that is not malformed, read and written
---   decode-encode   passes, written and read
+--   decode_encode   passes, written and read
 --   encode_decode   a list, read and written
 --   decodes         the two together
 use Prim.Native.Nat.{ℕ, zero, suc, ◌+◌, ◌*◌, ◌/◌, ◌%◌, ◌≤◌, ◌<◌}
@@ -48,8 +48,8 @@ module _ (bs : List ℕ) (o : ℕ) where
   moved : (i k : ℕ) → o + i ≡ k → at (drop o bs) i ≡ at bs k
   moved = at_drop bs o
 
-  pub numbers-drop : numbers_at (drop o bs) 0 ≡ numbers_at bs o
-  numbers-drop =
+  pub numbers_drop : numbers_at (drop o bs) 0 ≡ numbers_at bs o
+  numbers_drop =
       cc (
         moved 2 (o + 2) refl,
         moved 3 (o + 3) refl,
@@ -63,9 +63,9 @@ module _ (bs : List ℕ) (o : ℕ) where
   neighbours-drop First = refl
   neighbours-drop Second = moved 12 (o + 12) refl
 
-  pub pass-drop : (e : Edition) → pass_at e (drop o bs) 0 ≡ pass_at e bs o
+  pub pass_drop : (e : Edition) → pass_at e (drop o bs) 0 ≡ pass_at e bs o
   unfolding pass_at
-  pass-drop e =
+  pass_drop e =
       cc (
         moved 0 o (omega arith),
         moved 1 (o + 1) refl,
@@ -73,7 +73,7 @@ module _ (bs : List ℕ) (o : ℕ) where
         moved 5 (o + 4 + 1) (omega arith),
         moved 6 (o + 4 + 2) (omega arith),
         moved 7 (o + 4 + 2 + 1) (omega arith),
-        ap rule_of numbers-drop,
+        ap rule_of numbers_drop,
         neighbours-drop e,
       )
 
@@ -81,8 +81,8 @@ module _ (bs : List ℕ) (o : ℕ) where
   zero-drop First = refl
   zero-drop Second = cc (moved 13 (o + 13) refl, moved 14 (o + 14) refl, moved 15 (o + 15) refl)
 
-  pub malformed-drop : (e : Edition) → malformed_at e (drop o bs) 0 ≡ malformed_at e bs o
-  malformed-drop e = ap₂ ◌||◌ (ap malformed numbers-drop) (zero-drop e)
+  pub malformed_drop : (e : Edition) → malformed_at e (drop o bs) 0 ≡ malformed_at e bs o
+  malformed_drop e = ap₂ ◌||◌ (ap malformed numbers_drop) (zero-drop e)
 
 abbrev numbers : ℕ → ℕ → ℕ → ℕ → RuleNumbers
 numbers code extra first second = record { code = code; extra = extra; first = first; second = second }
@@ -110,9 +110,9 @@ module _ (e : Edition) (s : Pass) (f : Storable e s) (rest : List ℕ) where
       (join16 (numbers_of s.rule).second fits.second_fits)
 
   -- a pass, written and read
-  pub read-pass : pass_at e (encode_pass e s ++ rest) 0 ≡ s
+  pub read_pass : pass_at e (encode_pass e s ++ rest) 0 ≡ s
   unfolding pass_at encode_pass encode_fields
-  read-pass =
+  read_pass =
       same_pass
       (mod-eq_of_lt f.a_fits)
       (mod-eq_of_lt f.b_fits)
@@ -125,9 +125,9 @@ module _ (e : Edition) (s : Pass) (f : Storable e s) (rest : List ℕ) where
       go First fits = sym fits
       go Second fits = mod-eq_of_lt fits
 
-  pub formed-pass : malformed_at e (encode_pass e s ++ rest) 0 ≡ false
+  pub formed_pass : malformed_at e (encode_pass e s ++ rest) 0 ≡ false
   unfolding encode_pass encode_fields
-  formed-pass = ap₂ ◌||◌ (ap malformed read-numbers ∙ formed_rule s.rule) (go e)
+  formed_pass = ap₂ ◌||◌ (ap malformed read-numbers ∙ formed_rule s.rule) (go e)
     where
       go : (e : Edition) → zero_set e (encode_pass e s ++ rest) 0 ≡ false
       go First = refl
@@ -189,20 +189,20 @@ bytes_drop bs o b = record { each = λ i. subst (◌< 256) (sym (at_drop bs o i 
 pub written_fields : (e : Edition) (bs : List ℕ) (o : ℕ) → Bytes bs → malformed_at e bs o ≡ false
     → o + fields_length ≤ length bs → take fields_length (drop o bs) ≡ encode_fields (pass_at e bs o)
 written_fields e bs o b m h =
-    let formed = ap malformed (numbers-drop bs o) ∙ (or_none (malformed (numbers_at bs o)) (zero_set e bs o) m).0 in
+    let formed = ap malformed (numbers_drop bs o) ∙ (or_none (malformed (numbers_at bs o)) (zero_set e bs o) m).0 in
     take_at (drop o bs) 0 fields_length (omega (arith, length-drop o bs))
-    ∙ fields_here e (drop o bs) (bytes_drop bs o b) formed ∙ ap encode_fields (pass-drop bs o e)
+    ∙ fields_here e (drop o bs) (bytes_drop bs o b) formed ∙ ap encode_fields (pass_drop bs o e)
 
 -- 17 where a zero byte is set, and else what the rule's numbers are refused for
 module _ (e : Edition) (bs : List ℕ) (i : ℕ) where
   abbrev unruled : Bool
   unruled = malformed (numbers_at bs i)
 
-  pub form-set : zero_set e bs i ≡ true → 17 ≡ form_at e bs i
-  form-set z = sym (ap (λ (t : Bool). when t 17) (ap (unruled ||◌) z ∙ or-true unruled))
+  pub form_set : zero_set e bs i ≡ true → 17 ≡ form_at e bs i
+  form_set z = sym (ap (λ (t : Bool). when t 17) (ap (unruled ||◌) z ∙ or-true unruled))
 
-  pub form-unset : zero_set e bs i ≡ false → form_refusal (numbers_at bs i) ≡ form_at e bs i
-  form-unset z = sym (ap (λ (t : Bool). when t 17) (ap (unruled ||◌) z ∙ or-false unruled))
+  pub form_unset : zero_set e bs i ≡ false → form_refusal (numbers_at bs i) ≡ form_at e bs i
+  form_unset z = sym (ap (λ (t : Bool). when t 17) (ap (unruled ||◌) z ∙ or-false unruled))
 
 -- ## The records of a list
 
@@ -245,11 +245,11 @@ length_passes e (s ∷ ss) =
 
 module _ (e : Edition) (bs : List ℕ) where
   -- the pass of record j in this edition, and that it is not malformed
-  abbrev passIn : ℕ → Pass
-  passIn j = pass_at e bs (record_start e j)
+  abbrev pass_in : ℕ → Pass
+  pass_in j = pass_at e bs (record_start e j)
 
-  abbrev wellIn : ℕ → Bool
-  wellIn j = not (malformed_at e bs (record_start e j))
+  abbrev well_in : ℕ → Bool
+  well_in j = not (malformed_at e bs (record_start e j))
 
   -- the bytes after record j
   next-record : (j : ℕ) → drop (record_length e) (drop (record_start e j) bs) ≡ drop (record_start e (suc j)) bs
@@ -258,7 +258,7 @@ module _ (e : Edition) (bs : List ℕ) where
 
   -- records that are written from record j on are read as the passes
   read-passes : (ss : List Pass) (j : ℕ) → Fit e ss → drop (record_start e j) bs ≡ encode_passes e ss
-      → (map passIn (from j (length ss)) ≡ ss) × (every wellIn (from j (length ss)) ≡ true)
+      → (map pass_in (from j (length ss)) ≡ ss) × (every well_in (from j (length ss)) ≡ true)
   unfolding encode_passes
   read-passes [] j f d = (refl, refl)
   read-passes (s ∷ ss) j (more here f) d =
@@ -268,15 +268,15 @@ module _ (e : Edition) (bs : List ℕ) where
       ∙ drop_at (encode_pass e s) (encode_passes e ss) (record_length e) (length_pass e s) in
       let later = read-passes ss (suc j) f rest in
       let pass : pass_at e bs o ≡ s =
-      sym (pass-drop bs o e) ∙ ap (λ (r : List ℕ). pass_at e r 0) d ∙ read-pass e s here (encode_passes e ss) in
+      sym (pass_drop bs o e) ∙ ap (λ (r : List ℕ). pass_at e r 0) d ∙ read_pass e s here (encode_passes e ss) in
       let fine : malformed_at e bs o ≡ false =
-      sym (malformed-drop bs o e) ∙ ap (λ (r : List ℕ). malformed_at e r 0) d
-      ∙ formed-pass e s here (encode_passes e ss) in
+      sym (malformed_drop bs o e) ∙ ap (λ (r : List ℕ). malformed_at e r 0) d
+      ∙ formed_pass e s here (encode_passes e ss) in
       (ap₂ ◌∷◌ pass later.0, and_intro (ap not fine) later.1)
 
   -- records of bytes, none of them malformed, are what their passes are written as
   written-passes : Bytes bs → (j m : ℕ) → length bs ≡ record_start e (j + m)
-      → every wellIn (from j m) ≡ true → drop (record_start e j) bs ≡ encode_passes e (map passIn (from j m))
+      → every well_in (from j m) ≡ true → drop (record_start e j) bs ≡ encode_passes e (map pass_in (from j m))
   unfolding encode_passes
   written-passes b j zero l d =
       let ends : length bs ≡ record_start e j = l ∙ ap (record_start e) (add-zero j) in
@@ -284,14 +284,14 @@ module _ (e : Edition) (bs : List ℕ) where
   written-passes b j (suc m) l d =
       let o = record_start e j in
       let fine : malformed_at e (drop o bs) 0 ≡ false =
-      malformed-drop bs o e ∙ not-true (malformed_at e bs o)
-      (and_elim_left (wellIn j) (every wellIn (from (suc j) m)) d) in
+      malformed_drop bs o e ∙ not-true (malformed_at e bs o)
+      (and_elim_left (well_in j) (every well_in (from (suc j) m)) d) in
       let inside : o + record_length e ≤ length bs =
       subst (o + record_length e ≤◌) (sym l) (ends_within e j (j + suc m) (omega arith)) in
       let here : take (record_length e) (drop o bs) ≡ encode_pass e (pass_at e bs o) =
       written_pass e (drop o bs) (bytes_drop bs o b) fine (omega (arith, length-drop o bs))
-      ∙ ap (encode_pass e) (pass-drop bs o e) in
-      let others = and_elim_right (wellIn j) (every wellIn (from (suc j) m)) d in
+      ∙ ap (encode_pass e) (pass_drop bs o e) in
+      let others = and_elim_right (well_in j) (every well_in (from (suc j) m)) d in
       let moved_on : j + suc m ≡ suc j + m = omega arith in
       let later = written-passes b (suc j) m (l ∙ ap (record_start e) moved_on) others in
       sym (take-append-drop (record_length e) (drop o bs)) ∙ ap₂ ◌++◌ here (next-record j ∙ later)
@@ -354,44 +354,44 @@ edition_named First bs v = ap (λ (t : Bool). cond t Second First) (ap (λ (n : 
 edition_named Second bs v = ap (λ (t : Bool). cond t Second First) (ap (λ (n : ℕ). eqb n 2) v)
 
 module _ (e : Edition) (ss : List Pass) where
-  pub length-encode : length (encode e ss) ≡ record_start e (length ss)
+  pub length_encode : length (encode e ss) ≡ record_start e (length ss)
   unfolding encode
-  length-encode = omega (arith, length_passes e ss)
+  length_encode = omega (arith, length_passes e ss)
 
-  pub version-encode : version_of (encode e ss) ≡ version e
+  pub version_encode : version_of (encode e ss) ≡ version e
   unfolding encode
-  version-encode = go e
+  version_encode = go e
     where
       go : (e : Edition) → version e % 256 + 256 * (version e / 256 % 256) ≡ version e
       go First = refl
       go Second = refl
 
-  pub edition-encode : edition_of (encode e ss) ≡ e
-  edition-encode = edition_named e (encode e ss) version-encode
+  pub edition_encode : edition_of (encode e ss) ≡ e
+  edition_encode = edition_named e (encode e ss) version_encode
 
-  pub count-encode : length ss < 65536 → count_of (encode e ss) ≡ length ss
+  pub count_encode : length ss < 65536 → count_of (encode e ss) ≡ length ss
   unfolding encode
-  count-encode h = join16 (length ss) h
+  count_encode h = join16 (length ss) h
 
   named-encode : misnamed (encode e ss) ≡ false
   unfolding misnamed encode
   named-encode =
-      let same = version-encode ∙ ap version (sym edition-encode) in
+      let same = version_encode ∙ ap version (sym edition_encode) in
       ap not (eq-eqb (version_of (encode e ss)) (version (edition_of (encode e ss))) same)
 
   counted-encode : length ss < 65536 → miscounted (encode e ss) ≡ ltb greatest_count (length ss)
   unfolding miscounted
   counted-encode h =
-      let n = count-encode h in
-      let size = length-encode ∙ ap₂ record_start (sym edition-encode) (sym n) in
+      let n = count_encode h in
+      let size = length_encode ∙ ap₂ record_start (sym edition_encode) (sym n) in
       let same = eq-eqb (length (encode e ss)) (record_start (edition_of (encode e ss)) (count_of (encode e ss))) size in
       ap₂ (λ (s t : Bool). s || not t) (ap (ltb greatest_count) n) same ∙ or-false (ltb greatest_count (length ss))
 
   -- of a list's head, only the count may be refused
-  pub head-encode : length ss < 65536 → head_refusal (encode e ss) ≡ when (ltb greatest_count (length ss)) 16
+  pub head_encode : length ss < 65536 → head_refusal (encode e ss) ≡ when (ltb greatest_count (length ss)) 16
   unfolding head_refusal
-  head-encode h =
-      let long = le-ltb (length (encode e ss)) head_length (omega (arith, length-encode)) in
+  head_encode h =
+      let long = le-ltb (length (encode e ss)) head_length (omega (arith, length_encode)) in
       ap₂ (λ (s t : Bool). when s 16 ▷ when t 15 ▷ when (miscounted (encode e ss)) 16) long named-encode
       ∙ ap (λ (t : Bool). when t 16) (counted-encode h)
 
@@ -404,24 +404,24 @@ module _ (e : Edition) (ss : List Pass) where
       go First = refl
       go Second = refl
 
-  pub passes-encode : length ss < 65536 → Fit e ss
+  pub passes_encode : length ss < 65536 → Fit e ss
       → (passes_of (encode e ss) ≡ ss) × (every (well (encode e ss)) (from 0 (count_of (encode e ss))) ≡ true)
   unfolding passes_of
-  passes-encode h f =
-      let n = count-encode h in
+  passes_encode h f =
+      let n = count_encode h in
       let r = read-passes e (encode e ss) ss 0 f records-encode in (
-        ap₂ (λ (d : Edition) (k : ℕ). map (passIn d (encode e ss)) (from 0 k)) edition-encode n ∙ r.0,
-        ap₂ (λ (d : Edition) (k : ℕ). every (wellIn d (encode e ss)) (from 0 k)) edition-encode n ∙ r.1,
+        ap₂ (λ (d : Edition) (k : ℕ). map (pass_in d (encode e ss)) (from 0 k)) edition_encode n ∙ r.0,
+        ap₂ (λ (d : Edition) (k : ℕ). every (well_in d (encode e ss)) (from 0 k)) edition_encode n ∙ r.1,
       )
 
   -- passes, written and read
-  pub decode-encode : length ss ≤ greatest_count → Fit e ss → decode (encode e ss) ≡ some ss
+  pub decode_encode : length ss ≤ greatest_count → Fit e ss → decode (encode e ss) ≡ some ss
   unfolding decode
-  decode-encode h f =
+  decode_encode h f =
       let cs = encode e ss in
       let head : head_refusal cs ≡ 0 =
-      head-encode (omega arith) ∙ ap (λ (t : Bool). when t 16) (le-ltb greatest_count (length ss) h) in
-      let records = passes-encode (omega arith) f in
+      head_encode (omega arith) ∙ ap (λ (t : Bool). when t 16) (le-ltb greatest_count (length ss) h) in
+      let records = passes_encode (omega arith) f in
       let read : (eqb (head_refusal cs) 0 && every (well cs) (from 0 (count_of cs))) ≡ true =
       and_intro (eq-eqb (head_refusal cs) 0 head) records.1 in
       ap (λ (t : Bool). cond t (some (passes_of cs)) none) read ∙ ap some records.0
@@ -532,6 +532,6 @@ decodes e bs b ss = (read, write)
 
     write : Listable e ss × (bs ≡ encode e ss) → (decode bs ≡ some ss) × (version_of bs ≡ version e)
     write l = (
-      ap decode l.1 ∙ decode-encode e ss l.0.few l.0.each,
-      ap version_of l.1 ∙ version-encode e ss,
+      ap decode l.1 ∙ decode_encode e ss l.0.few l.0.each,
+      ap version_of l.1 ∙ version_encode e ss,
     )

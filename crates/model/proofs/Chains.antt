@@ -21,7 +21,7 @@ use Rattle.model.specs.Passes.{passed}
 use Rattle.model.specs.Neighbourhoods.{pass_neighbours}
 use Rattle.model.specs.Runs.{Carries, All, none, more}
 use Rattle.model.specs.Calls.{numbers_refusal, pass_refusal, Call, State, call, chain}
-use Rattle.model.proofs.Order.{length-passed, passed_keeps}
+use Rattle.model.proofs.Order.{length_passed, passed_keeps}
 use Rattle.model.proofs.Neighbourhoods.{pass_sym, pass_wider, pass_by}
 
 -- ## What an accepted call has
@@ -48,11 +48,11 @@ pub record Fine (near : Near) (p q : List ℕ) : Type 0 where
   pub keeps : Keeps near (length p) p q
 
 module _ (near : Near) where
-  pub fine-refl : (p : List ℕ) → Fine near p p
-  fine-refl p = record { size = refl; keeps = keeps_refl near (length p) p }
+  pub fine_refl : (p : List ℕ) → Fine near p p
+  fine_refl p = record { size = refl; keeps = keeps_refl near (length p) p }
 
-  pub fine-trans : (p q r : List ℕ) → Fine near p q → Fine near q r → Fine near p r
-  fine-trans p q r f g = record {
+  pub fine_trans : (p q r : List ℕ) → Fine near p q → Fine near q r → Fine near p r
+  fine_trans p q r f g = record {
     size = g.size ∙ f.size;
     keeps = keeps_trans near (length p) p q r f.keeps
         (subst (λ (m : ℕ). Keeps near m q r) f.size g.keeps);
@@ -76,20 +76,20 @@ module _ (near : Near) where
         go zero e =
             let ab = ordered c.pass (accepted z (length s.plane) c e).1 in
             record {
-              size = length-passed (pass_neighbours z c.pass) c.pass s.plane;
+              size = length_passed (pass_neighbours z c.pass) c.pass s.plane;
               keeps = passed_keeps near (pass_neighbours z c.pass) (wider e) (pass_sym z c.pass) c.pass
                   s.plane ab;
             }
-        go (suc k) e = fine-refl s.plane
+        go (suc k) e = fine_refl s.plane
 
-    pub chain-keeps : (s : State) (cs : List Call) → Within (length s.plane) cs
+    pub chain_keeps : (s : State) (cs : List Call) → Within (length s.plane) cs
         → Fine near s.plane (chain z s cs).plane
     unfolding chain
-    chain-keeps s [] empty = fine-refl s.plane
-    chain-keeps s (c ∷ cs) (next wider rest) =
+    chain_keeps s [] empty = fine_refl s.plane
+    chain_keeps s (c ∷ cs) (next wider rest) =
         let first = call-fine s c wider in
-        let later = chain-keeps (call z s c) cs (subst (λ (n : ℕ). Within n cs) (sym first.size) rest) in
-        fine-trans s.plane (call z s c).plane _ first later
+        let later = chain_keeps (call z s c) cs (subst (λ (n : ℕ). Within n cs) (sym first.size) rest) in
+        fine_trans s.plane (call z s c).plane _ first later
 
 -- the neighbours of the plane are inside those of every pass
 all_within : (z : Shape) (n : ℕ) (cs : List Call) → Within (neighbours z) z n cs
@@ -97,7 +97,7 @@ all_within z n [] = empty
 all_within z n (c ∷ cs) = next (λ _. pass_wider z c.pass) (all_within z n cs)
 
 pub chain_fine : (z : Shape) (s : State) (cs : List Call) → Fine (neighbours z) s.plane (chain z s cs).plane
-chain_fine z s cs = chain-keeps (neighbours z) z s cs (all_within z (length s.plane) cs)
+chain_fine z s cs = chain_keeps (neighbours z) z s cs (all_within z (length s.plane) cs)
 
 -- the neighbours by a number are those of every pass that carries it
 pub carries_within : (z : Shape) (s : Pass) {number : ℕ} → s.neighbours ≡ number

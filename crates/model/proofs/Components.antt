@@ -12,7 +12,7 @@ use Rattle.planes.specs.Shapes.{Symmetric}
 use Rattle.planes.proofs.Tests.{implies_out, implies_in}
 use Rattle.planes.proofs.Lists.{every_in, every_out, every_kept}
 use Rattle.planes.proofs.Links.{link_near}
-use Rattle.planes.proofs.Order.{component-same}
+use Rattle.planes.proofs.Order.{component_same}
 use Rattle.tones.specs.Tones.{tone}
 use Rattle.model.specs.declared.Pass.{Pass}
 use Rattle.model.specs.Passes.{within, inside, component_values, changes, retone, new_tone}
@@ -36,10 +36,10 @@ module _ (near : Near) (s : Pass) (p : List ℕ) (i : ℕ) (f : ℕ → Bool) wh
       every_kept f C (at p) (from 0 (length p))
       ∙ every_in _ (length p) (λ x l. implies_in (C x) (f (at p x)) (λ d. h x l d))
 
-  pub value-every : every f (component_values near s p i) ≡ true → (x : ℕ) → x < length p → C x ≡ true
+  pub value_every : every f (component_values near s p i) ≡ true → (x : ℕ) → x < length p → C x ≡ true
       → f (at p x) ≡ true
   unfolding component_values component
-  value-every e x l d =
+  value_every e x l d =
       let all = sym (every_kept f C (at p) (from 0 (length p))) ∙ e in
       implies_out (C x) (f (at p x)) (every_out _ (length p) all x l) d
 
@@ -47,18 +47,18 @@ module _ (near : Near) (s : Pass) (p : List ℕ) (i : ℕ) (f : ℕ → Bool) wh
 
 -- what a pixel becomes, by whether it is in the section
 module _ (near : Near) (s : Pass) (p : List ℕ) where
-  pub in-tone : (i : ℕ) → within s (at p i) ≡ true → new_tone near s p i ≡ retone s (component_values near s p i) (at p i)
+  pub in_tone : (i : ℕ) → within s (at p i) ≡ true → new_tone near s p i ≡ retone s (component_values near s p i) (at p i)
   unfolding new_tone
-  in-tone i e = ap (λ t. cond t (retone s (component_values near s p i) (at p i)) (at p i)) e
+  in_tone i e = ap (λ t. cond t (retone s (component_values near s p i) (at p i)) (at p i)) e
 
-  pub out-tone : (i : ℕ) → within s (at p i) ≡ false → new_tone near s p i ≡ at p i
+  pub out_tone : (i : ℕ) → within s (at p i) ≡ false → new_tone near s p i ≡ at p i
   unfolding new_tone
-  out-tone i e = ap (λ t. cond t (retone s (component_values near s p i) (at p i)) (at p i)) e
+  out_tone i e = ap (λ t. cond t (retone s (component_values near s p i) (at p i)) (at p i)) e
 
   -- a pixel of a component that is not changed stays
-  pub still-tone : (i : ℕ) → changes s (component_values near s p i) ≡ false → new_tone near s p i ≡ at p i
+  pub still_tone : (i : ℕ) → changes s (component_values near s p i) ≡ false → new_tone near s p i ≡ at p i
   unfolding new_tone retone
-  still-tone i e =
+  still_tone i e =
       let new : ℕ = tone s.rule s.a s.b (component_values near s p i) (at p i) in
       ap (λ (t : Bool). cond (within s (at p i)) (cond t new (at p i)) (at p i)) e
       ∙ same (within s (at p i)) (at p i)
@@ -70,19 +70,19 @@ module _ (near : Near) (s : Pass) (p : List ℕ) where
 -- ## Pixels of one component
 
 module _ (near : Near) (symm : Symmetric near) (s : Pass) (p : List ℕ) where
-  pub inside-sym : (i j : ℕ) → inside near s p i j ≡ inside near s p j i
+  pub inside_sym : (i j : ℕ) → inside near s p i j ≡ inside near s p j i
   unfolding inside
-  inside-sym i j = ap₂ ◌&&◌ (and_comm (within s (at p i)) (within s (at p j))) (symm i j)
+  inside_sym i j = ap₂ ◌&&◌ (and_comm (within s (at p i)) (within s (at p j))) (symm i j)
 
   -- linked pixels have the same values
-  pub linked-values : (i x : ℕ) → i < length p → x < length p → linked (inside near s p) (length p) i x ≡ true
+  pub linked_values : (i x : ℕ) → i < length p → x < length p → linked (inside near s p) (length p) i x ≡ true
       → component_values near s p i ≡ component_values near s p x
   unfolding component_values
-  linked-values i x hi hx e = ap (map (at p)) (component-same (inside near s p) inside-sym (length p) i x hi hx e)
+  linked_values i x hi hx e = ap (map (at p)) (component_same (inside near s p) inside_sym (length p) i x hi hx e)
 
   -- and so do neighbours in the section
-  pub same-values : (i j : ℕ) → i < length p → j < length p → within s (at p i) ≡ true → within s (at p j) ≡ true
+  pub same_values : (i j : ℕ) → i < length p → j < length p → within s (at p i) ≡ true → within s (at p j) ≡ true
       → near i j ≡ true → component_values near s p i ≡ component_values near s p j
   unfolding inside
-  same-values i j hi hj wi wj e =
-      linked-values i j hi hj (link_near (inside near s p) (length p) (and_intro (and_intro wi wj) e))
+  same_values i j hi hj wi wj e =
+      linked_values i j hi hj (link_near (inside near s p) (length p) (and_intro (and_intro wi wj) e))

@@ -11,7 +11,7 @@ use Rattle.planes.specs.Lists.{at, from}
 use Rattle.planes.specs.Neighbours.{Near}
 use Rattle.planes.specs.Shapes.{pixels, adjacency}
 use Rattle.planes.specs.declared.Shape.{Shape}
-use Rattle.planes.proofs.Links.{linked-iff}
+use Rattle.planes.proofs.Links.{linked_iff}
 use Rattle.planes.proofs.Shapes.{adjacency_sym, adjacency_chain}
 use Rattle.tones.specs.declared.Rule.{Rule}
 use Rattle.model.specs.declared.Pass.{Pass}
@@ -24,15 +24,15 @@ use Rattle.model.specs.Published.{published, Connected}
 use Rattle.model.proofs.Neighbourhoods.{pass_by}
 use Rattle.model.proofs.Chains.{accepted}
 use Rattle.model.proofs.Recursion.{all_append}
-use Rattle.model.proofs.Enhancement.{Accepted, enhanced-recursion}
-use Rattle.model.proofs.Published.{published-run}
+use Rattle.model.proofs.Enhancement.{Accepted, enhanced_recursion}
+use Rattle.model.proofs.Published.{published_run}
 
 pub plane_connected : (z : Shape) (number : ℕ) (p : List ℕ) → 1 ≤ z.w → 0 < length p
     → ((x : ℕ) → x < length p → at p x ≤ 255) → Connected (adjacency z number) p
 plane_connected z number p wide some bytes = record {
   some = some;
   bytes = bytes;
-  joined = λ x hx. (linked-iff (adjacency z number) (length p) 0 x some hx).1
+  joined = λ x hx. (linked_iff (adjacency z number) (length p) 0 x some hx).1
       (adjacency_chain z number (length p) wide x hx);
 }
 
@@ -75,9 +75,9 @@ module _ (area : ℕ) (rule : Rule) (number : ℕ) where
   levels-carry (l ∷ ls) = all_append (sections-carry area l (from 0 (2 ^ l))) (levels-carry ls)
 
   -- all passes of an enhancement
-  pub passes-carry : (last : ℕ) → All (Carries number) (passes last area rule number)
+  pub passes_carry : (last : ℕ) → All (Carries number) (passes last area rule number)
   unfolding passes level
-  passes-carry last = all_append (sections-carry 1 0 (from 0 (2 ^ 0))) (levels-carry (from 1 last))
+  passes_carry last = all_append (sections-carry 1 0 (from 0 (2 ^ 0))) (levels-carry (from 1 last))
 
 -- ## The enhancement
 
@@ -85,14 +85,14 @@ module _ (z : Shape) where
   head_of : {P : Pass → Type 0} {s : Pass} {ss : List Pass} → All P (s ∷ ss) → P s
   head_of (more x a) = x
 
-  pub enhanced-published : (last area : ℕ) (rule : Rule) (number : ℕ) (p : List ℕ) → last ≤ 7 → length p ≡ pixels z
+  pub enhanced_published : (last area : ℕ) (rule : Rule) (number : ℕ) (p : List ℕ) → last ≤ 7 → length p ≡ pixels z
       → ((x : ℕ) → x < length p → at p x ≤ 255) → All (Accepted z) (passes last area rule number)
       → chain_effect (enhanced z p last area rule number) ≡ published (adjacency z number) last area rule p
   unfolding passes level call_of
-  enhanced-published last area rule number p l size bytes a =
+  enhanced_published last area rule number p l size bytes a =
       let lent = (accepted z (pixels z) _ (head_of a)).0 in
       let some : 0 < length p = omega (arith, mul-pos lent.size.wide lent.size.high) in
       let c = plane_connected z number p lent.size.wide some bytes in
-      enhanced-recursion z last area rule number p l size a
+      enhanced_recursion z last area rule number p l size a
       ∙ run_carries z number (recursive-carries area rule number last) p
-      ∙ sym (published-run (adjacency z number) (adjacency_sym z number) area rule p c number last l)
+      ∙ sym (published_run (adjacency z number) (adjacency_sym z number) area rule p c number last l)

@@ -15,8 +15,8 @@ use Rattle.model.specs.Calls.{Call, pass_refusal, retoned_in, kept_in, total, Al
 use Rattle.model.specs.Calls.{start, call, chain, chain_effect}
 use Rattle.model.specs.Runs.{All, none, more}
 use Rattle.model.specs.Enhancement.{passes, call_of, enhanced, recursive}
-use Rattle.model.proofs.Order.{length-passed}
-use Rattle.model.proofs.Recursion.{effect_same, then_assoc, nothing_then, then_nothing, recursion-listed}
+use Rattle.model.proofs.Order.{length_passed}
+use Rattle.model.proofs.Recursion.{effect_same, then_assoc, nothing_then, then_nothing, recursion_listed}
 
 pub total_append : (f : Reply → ℕ) (xs ys : List Reply) → total f (xs ++ ys) ≡ total f xs + total f ys
 total_append f [] ys = sym (zero-add (total f ys))
@@ -57,14 +57,14 @@ module _ (z : Shape) (of : Pass → Call) (same : (s : Pass) → (of s).pass ≡
   unfolding call
   one s t l e = rw (l, e, same t, call) refl
 
-  pub chain-calls : (ss : List Pass) → All Taken ss → (s : State) → length s.plane ≡ pixels z
+  pub chain_calls : (ss : List Pass) → All Taken ss → (s : State) → length s.plane ≡ pixels z
       → chain_effect (runs s ss) ≡ then (chain_effect s) (run_effect (pass_neighbours z) ss s.plane)
   unfolding chain run_effect
-  chain-calls [] none s l = sym (then_nothing (chain_effect s))
-  chain-calls (t ∷ ss) (more e a) s l =
+  chain_calls [] none s l = sym (then_nothing (chain_effect s))
+  chain_calls (t ∷ ss) (more e a) s l =
       let next = after s t in
       let now = effect t s.plane in
-      let r = chain-calls ss a next (length-passed (pass_neighbours z t) t s.plane ∙ l) in
+      let r = chain_calls ss a next (length_passed (pass_neighbours z t) t s.plane ∙ l) in
       let sum : chain_effect next ≡ then (chain_effect s) now =
       effect_same refl (one_total retoned_in s now) (one_total kept_in s now) in
       ap (λ (x : State). chain_effect (runs x ss)) (one s t l e) ∙ r
@@ -72,14 +72,14 @@ module _ (z : Shape) (of : Pass → Call) (same : (s : Pass) → (of s).pass ≡
       ∙ then_assoc (chain_effect s) now (run_effect (pass_neighbours z) ss next.plane)
 
   -- and all of them are accepted
-  pub chain-taken : (ss : List Pass) → All Taken ss → (s : State) → length s.plane ≡ pixels z
+  pub chain_taken : (ss : List Pass) → All Taken ss → (s : State) → length s.plane ≡ pixels z
       → AllAccepted s.answers → AllAccepted (runs s ss).answers
   unfolding chain
-  chain-taken [] none s l a = a
-  chain-taken (t ∷ ss) (more e rest) s l a =
+  chain_taken [] none s l a = a
+  chain_taken (t ∷ ss) (more e rest) s l a =
       let next = after s t in
       subst (λ (x : State). AllAccepted (runs x ss).answers) (sym (one s t l e))
-      (chain-taken ss rest next (length-passed (pass_neighbours z t) t s.plane ∙ l) (accepted_more _ a))
+      (chain_taken ss rest next (length_passed (pass_neighbours z t) t s.plane ∙ l) (accepted_more _ a))
 
 -- ## The enhancement
 
@@ -92,26 +92,26 @@ module _ (z : Shape) where
       → chain_effect (chain z s (map (call_of (pixels z)) ss))
       ≡ then (chain_effect s) (run_effect (pass_neighbours z) ss s.plane)
   unfolding call_of
-  chain_runs = chain-calls z (call_of (pixels z)) (λ s. refl)
+  chain_runs = chain_calls z (call_of (pixels z)) (λ s. refl)
 
   -- from a first plane the effect is that of the run
-  pub start-runs : (ss : List Pass) → All Accepted ss → (p : List ℕ) → length p ≡ pixels z
+  pub start_runs : (ss : List Pass) → All Accepted ss → (p : List ℕ) → length p ≡ pixels z
       → chain_effect (chain z (start p) (map (call_of (pixels z)) ss)) ≡ run_effect (pass_neighbours z) ss p
-  start-runs ss a p size = chain_runs ss a (start p) size ∙ nothing_then p (run_effect (pass_neighbours z) ss p)
+  start_runs ss a p size = chain_runs ss a (start p) size ∙ nothing_then p (run_effect (pass_neighbours z) ss p)
 
   -- in an enhancement whose passes are all accepted, all calls are
-  pub enhanced-accepted : (last area : ℕ) (rule : Rule) (number : ℕ) (p : List ℕ) → length p ≡ pixels z
+  pub enhanced_accepted : (last area : ℕ) (rule : Rule) (number : ℕ) (p : List ℕ) → length p ≡ pixels z
       → All Accepted (passes last area rule number) → AllAccepted (enhanced z p last area rule number).answers
   unfolding enhanced call_of
-  enhanced-accepted last area rule number p size a =
-      chain-taken z (call_of (pixels z)) (λ s. refl) (passes last area rule number) a (start p) size none
+  enhanced_accepted last area rule number p size a =
+      chain_taken z (call_of (pixels z)) (λ s. refl) (passes last area rule number) a (start p) size none
 
   -- its effect is the recursion's
-  pub enhanced-recursion : (last area : ℕ) (rule : Rule) (number : ℕ) (p : List ℕ) → last ≤ 7 → length p ≡ pixels z
+  pub enhanced_recursion : (last area : ℕ) (rule : Rule) (number : ℕ) (p : List ℕ) → last ≤ 7 → length p ≡ pixels z
       → All Accepted (passes last area rule number)
       → chain_effect (enhanced z p last area rule number)
       ≡ run_effect (pass_neighbours z) (recursive last area rule number) p
   unfolding enhanced
-  enhanced-recursion last area rule number p l size a =
-      start-runs (passes last area rule number) a p size
-      ∙ sym ((recursion-listed (pass_neighbours z) last area rule number l).effects p)
+  enhanced_recursion last area rule number p l size a =
+      start_runs (passes last area rule number) a p size
+      ∙ sym ((recursion_listed (pass_neighbours z) last area rule number l).effects p)

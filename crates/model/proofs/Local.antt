@@ -13,7 +13,7 @@ use Rattle.planes.specs.Neighbours.{Near, Chain, here, step, linked, component}
 use Rattle.planes.proofs.Tests.{decide}
 use Rattle.planes.proofs.Lists.{map_same}
 use Rattle.planes.proofs.Counts.{keep_same}
-use Rattle.planes.proofs.Links.{linked-iff, link-refl}
+use Rattle.planes.proofs.Links.{linked_iff, link_refl}
 use Rattle.planes.proofs.Neighbours.{filled}
 use Rattle.model.specs.declared.Pass.{Pass}
 use Rattle.model.specs.Passes.{within, inside, component_values, new_tone}
@@ -36,8 +36,8 @@ module _ (near : Near) (s : Pass) (p r : List ℕ) (size : length r ≡ length p
     same-component : (x : ℕ) → x < length p → C x ≡ linked In' (length p) i x
     unfolding inside
     same-component =
-        filled In' (length p) i C hi (link-refl In (length p) i) closed
-        (λ u hu d. reach ((linked-iff In (length p) i u hi hu).0 d))
+        filled In' (length p) i C hi (link_refl In (length p) i) closed
+        (λ u hu d. reach ((linked_iff In (length p) i u hi hu).0 d))
       where
         closed : (u v : ℕ) → u < length p → v < length p → C u ≡ true → In' u v ≡ true → C v ≡ true
         closed u v hu hv c e = elim (decide (C v)) [
@@ -51,7 +51,7 @@ module _ (near : Near) (s : Pass) (p r : List ℕ) (size : length r ≡ length p
 
         -- a pixel of a chain is in the component
         in-C : {u : ℕ} → u < length p → Chain In (length p) i u → C u ≡ true
-        in-C {u} hu c = (linked-iff In (length p) i u hi hu).1 c
+        in-C {u} hu c = (linked_iff In (length p) i u hi hu).1 c
 
         end : {u : ℕ} → Chain In (length p) i u → u < length p
         end here = hi
@@ -66,10 +66,10 @@ module _ (near : Near) (s : Pass) (p r : List ℕ) (size : length r ≡ length p
             let e₂ = subst (λ (v : ℕ). (within s v && within s (at r k) && near j k) ≡ true) old-j e₁ in
             step (reach c) e₂ h
 
-    pub component-alike : new_tone near s r i ≡ new_tone near s p i
+    pub component_alike : new_tone near s r i ≡ new_tone near s p i
     unfolding new_tone component_values component
-    component-alike =
-        rw (agree i hi (link-refl In (length p) i), size, ap (λ (l : List ℕ). map (at r) l) comps, tones)
+    component_alike =
+        rw (agree i hi (link_refl In (length p) i), size, ap (λ (l : List ℕ). map (at r) l) comps, tones)
       where
         comps : keep (linked In' (length p) i) (from 0 (length p)) ≡ keep C (from 0 (length p))
         comps = keep_same _ _ 0 (length p) (λ x _ h. sym (same-component x (omega arith)))

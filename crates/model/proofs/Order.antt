@@ -20,7 +20,7 @@ use Rattle.tones.specs.Tones.{tone}
 use Rattle.histograms.specs.Sound.{Sound}
 use Rattle.tones.proofs.Sound.{tone_sound}
 use Rattle.model.specs.declared.Pass.{Pass}
-use Rattle.model.proofs.Components.{in-tone, out-tone, same-values}
+use Rattle.model.proofs.Components.{in_tone, out_tone, same_values}
 use Rattle.model.specs.Passes.{within, component_values, changes, retone, new_tone, passed}
 
 -- ## A pass
@@ -67,37 +67,37 @@ module _ (near wider : Near) (within-it : Narrower near wider) (symm : Symmetric
 
       go : (t u : Bool) → within s vi ≡ t → within s vj ≡ u → new_tone wider s p i ≤ new_tone wider s p j
       go true true wi wj =
-          let one = same-values wider symm s p i j hi hj wi wj (within-it i j e) in
-          rw (in-tone wider s p i wi, in-tone wider s p j wj, one)
+          let one = same_values wider symm s p i j hi hj wi wj (within-it i j e) in
+          rw (in_tone wider s p i wi, in_tone wider s p j wj, one)
           ((S (component_values wider s p j)).rises vi vj (in-of s vi wi).0 h (in-of s vj wj).1)
-      go true false wi wj = rw (in-tone wider s p i wi, out-tone wider s p j wj)
+      go true false wi wj = rw (in_tone wider s p i wi, out_tone wider s p j wj)
           (elim (out_of s vj wj) [
             | inl k ↦ absurd (omega (arith, in-of s vi wi, k, h))
             | inr k ↦ le_trans ((S (component_values wider s p i)).below vi (in-of s vi wi).0 (in-of s vi wi).1)
                 (le_of_lt k)
           ])
-      go false true wi wj = rw (out-tone wider s p i wi, in-tone wider s p j wj)
+      go false true wi wj = rw (out_tone wider s p i wi, in_tone wider s p j wj)
           (elim (out_of s vi wi) [
             | inl k ↦ le_trans (le_of_lt k)
                 ((S (component_values wider s p j)).above vj (in-of s vj wj).0 (in-of s vj wj).1)
             | inr k ↦ absurd (omega (arith, in-of s vj wj, k, h))
           ])
-      go false false wi wj = rw (out-tone wider s p i wi, out-tone wider s p j wj) h
+      go false false wi wj = rw (out_tone wider s p i wi, out_tone wider s p j wj) h
 
 -- ## The plane after a pass
 
 module _ (near : Near) where
-  pub length-passed : (s : Pass) (p : List ℕ) → length (passed near s p) ≡ length p
+  pub length_passed : (s : Pass) (p : List ℕ) → length (passed near s p) ≡ length p
   unfolding passed
-  length-passed s p = length_all (new_tone near s p) (length p)
+  length_passed s p = length_all (new_tone near s p) (length p)
 
-  pub passed-at : (s : Pass) (p : List ℕ) (i : ℕ) → i < length p → at (passed near s p) i ≡ new_tone near s p i
+  pub passed_at : (s : Pass) (p : List ℕ) (i : ℕ) → i < length p → at (passed near s p) i ≡ new_tone near s p i
   unfolding passed
-  passed-at s p i h = all_at (new_tone near s p) (length p) i h
+  passed_at s p i h = all_at (new_tone near s p) (length p) i h
 
 pub passed_keeps : (near wider : Near) → Narrower near wider → Symmetric wider → (s : Pass) (p : List ℕ) → s.a ≤ s.b
     → Keeps near (length p) p (passed wider s p)
 passed_keeps near wider within-it symm s p ab = record {
-  ordered = λ i j hi hj e h. rw (passed-at wider s p i hi, passed-at wider s p j hj)
+  ordered = λ i j hi hj e h. rw (passed_at wider s p i hi, passed_at wider s p j hj)
       (order near wider within-it symm s ab p i j hi hj e h);
 }

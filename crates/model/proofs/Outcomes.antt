@@ -3,9 +3,9 @@
 --   refused_by      by a number other than 0 the call answers it, and nothing changes
 --   done_by         by 0 the call has its effect
 --   outcome_number  the outcome by another name of the number
---   outcome-given   a call that gives values was not refused, and had its effect
---   outcome-stays   a call that was refused left all memory as it was
---   output_number, output_refused_by, output_done_by, output-given, output-stays   the same with an output
+--   outcome_given   a call that gives values was not refused, and had its effect
+--   outcome_stays   a call that was refused left all memory as it was
+--   output_number, output_refused_by, output_done_by, output_given, output_stays   the same with an output
 use Prim.Native.Nat.{ℕ}
 use mathlib.Core.Path.{◌≡◌, refl, sym, ap, subst, ◌∙◌}
 use mathlib.Core.List.{List}
@@ -46,15 +46,15 @@ done_by none O = outcome_number (sym none) record {
 }
 
 module _ {n number : ℕ} {e : Effect} {plane marks queue plane' marks' queue' : List ℕ} where
-  pub outcome-given : {vs : List ℕ} → Outcome n number e plane marks queue (gives vs) plane' marks' queue'
+  pub outcome_given : {vs : List ℕ} → Outcome n number e plane marks queue (gives vs) plane' marks' queue'
       → (number ≡ 0) × ((vs ≡ counts e) × (plane' ≡ e.plane))
-  outcome-given O =
+  outcome_given O =
       let given = replied_gives number (counts e) (sym O.answer) in
       (given.0, (given.1, O.plane_is ∙ ap (λ (k : ℕ). after k plane e.plane) given.0))
 
-  pub outcome-stays : {k : ℕ} → Outcome n number e plane marks queue (refuses k) plane' marks' queue'
+  pub outcome_stays : {k : ℕ} → Outcome n number e plane marks queue (refuses k) plane' marks' queue'
       → (plane' ≡ plane) × ((marks' ≡ marks) × (queue' ≡ queue))
-  outcome-stays O =
+  outcome_stays O =
       let (j, (is, _)) = replied_refuses number (counts e) (sym O.answer) in
       (O.plane_is ∙ ap (λ (k : ℕ). after k plane e.plane) is, O.refused j is)
 
@@ -85,15 +85,15 @@ output_done_by {bytes = bytes} {output = output} none O written = record {
 }
 
 module _ {n number : ℕ} {e : Effect} {bytes plane marks queue output plane' marks' queue' output' : List ℕ} where
-  pub output-given : {vs : List ℕ}
+  pub output_given : {vs : List ℕ}
       → OutputOutcome n number e bytes plane marks queue output (gives vs) plane' marks' queue' output'
       → output' ≡ overwritten output bytes
-  output-given O =
-      O.output_is ∙ ap (λ (k : ℕ). after k output (overwritten output bytes)) (outcome-given O.retoned).0
+  output_given O =
+      O.output_is ∙ ap (λ (k : ℕ). after k output (overwritten output bytes)) (outcome_given O.retoned).0
 
-  pub output-stays : {k : ℕ}
+  pub output_stays : {k : ℕ}
       → OutputOutcome n number e bytes plane marks queue output (refuses k) plane' marks' queue' output'
       → output' ≡ output
-  output-stays O =
+  output_stays O =
       let (j, (is, _)) = replied_refuses number (counts e) (sym O.retoned.answer) in
       O.output_is ∙ ap (λ (k : ℕ). after k output (overwritten output bytes)) is

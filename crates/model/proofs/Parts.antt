@@ -18,7 +18,7 @@ use Rattle.planes.specs.Neighbours.{Near, linked, component, first}
 use Rattle.planes.proofs.Tests.{decide, and_middle, and_last, never, contra}
 use Rattle.planes.proofs.Lists.{all_at, length_all, every_same, map_same}
 use Rattle.planes.proofs.Counts.{keep_same, count_same, count_none, count_mono_from, count_sum}
-use Rattle.planes.proofs.Links.{linked-iff, link-sym}
+use Rattle.planes.proofs.Links.{linked_iff, link_sym}
 use Rattle.tones.specs.Tones.{kept}
 use Rattle.model.specs.declared.Pass.{Pass}
 use Rattle.model.specs.Passes.{within, inside, component_values, sufficient, changes, kept_back, new_tone, passed}
@@ -26,11 +26,11 @@ use Rattle.model.specs.Passes.{counted, component_count}
 use Rattle.model.specs.Effects.{Effect, nothing, then, always, pass_effect, run_effect}
 use Rattle.model.specs.Runs.{run, run_count, run_kept, All, none, more}
 use Rattle.model.specs.Published.{between}
-use Rattle.model.proofs.Components.{values_length, out-tone, still-tone, inside-sym}
-use Rattle.model.proofs.Order.{length-passed, passed-at}
+use Rattle.model.proofs.Components.{values_length, out_tone, still_tone, inside_sym}
+use Rattle.model.proofs.Order.{length_passed, passed_at}
 use Rattle.model.proofs.Apart.{stays}
 use Rattle.model.proofs.Recursion.{all_map, effect_same, nothing_then}
-use Rattle.model.proofs.Sets.{linked-in, linked-stays, Separate, separate_turn}
+use Rattle.model.proofs.Sets.{linked_in, linked_stays, Separate, separate_turn}
 
 -- ## Passes on sections in [lo, hi]
 
@@ -148,9 +148,9 @@ module _ (near : Near) (symm : Symmetric near) (n lo hi area : ℕ) where
 
   module _ (A : ℕ → Bool) (p m : List ℕ) (S : Shows n lo hi A p m) (lone : Isolated near n lo hi A p) (s : Pass)
       (F : InRange lo hi area s) where
-    inside-part : (x y : ℕ) → x < n → y < n → A x ≡ true → inside near s p x y ≡ inside near s m x y
+    inside_part : (x y : ℕ) → x < n → y < n → A x ≡ true → inside near s p x y ≡ inside near s m x y
     unfolding inside
-    inside-part x y hx hy a = elim (decide (A y)) [
+    inside_part x y hx hy a = elim (decide (A y)) [
       | inl b ↦ ap₂ (λ (v w : ℕ). within s v && within s w && near x y) (sym (S.on x hx a)) (sym (S.on y hy b))
       | inr b ↦ outside b (decide (near x y)) ∙ sym (inside_out near s m x y (range_out F (at m y) (S.off y hy b)))
     ]
@@ -167,7 +167,7 @@ module _ (near : Near) (symm : Symmetric near) (n lo hi area : ℕ) where
 
     link-part : (x y : ℕ) → x < n → y < n → A x ≡ true
         → linked (inside near s p) n x y ≡ linked (inside near s m) n x y
-    link-part = linked-in n (inside near s p) (inside near s m) A inside-part closed
+    link-part = linked_in n (inside near s p) (inside near s m) A inside_part closed
 
     values-part : (x : ℕ) → x < n → A x ≡ true → component_values near s p x ≡ component_values near s m x
     unfolding component_values component
@@ -175,7 +175,7 @@ module _ (near : Near) (symm : Symmetric near) (n lo hi area : ℕ) where
         rw (S.whole, S.size) (ap (map (at p)) (keep_same _ _ 0 n (λ y _ h. link-part x y hx (omega arith) a))
         ∙ map_same (linked (inside near s m) n x) (at p) (at m) 0 n (λ y _ h d.
         let hy : y < n = omega arith in
-        sym (S.on y hy (linked-stays n (inside near s p) (inside near s m) A inside-part closed x y hx hy a d))))
+        sym (S.on y hy (linked_stays n (inside near s p) (inside near s m) A inside_part closed x y hx hy a d))))
 
     -- a pixel of the part becomes what it becomes in the plane, and counts as it does there
     tone-part : (x : ℕ) → x < n → A x ≡ true → new_tone near s m x ≡ new_tone near s p x
@@ -186,27 +186,27 @@ module _ (near : Near) (symm : Symmetric near) (n lo hi area : ℕ) where
     unfolding first
     counted-part f x hx a = rw (values-part x hx a, S.on x hx a, S.whole, S.size)
         (ap (within s (at p x) && f (component_values near s m x) &&◌) (every_same _ _ 0 x (λ y _ h.
-        ap not (link-sym (inside near s m) (inside-sym near symm s m) n y x
+        ap not (link_sym (inside near s m) (inside_sym near symm s m) n y x
         ∙ sym (link-part x y hx (omega arith) a)
-        ∙ link-sym (inside near s p) (inside-sym near symm s p) n x y))))
+        ∙ link_sym (inside near s p) (inside_sym near symm s p) n x y))))
 
     -- the other pixels of m stay, and are not counted
     still-rest : (x : ℕ) → x < n → A x ≡ false → new_tone near s m x ≡ at m x
-    still-rest x hx a = out-tone near s m x (range_out F (at m x) (S.off x hx a))
+    still-rest x hx a = out_tone near s m x (range_out F (at m x) (S.off x hx a))
 
     none_rest : (f : List ℕ → Bool) (x : ℕ) → x < n → A x ≡ false → counted f near s m x ≡ false
     none_rest f x hx a = rw (range_out F (at m x) (S.off x hx a))
 
     shows-passed : Shows n lo hi A (passed near s p) (passed near s m)
     shows-passed = record {
-      whole = length-passed near s p ∙ S.whole;
-      size = length-passed near s m ∙ S.size;
-      on = λ x hx a. at-passed m S.size x hx ∙ tone-part x hx a ∙ sym (at-passed p S.whole x hx);
-      off = λ x hx a. ap (between lo hi) (at-passed m S.size x hx ∙ still-rest x hx a) ∙ S.off x hx a;
+      whole = length_passed near s p ∙ S.whole;
+      size = length_passed near s m ∙ S.size;
+      on = λ x hx a. at_passed m S.size x hx ∙ tone-part x hx a ∙ sym (at_passed p S.whole x hx);
+      off = λ x hx a. ap (between lo hi) (at_passed m S.size x hx ∙ still-rest x hx a) ∙ S.off x hx a;
     }
       where
-        at-passed : (q : List ℕ) → length q ≡ n → (x : ℕ) → x < n → at (passed near s q) x ≡ new_tone near s q x
-        at-passed q e x hx = passed-at near s q x (omega arith)
+        at_passed : (q : List ℕ) → length q ≡ n → (x : ℕ) → x < n → at (passed near s q) x ≡ new_tone near s q x
+        at_passed q e x hx = passed_at near s q x (omega arith)
 
   -- ## Two parts
 
@@ -225,7 +225,7 @@ module _ (near : Near) (symm : Symmetric near) (n lo hi area : ℕ) where
       rest = λ x hx a b.
           let out = T.rest x hx a b in
           let hx' : x < length p = omega (arith, T.one.whole) in
-          ap (between lo hi) (passed-at near s p x hx' ∙ out-tone near s p x (range_out F (at p x) out)) ∙ out;
+          ap (between lo hi) (passed_at near s p x hx' ∙ out_tone near s p x (range_out F (at p x) out)) ∙ out;
     }
 
     counts-join : (f : List ℕ → Bool)
@@ -253,15 +253,15 @@ module _ (near : Near) (symm : Symmetric near) (n lo hi area : ℕ) where
             omega arith
 
   -- what a run makes of two parts, it makes of each alone, and the counts add up
-  pub parts-run : (A B : ℕ → Bool) → Separate near n A B → (ss : List Pass) → All (InRange lo hi area) ss
+  pub parts_run : (A B : ℕ → Bool) → Separate near n A B → (ss : List Pass) → All (InRange lo hi area) ss
       → (p q r : List ℕ) → TwoParts n lo hi A B p q r
       → TwoParts n lo hi A B (run (always near) ss p) (run (always near) ss q) (run (always near) ss r)
       × ((run_count (always near) ss p ≡ run_count (always near) ss q + run_count (always near) ss r)
       × (run_kept (always near) ss p ≡ run_kept (always near) ss q + run_kept (always near) ss r))
   unfolding run_effect
-  parts-run A B w [] none p q r T = (T, (refl, refl))
-  parts-run A B w (s ∷ ss) (more F fits) p q r T =
-      let rest = parts-run A B w ss fits _ _ _ (parts-passed A B w p q r T s F) in
+  parts_run A B w [] none p q r T = (T, (refl, refl))
+  parts_run A B w (s ∷ ss) (more F fits) p q r T =
+      let rest = parts_run A B w ss fits _ _ _ (parts-passed A B w p q r T s F) in
       let join = counts-join A B w p q r T s F in (
         rest.0,
         (omega (arith, rest.1.0, join (changes s)), omega (arith, rest.1.1, join (kept_back s))),
@@ -287,21 +287,21 @@ module _ (near : Near) (symm : Symmetric near) (n lo hi area : ℕ) where
         let fewer : count C (from 0 n) ≤ count A (from 0 n) =
         count_mono_from C A 0 n (λ y _ h d.
         let hy : y < n = omega arith in
-        in-part s F y hy (stays near s m n e ((linked-iff (inside near s m) n x y hx hy).0 d))) in
+        in-part s F y hy (stays near s m n e ((linked_iff (inside near s m) n x y hx hy).0 d))) in
         let small : length (component_values near s m x) < s.area =
         omega (arith, F.least, few x hx (in-part s F x hx e)) in
         lt-leb s.area _ small
 
     small-pass : (s : Pass) → InRange lo hi area s → passed near s m ≡ m
     small-pass s F =
-        ext_get_or 0 _ _ (length-passed near s m) (λ x h.
-        let hx : x < length m = omega (arith, length-passed near s m) in
-        passed-at near s m x hx ∙ still x (omega (arith, size)) (decide (within s (at m x))))
+        ext_get_or 0 _ _ (length_passed near s m) (λ x h.
+        let hx : x < length m = omega (arith, length_passed near s m) in
+        passed_at near s m x hx ∙ still x (omega (arith, size)) (decide (within s (at m x))))
       where
         still : (x : ℕ) → x < n → (within s (at m x) ≡ true) ⊎ (within s (at m x) ≡ false)
             → new_tone near s m x ≡ at m x
-        still x hx (inl e) = still-tone near s m x (changes_area s _ (insufficient s F x hx e))
-        still x hx (inr e) = out-tone near s m x e
+        still x hx (inl e) = still_tone near s m x (changes_area s _ (insufficient s F x hx e))
+        still x hx (inr e) = out_tone near s m x e
 
     -- no test that asks for a sufficient area counts a component
     small_count : (s : Pass) → InRange lo hi area s → (f : List ℕ → Bool)
@@ -317,29 +317,29 @@ module _ (near : Near) (symm : Symmetric near) (n lo hi area : ℕ) where
             and_middle (within s (at m x)) (f (component_values near s m x)) _ (asks _ (insufficient s F x hx e))
         uncounted x hx (inr e) = rw e
 
-    pub small-run : (ss : List Pass) → All (InRange lo hi area) ss → run_effect (always near) ss m ≡ nothing m
+    pub small_run : (ss : List Pass) → All (InRange lo hi area) ss → run_effect (always near) ss m ≡ nothing m
     unfolding run_effect
-    small-run [] none = refl
-    small-run (s ∷ ss) (more F fits) =
+    small_run [] none = refl
+    small_run (s ∷ ss) (more F fits) =
         let now : pass_effect (always near) s m ≡ nothing m = effect_same (small-pass s F)
         (small_count s F (changes s) (changes_area s)) (small_count s F (kept_back s) (kept_area s)) in
         ap (λ (e : Effect). then e (run_effect (always near) ss e.plane)) now
-        ∙ ap (then (nothing m)) (small-run ss fits)
+        ∙ ap (then (nothing m)) (small_run ss fits)
         ∙ nothing_then m (nothing m)
 
   -- ## Pixels outside [lo, hi]
 
-  pub run-outside : (ss : List Pass) → All (InRange lo hi area) ss → (m : List ℕ) (x : ℕ) → x < length m
+  pub run_outside : (ss : List Pass) → All (InRange lo hi area) ss → (m : List ℕ) (x : ℕ) → x < length m
       → between lo hi (at m x) ≡ false → at (run (always near) ss m) x ≡ at m x
   unfolding run_effect
-  run-outside [] none m x h e = refl
-  run-outside (s ∷ ss) (more F fits) m x h e =
-      let same = passed-at near s m x h ∙ out-tone near s m x (range_out F (at m x) e) in
-      run-outside ss fits (passed near s m) x (omega (arith, length-passed near s m))
+  run_outside [] none m x h e = refl
+  run_outside (s ∷ ss) (more F fits) m x h e =
+      let same = passed_at near s m x h ∙ out_tone near s m x (range_out F (at m x) e) in
+      run_outside ss fits (passed near s m) x (omega (arith, length_passed near s m))
       (ap (between lo hi) same ∙ e)
       ∙ same
 
 pub length_run : (by : Pass → Near) (ss : List Pass) (m : List ℕ) → length (run by ss m) ≡ length m
 unfolding run_effect
 length_run by [] m = refl
-length_run by (s ∷ ss) m = length_run by ss (passed (by s) s m) ∙ length-passed (by s) s m
+length_run by (s ∷ ss) m = length_run by ss (passed (by s) s m) ∙ length_passed (by s) s m

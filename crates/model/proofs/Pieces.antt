@@ -15,7 +15,7 @@ use Rattle.planes.specs.Neighbours.{Near, linked, component, first}
 use Rattle.planes.proofs.Tests.{decide, and_middle, same_test}
 use Rattle.planes.proofs.Lists.{all_at, length_all, map_same}
 use Rattle.planes.proofs.Counts.{keep_same, count_same, count_none, count_one}
-use Rattle.planes.proofs.Links.{link-sym}
+use Rattle.planes.proofs.Links.{link_sym}
 use Rattle.planes.proofs.Fewer.{first_one, first_of}
 use Rattle.tones.specs.Tones.{tone, kept}
 use Rattle.model.specs.declared.Pass.{Pass}
@@ -24,12 +24,12 @@ use Rattle.model.specs.Passes.{counted, component_count, pass_count, pass_kept}
 use Rattle.model.specs.Runs.{run, run_count, run_kept, All}
 use Rattle.model.specs.Effects.{Effect, always, run_effect}
 use Rattle.model.specs.Published.{between, amid, painted, histogram_equalization}
-use Rattle.model.proofs.Components.{in-tone, inside-sym}
-use Rattle.model.proofs.Order.{passed-at}
-use Rattle.model.proofs.Apart.{linked-same}
-use Rattle.model.proofs.Recursion.{run-append}
-use Rattle.model.proofs.Sets.{member_keep, pixels_of, amid-is, linked_to}
-use Rattle.model.proofs.Parts.{InRange, Shows, small-run, run-outside, length_run}
+use Rattle.model.proofs.Components.{in_tone, inside_sym}
+use Rattle.model.proofs.Order.{passed_at}
+use Rattle.model.proofs.Apart.{linked_same}
+use Rattle.model.proofs.Recursion.{run_append}
+use Rattle.model.proofs.Sets.{member_keep, pixels_of, amid_is, linked_to}
+use Rattle.model.proofs.Parts.{InRange, Shows, small_run, run_outside, length_run}
 
 -- ## What work does
 
@@ -53,11 +53,11 @@ does_same same D = record {
 
 module _ (near : Near) (symm : Symmetric near) (n : ℕ) (A : ℕ → Bool) where
   -- nothing is done to a set that has less than the least area
-  pub idle-does : {lo hi area : ℕ} {t : Effect} {m : List ℕ} → Shows n lo hi A t.plane m
+  pub idle_does : {lo hi area : ℕ} {t : Effect} {m : List ℕ} → Shows n lo hi A t.plane m
       → ((x : ℕ) → x < n → A x ≡ true → count A (from 0 n) < area)
       → (ss : List Pass) → All (InRange lo hi area) ss → Does near n A ss m t t
-  idle-does {lo} {hi} {area} {t} {m} S few ss fits =
-      let idle = small-run near symm n lo hi area A few m S.size S.off ss fits in
+  idle_does {lo} {hi} {area} {t} {m} S few ss fits =
+      let idle = small_run near symm n lo hi area A few m S.size S.off ss fits in
       record {
         size = S.whole;
         on = λ x hx a. sym (ap (λ (e : Effect). at e.plane x) idle ∙ S.on x hx a);
@@ -67,24 +67,24 @@ module _ (near : Near) (symm : Symmetric near) (n : ℕ) (A : ℕ → Bool) wher
       }
 
   -- work after work is the run after the run
-  pub does-append : {xs ys : List Pass} {m : List ℕ} {t t₁ t₂ : Effect} → Does near n A xs m t t₁
+  pub does_append : {xs ys : List Pass} {m : List ℕ} {t t₁ t₂ : Effect} → Does near n A xs m t t₁
       → Does near n A ys (run (always near) xs m) t₁ t₂ → Does near n A (xs ++ ys) m t t₂
-  does-append {xs} {ys} {m} D E = record {
+  does_append {xs} {ys} {m} D E = record {
     size = E.size;
-    on = λ x hx a. E.on x hx a ∙ sym (ap (λ (e : Effect). at e.plane x) (run-append (always near) xs ys m));
+    on = λ x hx a. E.on x hx a ∙ sym (ap (λ (e : Effect). at e.plane x) (run_append (always near) xs ys m));
     off = λ x hx a. E.off x hx a ∙ D.off x hx a;
-    sum = omega (arith, D.sum, E.sum, ap (λ (e : Effect). e.retoned) (run-append (always near) xs ys m));
-    kept_sum = omega (arith, D.kept_sum, E.kept_sum, ap (λ (e : Effect). e.kept) (run-append (always near) xs ys m));
+    sum = omega (arith, D.sum, E.sum, ap (λ (e : Effect). e.retoned) (run_append (always near) xs ys m));
+    kept_sum = omega (arith, D.kept_sum, E.kept_sum, ap (λ (e : Effect). e.kept) (run_append (always near) xs ys m));
   }
 
-  pub does-shows : {lo hi area : ℕ} {ss : List Pass} {m : List ℕ} {t t' : Effect} → Shows n lo hi A t.plane m
+  pub does_shows : {lo hi area : ℕ} {ss : List Pass} {m : List ℕ} {t t' : Effect} → Shows n lo hi A t.plane m
       → All (InRange lo hi area) ss → Does near n A ss m t t' → Shows n lo hi A t'.plane (run (always near) ss m)
-  does-shows {lo} {hi} {area} {ss} {m} S fits D = record {
+  does_shows {lo} {hi} {area} {ss} {m} S fits D = record {
     whole = D.size;
     size = length_run (always near) ss m ∙ S.size;
     on = λ x hx a. sym (D.on x hx a);
     off = λ x hx a.
-        ap (between lo hi) (run-outside near symm n lo hi area ss fits m x (omega (arith, S.size)) (S.off x hx a))
+        ap (between lo hi) (run_outside near symm n lo hi area ss fits m x (omega (arith, S.size)) (S.off x hx a))
         ∙ S.off x hx a;
   }
 
@@ -139,8 +139,8 @@ module _ (near : Near) (symm : Symmetric near) (n : ℕ) (A : ℕ → Bool) (s :
 
   links : (x y : ℕ) → x < n → y < n → linked In n x y ≡ linked (amid near (pixels_of n A)) n x y
   unfolding inside
-  links x y hx hy = linked-same n In (amid near (pixels_of n A)) (λ u v hu hv.
-      ap₂ (λ (x y : Bool). x && y && near u v) (in-section u hu) (in-section v hv) ∙ sym (amid-is near n A u v hu hv))
+  links x y hx hy = linked_same n In (amid near (pixels_of n A)) (λ u v hu hv.
+      ap₂ (λ (x y : Bool). x && y && near u v) (in-section u hu) (in-section v hv) ∙ sym (amid_is near n A u v hu hv))
       n x y (omega arith) hx hy
 
   values_are : (x : ℕ) → x < n → A x ≡ true → component_values near s m x ≡ vs
@@ -168,8 +168,8 @@ module _ (near : Near) (symm : Symmetric near) (n : ℕ) (A : ℕ → Bool) (s :
   tone-is : (x : ℕ) → x < n → A x ≡ true → at (passed near s m) x ≡ value x (not back)
   unfolding retone
   tone-is x hx a =
-      passed-at near s m x (omega (arith, S.size))
-      ∙ in-tone near s m x (in-section x hx ∙ a)
+      passed_at near s m x (omega (arith, S.size))
+      ∙ in_tone near s m x (in-section x hx ∙ a)
       ∙ rw (values_are x hx a, changes-are, S.on x hx a)
 
   counted_is : (f : List ℕ → Bool) (x : ℕ) → x < n → counted f near s m x ≡ (A x && f vs && first n In x)
@@ -184,23 +184,23 @@ module _ (near : Near) (symm : Symmetric near) (n : ℕ) (A : ℕ → Bool) (s :
   count-is f = rw S.size (count_same (counted f near s m) _ n (counted_is f) ∙ go (f vs))
     where
       turn : (i j : ℕ) → In i j ≡ In j i
-      turn = inside-sym near symm s m
+      turn = inside_sym near symm s m
 
       go : (k : Bool) → count (λ x. A x && k && first n In x) (from 0 n) ≡ cond k 1 0
       go false =
           count_same _ (λ x. false) n (λ x hx. and_middle (A x) false (first n In x) refl) ∙ count_none (from 0 n)
       go true =
           let y = first_of In turn n P.pixel P.below in
-          let d = sym (links P.pixel y.0 P.below y.1) ∙ link-sym In turn n P.pixel y.0 ∙ y.2 in
+          let d = sym (links P.pixel y.0 P.below y.1) ∙ link_sym In turn n P.pixel y.0 ∙ y.2 in
           let a = linked_to near n A P.pixel y.0 P.below y.1 P.holds d in
           count_one _ n y.0 y.1 (and_intro (and_intro a refl) y.3) (λ x hx e.
           let b = and_elim_left (A x) true (and_elim_left (A x && true) (first n In x) e) in
           first_one In turn n x y.0 (and_elim_right (A x && true) (first n In x) e) y.3
           (links x y.0 hx y.1 ∙ P.joined x y.0 hx y.1 b a))
 
-  pub equalization-does : Does near n A (s ∷ []) m t (histogram_equalization s.rule s.a s.b (pixels_of n A) t)
+  pub equalization_does : Does near n A (s ∷ []) m t (histogram_equalization s.rule s.a s.b (pixels_of n A) t)
   unfolding histogram_equalization run_effect painted
-  equalization-does = go back refl
+  equalization_does = go back refl
     where
       after : Effect
       after = record {

@@ -21,22 +21,22 @@ use Rattle.planes.proofs.Tests.{decide, contra}
 use Rattle.planes.proofs.Lists.{keep_keep, keep_all}
 use Rattle.planes.proofs.Permutations.{permutation_refl}
 use Rattle.planes.proofs.Counts.{count_all, length_from}
-use Rattle.planes.proofs.Links.{link-trans, link-sym}
+use Rattle.planes.proofs.Links.{link_trans, link_sym}
 use Rattle.tones.specs.declared.Rule.{Rule}
 use Rattle.model.specs.declared.Pass.{Pass}
 use Rattle.model.specs.Runs.{run, All, none, more}
 use Rattle.model.specs.Enhancement.{section, passes, deep, recursive}
 use Rattle.model.specs.Effects.{Effect, nothing, always, run_effect}
 use Rattle.model.specs.Published.{Procedure, between, level_set, amid, connected_components}
-use Rattle.model.specs.Published.{histogram_equalization, for_each, processLevelSet, recursiveHistogramEqualization}
+use Rattle.model.specs.Published.{histogram_equalization, for_each, process_level_set, recursive_histogram_equalization}
 use Rattle.model.specs.Published.{Arrangement, reading_order, Reorders}
 use Rattle.model.specs.Published.{published_in, published, Connected}
-use Rattle.model.proofs.Apart.{linked-same}
-use Rattle.model.proofs.Recursion.{effect_same, all_append, double, recursion-listed}
-use Rattle.model.proofs.Sets.{pixels_of, amid-is, heads, any_of, any_reordered}
-use Rattle.model.proofs.Parts.{InRange, range_wider, between_wider, Shows, shows_same, run-outside, length_run}
-use Rattle.model.proofs.Pieces.{Does, does_same, does-append, does-shows, Piece, equalization-does}
-use Rattle.model.proofs.Several.{Performs, Patches, patches_reordered, for-each-does, covered, first-patches}
+use Rattle.model.proofs.Apart.{linked_same}
+use Rattle.model.proofs.Recursion.{effect_same, all_append, double, recursion_listed}
+use Rattle.model.proofs.Sets.{pixels_of, amid_is, heads, any_of, any_reordered}
+use Rattle.model.proofs.Parts.{InRange, range_wider, between_wider, Shows, shows_same, run_outside, length_run}
+use Rattle.model.proofs.Pieces.{Does, does_same, does_append, does_shows, Piece, equalization_does}
+use Rattle.model.proofs.Several.{Performs, Patches, patches_reordered, for_each_does, covered, first_patches}
 
 -- ## Reading order
 
@@ -73,7 +73,7 @@ module _ (arrange : Arrangement) (reorders : Reorders arrange) (near : Near) (sy
       → Does near n G ss q t (for_each area (f a b) (arrange a b (connected_components near n (pixels_of n G))) t)
   unfolding connected_components
   components-do f ss a b T n G t q S vals =
-      does_same same (for-each-does near symm area f ss a b T n (arrange a b parts) t q
+      does_same same (for_each_does near symm area f ss a b T n (arrange a b parts) t q
       (patches_reordered symm (reorders a b parts) patches) (shows_same (λ x hx. sym (same x hx)) S))
     where
       parts : List (List ℕ)
@@ -85,7 +85,7 @@ module _ (arrange : Arrangement) (reorders : Reorders arrange) (near : Near) (sy
 
       patches : Patches near n a b t.plane parts
       patches = subst (Patches near n a b t.plane) list
-          (first-patches near symm n G a b t.plane vals n 0 (omega arith))
+          (first_patches near symm n G a b t.plane vals n 0 (omega arith))
 
       same : (x : ℕ) → x < n → any_of (arrange a b parts) x ≡ G x
       same x hx =
@@ -98,8 +98,8 @@ module _ (arrange : Arrangement) (reorders : Reorders arrange) (near : Near) (sy
   -- to process the level set [lo, hi] of a set in [a, b] is to run the passes in [lo, hi]
   level-set-does : (f : Procedure) (ss : List Pass) (lo hi : ℕ) → Performs near area f ss lo hi
       → (a b : ℕ) → a ≤ lo → hi ≤ b → (n : ℕ) (A : ℕ → Bool) (t : Effect) (m : List ℕ) → Shows n a b A t.plane m
-      → Does near n A ss m t (processLevelSet arrange near area f lo hi (pixels_of n A) t)
-  unfolding processLevelSet level_set
+      → Does near n A ss m t (process_level_set arrange near area f lo hi (pixels_of n A) t)
+  unfolding process_level_set level_set
   level-set-does f ss lo hi T a b la hb n A t m S =
       rw (S.whole, keep_keep (λ x. between lo hi (at t.plane x)) A (from 0 n))
       (widen (components-do f ss lo hi T n G t m part-shown
@@ -139,7 +139,7 @@ module _ (arrange : Arrangement) (reorders : Reorders arrange) (near : Near) (sy
           on x hx d (inr g) =
               D.off x hx g
               ∙ sym (S.on x hx d)
-              ∙ sym (run-outside near symm n lo hi area ss T.fits m x (omega (arith, S.size)) (outside x hx g))
+              ∙ sym (run_outside near symm n lo hi area ss T.fits m x (omega (arith, S.size)) (outside x hx g))
 
   -- a set, then its lower and its upper half
   level-does : (s : Pass) (mid : ℕ) → s.a ≤ mid → mid < s.b → (f : Procedure) (xs ys : List Pass)
@@ -147,37 +147,37 @@ module _ (arrange : Arrangement) (reorders : Reorders arrange) (near : Near) (sy
       → (n : ℕ) (A : ℕ → Bool) (t : Effect) (m : List ℕ) → Shows n s.a s.b A t.plane m
       → Piece near n s.a s.b A t.plane → s.area ≤ count A (from 0 n)
       → Does near n A (s ∷ (xs ++ ys)) m t
-      (processLevelSet arrange near area f (mid + 1) s.b (pixels_of n A)
-      (processLevelSet arrange near area f s.a mid (pixels_of n A)
+      (process_level_set arrange near area f (mid + 1) s.b (pixels_of n A)
+      (process_level_set arrange near area f s.a mid (pixels_of n A)
       (histogram_equalization s.rule s.a s.b (pixels_of n A) t)))
   level-does s mid am mb f xs ys X Y n A t m S P large =
       let t₁ = histogram_equalization s.rule s.a s.b (pixels_of n A) t in
-      let t₂ = processLevelSet arrange near area f s.a mid (pixels_of n A) t₁ in
+      let t₂ = process_level_set arrange near area f s.a mid (pixels_of n A) t₁ in
       let m₁ = run (always near) (s ∷ []) m in
       let m₂ = run (always near) xs m₁ in
       let own : InRange s.a s.b s.area s = record { low = omega arith; high = omega arith; least = refl } in
-      let D₁ = equalization-does near symm n A s t m S P large in
-      let S₁ = does-shows near symm n A S (more own none) D₁ in
+      let D₁ = equalization_does near symm n A s t m S P large in
+      let S₁ = does_shows near symm n A S (more own none) D₁ in
       let D₂ = level-set-does f xs s.a mid X s.a s.b (omega arith) (omega arith) n A t₁ m₁ S₁ in
-      let S₂ = does-shows near symm n A S₁ (range_wider (omega arith) (omega arith) X.fits) D₂ in
+      let S₂ = does_shows near symm n A S₁ (range_wider (omega arith) (omega arith) X.fits) D₂ in
       let D₃ = level-set-does f ys (mid + 1) s.b Y s.a s.b (omega arith) (omega arith) n A t₂ m₂ S₂ in
-      does-append near symm n A D₁ (does-append near symm n A D₂ D₃)
+      does_append near symm n A D₁ (does_append near symm n A D₂ D₃)
 
   -- ## The levels below a set
 
   module _ (rule : Rule) (number k : ℕ) where
     -- the recursion with d levels below a section is the run of the section and the sections below
     recursive-does : (d a : ℕ)
-        → Performs near area (recursiveHistogramEqualization arrange near area rule d) (deep k area rule number d a) a
+        → Performs near area (recursive_histogram_equalization arrange near area rule d) (deep k area rule number d a) a
         (top k d a)
-    unfolding recursiveHistogramEqualization deep section
+    unfolding recursive_histogram_equalization deep section
     recursive-does zero a = record {
       fits = deep_fits area rule number k zero a;
       does = λ n A t m S P large.
-          equalization-does near symm n A (section area rule number a (2 ^ (0 + k))) t m S P large;
+          equalization_does near symm n A (section area rule number a (2 ^ (0 + k))) t m S P large;
     }
     recursive-does (suc d) a =
-        let f : Procedure = recursiveHistogramEqualization arrange near area rule d in
+        let f : Procedure = recursive_histogram_equalization arrange near area rule d in
         let mid = (a + top k (suc d) a) / 2 in
         let a' = a + 2 ^ (d + k) in
         let h = pow_pos (d + k) in
@@ -214,8 +214,8 @@ module _ (near : Near) (symm : Symmetric near) (area : ℕ) (rule : Rule) (p : L
   piece-all = record {
     among = λ x hx _. and_intro (le-leb 0 (at p x) zero-le) (le-leb (at p x) 255 (c.bytes x hx));
     joined = λ x y hx hy _ _.
-        linked-same n (amid near (pixels_of n all)) near (amid-is near n all) n x y (omega arith) hx hy
-        ∙ link-trans near n x 0 y c.some (link-sym near symm n x 0 ∙ c.joined x hx) (c.joined y hy);
+        linked_same n (amid near (pixels_of n all)) near (amid_is near n all) n x y (omega arith) hx hy
+        ∙ link_trans near n x 0 y c.some (link_sym near symm n x 0 ∙ c.joined x hx) (c.joined y hy);
     pixel = 0;
     below = c.some;
     holds = refl;
@@ -228,13 +228,13 @@ module _ (near : Near) (symm : Symmetric near) (area : ℕ) (rule : Rule) (p : L
   module _ (arrange : Arrangement) (reorders : Reorders arrange) where
     published-does : (number last : ℕ) → last ≤ 7
         → Does near n all (recursive last area rule number) p start (published_in arrange near last area rule p)
-    unfolding recursive published_in recursiveHistogramEqualization section
+    unfolding recursive published_in recursive_histogram_equalization section
     published-does number zero h = rw (← keep_all (from 0 n))
-        (equalization-does near symm n all (section 1 rule number 0 256) start p shows-all piece-all large-all)
+        (equalization_does near symm n all (section 1 rule number 0 256) start p shows-all piece-all large-all)
     published-does number (suc m) h =
         let k = 7 - m in
         let a' = 0 + 2 ^ (m + k) in
-        let f : Procedure = recursiveHistogramEqualization arrange near area rule m in
+        let f : Procedure = recursive_histogram_equalization arrange near area rule m in
         let seven : m + k ≡ 7 = omega arith in
         let half : 2 ^ (m + k) ≡ 128 = ap (2 ^◌) seven in
         let low : top k m 0 ≡ 127 = omega arith in
@@ -250,26 +250,26 @@ module _ (near : Near) (symm : Symmetric near) (area : ℕ) (rule : Rule) (p : L
 
     -- the published recursion ends as the recursion by sections, whatever the order of the components, and whatever
     -- number its passes carry, where one relation is used for all
-    pub published-run-in : (number last : ℕ) → last ≤ 7
+    pub published_run_in : (number last : ℕ) → last ≤ 7
         → published_in arrange near last area rule p ≡ run_effect (always near) (recursive last area rule number) p
-    published-run-in number last h =
+    published_run_in number last h =
         let D = published-does number last h in
         let size = D.size ∙ sym (length_run (always near) (recursive last area rule number) p) in
         effect_same (ext_get_or 0 _ _ size (λ x hx. D.on x (omega (arith, D.size)) refl))
         (D.sum ∙ zero-add _) (D.kept_sum ∙ zero-add _)
 
-  pub published-run : (number last : ℕ) → last ≤ 7
+  pub published_run : (number last : ℕ) → last ≤ 7
       → published near last area rule p ≡ run_effect (always near) (recursive last area rule number) p
-  published-run = published-run-in reading_order reading_reorders
+  published_run = published_run_in reading_order reading_reorders
 
   -- and so as the passes level by level
-  pub published-listed : (number last : ℕ) → last ≤ 7
+  pub published_listed : (number last : ℕ) → last ≤ 7
       → published near last area rule p ≡ run_effect (always near) (passes last area rule number) p
-  published-listed number last h =
-      published-run number last h ∙ (recursion-listed (always near) last area rule number h).effects p
+  published_listed number last h =
+      published_run number last h ∙ (recursion_listed (always near) last area rule number h).effects p
 
   -- in whatever order components are treated
-  pub published-any-order : (arrange : Arrangement) → Reorders arrange → (last : ℕ) → last ≤ 7
+  pub published_any_order : (arrange : Arrangement) → Reorders arrange → (last : ℕ) → last ≤ 7
       → published_in arrange near last area rule p ≡ published near last area rule p
-  published-any-order arrange reorders last h =
-      published-run-in arrange reorders 4 last h ∙ sym (published-run 4 last h)
+  published_any_order arrange reorders last h =
+      published_run_in arrange reorders 4 last h ∙ sym (published_run 4 last h)

@@ -19,7 +19,7 @@ use Rattle.model.specs.Passes.{changes, kept_back, passed, counted, component_co
 use Rattle.model.specs.Effects.{Effect, nothing, then, pass_effect, run_effect, Same}
 use Rattle.model.specs.Runs.{All, none, more, Disjoint}
 use Rattle.model.specs.Enhancement.{section, level, levels, passes, deep, recursive}
-use Rattle.model.proofs.Apart.{turn, commute, counts-stay}
+use Rattle.model.proofs.Apart.{turn, commute, counts_stay}
 
 -- ## Runs of passes
 
@@ -63,35 +63,35 @@ module _ (by : Pass → Near) where
   pub same_refl : (xs : List Pass) → Same by xs xs
   same_refl xs = record { effects = λ p. refl }
 
-  pub same-trans : {xs ys zs : List Pass} → Same by xs ys → Same by ys zs → Same by xs zs
-  same-trans a b = record { effects = λ p. a.effects p ∙ b.effects p }
+  pub same_trans : {xs ys zs : List Pass} → Same by xs ys → Same by ys zs → Same by xs zs
+  same_trans a b = record { effects = λ p. a.effects p ∙ b.effects p }
 
   same-sym : {xs ys : List Pass} → Same by xs ys → Same by ys xs
   same-sym a = record { effects = λ p. sym (a.effects p) }
 
-  pub same-cons : (s : Pass) {xs ys : List Pass} → Same by xs ys → Same by (s ∷ xs) (s ∷ ys)
+  pub same_cons : (s : Pass) {xs ys : List Pass} → Same by xs ys → Same by (s ∷ xs) (s ∷ ys)
   unfolding run_effect
-  same-cons s a = record { effects = λ p. ap (then (pass_effect by s p)) (a.effects (pass_effect by s p).plane) }
+  same_cons s a = record { effects = λ p. ap (then (pass_effect by s p)) (a.effects (pass_effect by s p).plane) }
 
   same_after : (zs : List Pass) {xs ys : List Pass} → Same by xs ys → Same by (zs ++ xs) (zs ++ ys)
   same_after [] a = a
-  same_after (z ∷ zs) a = same-cons z (same_after zs a)
+  same_after (z ∷ zs) a = same_cons z (same_after zs a)
 
   -- a run of passes after another
-  pub run-append : (xs ys : List Pass) (p : List ℕ)
+  pub run_append : (xs ys : List Pass) (p : List ℕ)
       → run_effect by (xs ++ ys) p ≡ then (run_effect by xs p) (run_effect by ys (run_effect by xs p).plane)
   unfolding run_effect
-  run-append [] ys p = sym (nothing_then p (run_effect by ys p))
-  run-append (x ∷ xs) ys p =
+  run_append [] ys p = sym (nothing_then p (run_effect by ys p))
+  run_append (x ∷ xs) ys p =
       let now = pass_effect by x p in
       let first = run_effect by xs now.plane in
-      ap (then now) (run-append xs ys now.plane) ∙ sym (then_assoc now first (run_effect by ys first.plane))
+      ap (then now) (run_append xs ys now.plane) ∙ sym (then_assoc now first (run_effect by ys first.plane))
 
   same-before : {xs ys : List Pass} (zs : List Pass) → Same by xs ys → Same by (xs ++ zs) (ys ++ zs)
   same-before {xs} {ys} zs a = record {
-    effects = λ p. run-append xs zs p
+    effects = λ p. run_append xs zs p
         ∙ ap (λ (e : Effect). then e (run_effect by zs e.plane)) (a.effects p)
-        ∙ sym (run-append ys zs p);
+        ∙ sym (run_append ys zs p);
   }
 
   -- two passes apart change places; so does a pass with a list, and a list with a list
@@ -113,16 +113,16 @@ module _ (by : Pass → Near) where
           + k (run_effect by zs (passed (by s) s (passed (by t) t p))))
       sums f k p =
           ap₂ (λ (i : ℕ) (q : List ℕ). component_count (f s) (by s) s p + (i + k (run_effect by zs q)))
-          (counts-stay by t s (turn s t w.2) w.1 w.0 p (f t)) (one p)
-          ∙ omega (arith, counts-stay by s t w.2 w.0 w.1 p (f s))
+          (counts_stay by t s (turn s t w.2) w.1 w.0 p (f t)) (one p)
+          ∙ omega (arith, counts_stay by s t w.2 w.0 w.1 p (f s))
 
   past : (s : Pass) (ys zs : List Pass) → All (Away s) ys → Same by (s ∷ ys ++ zs) (ys ++ s ∷ zs)
   past s [] zs none = same_refl (s ∷ zs)
-  past s (y ∷ ys) zs (more w a) = same-trans (swap s y (ys ++ zs) w) (same-cons y (past s ys zs a))
+  past s (y ∷ ys) zs (more w a) = same_trans (swap s y (ys ++ zs) w) (same_cons y (past s ys zs a))
 
   block : (xs ys zs : List Pass) → All (λ x. All (Away x) ys) xs → Same by (xs ++ (ys ++ zs)) (ys ++ (xs ++ zs))
   block [] ys zs none = same_refl (ys ++ zs)
-  block (x ∷ xs) ys zs (more w a) = same-trans (same-cons x (block xs ys zs a)) (past x ys (xs ++ zs) w)
+  block (x ∷ xs) ys zs (more w a) = same_trans (same_cons x (block xs ys zs a)) (past x ys (xs ++ zs) w)
 
 -- ## Sections that halve
 
@@ -181,9 +181,9 @@ module _ (by : Pass → Near) where
       let jx = joined x (suc i) m in
       let jy = joined y (suc i) m in
       let past = same-sym by (block by jx (y i) jy (all_joined x (λ l. h l i) (suc i) m)) in
-      same-trans by (same_after by (x i ++ y i) (interleave x y h (suc i) m))
-      (same-trans by (same_of (append_assoc (x i) (y i) (jx ++ jy)))
-      (same-trans by (same_after by (x i) past)
+      same_trans by (same_after by (x i ++ y i) (interleave x y h (suc i) m))
+      (same_trans by (same_of (append_assoc (x i) (y i) (jx ++ jy)))
+      (same_trans by (same_after by (x i) past)
       (same_of (sym (append_assoc (x i) jx (y i ++ jy))))))
 
   module _ (k area : ℕ) (rule : Rule) (number : ℕ) where
@@ -205,15 +205,15 @@ module _ (by : Pass → Near) where
         let half = wide k area rule number d in
         interleave (half a) (half (a + 2 ^ (d + k))) (apart-halves d a) 0 m
 
-    pub deep-wide : (d a : ℕ) → Same by (deep k area rule number d a) (joined (wide k area rule number d a) 0 (suc d))
+    pub deep_wide : (d a : ℕ) → Same by (deep k area rule number d a) (joined (wide k area rule number d a) 0 (suc d))
     unfolding deep wide joined
-    deep-wide zero a = same_refl by _
-    deep-wide (suc d) a =
+    deep_wide zero a = same_refl by _
+    deep_wide (suc d) a =
         let a' = a + 2 ^ (d + k) in
-        same-cons by (section area rule number a (2 ^ (suc d + k)))
-        (same-trans by (same-before by (deep k area rule number d a') (deep-wide d a))
-        (same-trans by (same_after by (joined (wide k area rule number d a) 0 (suc d)) (deep-wide d a'))
-        (same-trans by (same-sym by (halves d a (suc d)))
+        same_cons by (section area rule number a (2 ^ (suc d + k)))
+        (same_trans by (same-before by (deep k area rule number d a') (deep_wide d a))
+        (same_trans by (same_after by (joined (wide k area rule number d a) 0 (suc d)) (deep_wide d a'))
+        (same_trans by (same-sym by (halves d a (suc d)))
         (same_of (joined_shift (wide k area rule number (suc d) a) 0 (suc d))))))
 
 -- ## An enhancement's recursion and its list of passes
@@ -234,16 +234,16 @@ listed (suc (suc (suc (suc (suc (suc zero)))))) area rule number h = refl
 listed (suc (suc (suc (suc (suc (suc (suc m))))))) area rule number h = absurd (omega arith)
 
 module _ (by : Pass → Near) where
-  pub recursion-listed : (last area : ℕ) (rule : Rule) (number : ℕ) → last ≤ 7
+  pub recursion_listed : (last area : ℕ) (rule : Rule) (number : ℕ) → last ≤ 7
       → Same by (recursive last area rule number) (passes last area rule number)
   unfolding recursive passes level levels section
-  recursion-listed zero area rule number h = same_refl by _
-  recursion-listed (suc m) area rule number h =
+  recursion_listed zero area rule number h = same_refl by _
+  recursion_listed (suc m) area rule number h =
       let a = 0 + 2 ^ (m + (7 - m)) in
-      let lower = deep-wide by (7 - m) area rule number m 0 in
-      let upper = deep-wide by (7 - m) area rule number m a in
-      same-cons by (section 1 rule number 0 256)
-      (same-trans by (same-before by (deep (7 - m) area rule number m a) lower)
-      (same-trans by (same_after by (joined (wide (7 - m) area rule number m 0) 0 (suc m)) upper)
-      (same-trans by (same-sym by (halves by (7 - m) area rule number m 0 (suc m)))
+      let lower = deep_wide by (7 - m) area rule number m 0 in
+      let upper = deep_wide by (7 - m) area rule number m a in
+      same_cons by (section 1 rule number 0 256)
+      (same_trans by (same-before by (deep (7 - m) area rule number m a) lower)
+      (same_trans by (same_after by (joined (wide (7 - m) area rule number m 0) 0 (suc m)) upper)
+      (same_trans by (same-sym by (halves by (7 - m) area rule number m 0 (suc m)))
       (same_of by (listed m area rule number h)))))

@@ -14,7 +14,7 @@ use Rattle.planes.specs.Permutations.{Permutation, empty, behind, swap, twice}
 use Rattle.planes.specs.Shapes.{Symmetric}
 use Rattle.planes.specs.Neighbours.{Near, Chain, here, step, linked, first}
 use Rattle.planes.proofs.Tests.{or_cases, same_test, never, contra}
-use Rattle.planes.proofs.Links.{linked-iff, link_near, link-refl, link-trans, link-sym}
+use Rattle.planes.proofs.Links.{linked_iff, link_near, link_refl, link_trans, link_sym}
 use Rattle.planes.proofs.Fewer.{first_out, first_of}
 use Rattle.model.specs.Published.{member, amid}
 
@@ -72,13 +72,13 @@ module _ (n : ℕ) (R R' : Near) (A : ℕ → Bool)
       (hv, closed u v r.0 hv r.1 e, step r.2 (same u v r.0 hv r.1 ∙ e) hv)
 
   -- from a pixel of A the two lead to the same pixels, all of A
-  pub linked-in : (i j : ℕ) → i < n → j < n → A i ≡ true → linked R n i j ≡ linked R' n i j
-  linked-in i j hi hj a = same_test (linked R n i j) (linked R' n i j)
-      (λ d. (linked-iff R' n i j hi hj).1 (chain-to hi a ((linked-iff R n i j hi hj).0 d)).2)
-      (λ d. (linked-iff R n i j hi hj).1 (chain_back hi a ((linked-iff R' n i j hi hj).0 d)).2)
+  pub linked_in : (i j : ℕ) → i < n → j < n → A i ≡ true → linked R n i j ≡ linked R' n i j
+  linked_in i j hi hj a = same_test (linked R n i j) (linked R' n i j)
+      (λ d. (linked_iff R' n i j hi hj).1 (chain-to hi a ((linked_iff R n i j hi hj).0 d)).2)
+      (λ d. (linked_iff R n i j hi hj).1 (chain_back hi a ((linked_iff R' n i j hi hj).0 d)).2)
 
-  pub linked-stays : (i j : ℕ) → i < n → j < n → A i ≡ true → linked R' n i j ≡ true → A j ≡ true
-  linked-stays i j hi hj a d = (chain_back hi a ((linked-iff R' n i j hi hj).0 d)).1
+  pub linked_stays : (i j : ℕ) → i < n → j < n → A i ≡ true → linked R' n i j ≡ true → A j ≡ true
+  linked_stays i j hi hj a d = (chain_back hi a ((linked_iff R' n i j hi hj).0 d)).1
 
 -- ## Neighbours in a set
 
@@ -90,26 +90,26 @@ module _ (near : Near) (n : ℕ) (A : ℕ → Bool) where
   abbrev R : Near
   R = amid near (pixels_of n A)
 
-  pub amid-is : (u v : ℕ) → u < n → v < n → R u v ≡ (A u && A v && near u v)
+  pub amid_is : (u v : ℕ) → u < n → v < n → R u v ≡ (A u && A v && near u v)
   unfolding amid
-  amid-is u v hu hv = ap₂ (λ (s t : Bool). s && t && near u v) (member_keep A n u hu) (member_keep A n v hv)
+  amid_is u v hu hv = ap₂ (λ (s t : Bool). s && t && near u v) (member_keep A n u hu) (member_keep A n v hv)
 
-  pub amid-of : (u v : ℕ) → u < n → v < n → A u ≡ true → A v ≡ true → near u v ≡ true → R u v ≡ true
-  amid-of u v hu hv a b e = amid-is u v hu hv ∙ and_intro (and_intro a b) e
+  pub amid_of : (u v : ℕ) → u < n → v < n → A u ≡ true → A v ≡ true → near u v ≡ true → R u v ≡ true
+  amid_of u v hu hv a b e = amid_is u v hu hv ∙ and_intro (and_intro a b) e
 
-  pub amid-to : (u v : ℕ) → u < n → v < n → R u v ≡ true → A v ≡ true
-  amid-to u v hu hv e = and_elim_right (A u) (A v) (and_elim_left (A u && A v) (near u v) (sym (amid-is u v hu hv) ∙ e))
+  pub amid_to : (u v : ℕ) → u < n → v < n → R u v ≡ true → A v ≡ true
+  amid_to u v hu hv e = and_elim_right (A u) (A v) (and_elim_left (A u && A v) (near u v) (sym (amid_is u v hu hv) ∙ e))
 
-  pub amid-near : (u v : ℕ) → u < n → v < n → R u v ≡ true → near u v ≡ true
-  amid-near u v hu hv e = and_elim_right (A u && A v) (near u v) (sym (amid-is u v hu hv) ∙ e)
+  pub amid_near : (u v : ℕ) → u < n → v < n → R u v ≡ true → near u v ≡ true
+  amid_near u v hu hv e = and_elim_right (A u && A v) (near u v) (sym (amid_is u v hu hv) ∙ e)
 
   -- a component of a set lies in the set
   pub linked_to : (i x : ℕ) → i < n → x < n → A i ≡ true → linked R n i x ≡ true → A x ≡ true
-  linked_to = linked-stays n R R A (λ u v hu hv a. refl) (λ u v hu hv a e. amid-to u v hu hv e)
+  linked_to = linked_stays n R R A (λ u v hu hv a. refl) (λ u v hu hv a e. amid_to u v hu hv e)
 
-  pub amid-sym : ((i j : ℕ) → near i j ≡ near j i) → (u v : ℕ) → R u v ≡ R v u
+  pub amid_sym : ((i j : ℕ) → near i j ≡ near j i) → (u v : ℕ) → R u v ≡ R v u
   unfolding amid
-  amid-sym symm u v = ap₂ ◌&&◌ (and_comm (member (pixels_of n A) u) (member (pixels_of n A) v)) (symm u v)
+  amid_sym symm u v = ap₂ ◌&&◌ (and_comm (member (pixels_of n A) u) (member (pixels_of n A) v)) (symm u v)
 
 -- ## Components
 
@@ -136,11 +136,11 @@ module _ (near : Near) (symm : Symmetric near) (n : ℕ) (A : ℕ → Bool) wher
 
   part-turn : (k x : ℕ) → part k x ≡ true → part x k ≡ true
   unfolding part
-  part-turn k x c = link-sym (R near n A) (amid-sym near n A symm) n x k ∙ c
+  part-turn k x c = link_sym (R near n A) (amid_sym near n A symm) n x k ∙ c
 
   part-trans : (i k x : ℕ) → k < n → part i k ≡ true → part k x ≡ true → part i x ≡ true
   unfolding part
-  part-trans = link-trans (R near n A) n
+  part-trans = link_trans (R near n A) n
 
   part-near : (k x y : ℕ) → x < n → part k x ≡ true → R near n A x y ≡ true → part k y ≡ true
   unfolding part
@@ -150,42 +150,42 @@ module _ (near : Near) (symm : Symmetric near) (n : ℕ) (A : ℕ → Bool) wher
   unfolding part
   part_in = linked_to near n A
 
-  pub part-self : (k : ℕ) → part k k ≡ true
+  pub part_self : (k : ℕ) → part k k ≡ true
   unfolding part
-  part-self k = link-refl (R near n A) n k
+  part_self k = link_refl (R near n A) n k
 
   -- every pixel of A is in the part of a first pixel
   pub part_of : (x : ℕ) → x < n → A x ≡ true → (k : ℕ) × (k < n) × (heads k ≡ true) × (part k x ≡ true)
   unfolding part
   part_of x hx a =
-      let y = first_of (R near n A) (amid-sym near n A symm) n x hx in
+      let y = first_of (R near n A) (amid_sym near n A symm) n x hx in
       (y.0, y.1, and_intro (part_in x y.0 hx y.1 a (part-turn y.0 x y.2)) y.3, y.2)
 
   module _ (k : ℕ) (hk : k < n) (head : heads k ≡ true) where
-    pub part-set : (x : ℕ) → x < n → part k x ≡ true → A x ≡ true
-    part-set x hx c = part_in k x hk hx (and_elim_left (A k) (first n (R near n A) k) head) c
+    pub part_set : (x : ℕ) → x < n → part k x ≡ true → A x ≡ true
+    part_set x hx c = part_in k x hk hx (and_elim_left (A k) (first n (R near n A) k) head) c
 
     -- it is connected in itself
-    pub part-joined : (x y : ℕ) → x < n → y < n → part k x ≡ true → part k y ≡ true
+    pub part_joined : (x y : ℕ) → x < n → y < n → part k x ≡ true → part k y ≡ true
         → linked (amid near (pixels_of n (part k))) n x y ≡ true
     unfolding part
-    part-joined x y hx hy c d =
-        sym (linked-in n (R near n A) (R near n (part k)) (part k) same closed x y hx hy c)
+    part_joined x y hx hy c d =
+        sym (linked_in n (R near n A) (R near n (part k)) (part k) same closed x y hx hy c)
         ∙ part-trans x k y hk (part-turn k x c) d
       where
         closed : (u v : ℕ) → u < n → v < n → part k u ≡ true → R near n (part k) u v ≡ true → part k v ≡ true
-        closed u v hu hv c e = amid-to near n (part k) u v hu hv e
+        closed u v hu hv c e = amid_to near n (part k) u v hu hv e
 
         same : (u v : ℕ) → u < n → v < n → part k u ≡ true → R near n A u v ≡ R near n (part k) u v
         same u v hu hv c = same_test (R near n A u v) (R near n (part k) u v)
-            (λ e. amid-of near n (part k) u v hu hv c (part-near k u v hu c e) (amid-near near n A u v hu hv e))
-            (λ e. amid-of near n A u v hu hv (part-set u hu c) (part-set v hv (closed u v hu hv c e))
-            (amid-near near n (part k) u v hu hv e))
+            (λ e. amid_of near n (part k) u v hu hv c (part-near k u v hu c e) (amid_near near n A u v hu hv e))
+            (λ e. amid_of near n A u v hu hv (part_set u hu c) (part_set v hv (closed u v hu hv c e))
+            (amid_near near n (part k) u v hu hv e))
 
   -- the parts of two first pixels are separate
-  pub parts-separate : (k l : ℕ) → k < l → l < n → heads k ≡ true → heads l ≡ true → Separate near n (part k) (part l)
+  pub parts_separate : (k l : ℕ) → k < l → l < n → heads k ≡ true → heads l ≡ true → Separate near n (part k) (part l)
   unfolding part
-  parts-separate k l kl hl d e = record {
+  parts_separate k l kl hl d e = record {
     disjoint = λ x hx c. contra (λ f. part-trans k x l hx c (part-turn l x f)) before;
     far = λ x y hx hy c f. contra (λ g. part-trans k y l hy (onward x y hx hy c f g) (part-turn l y f)) before;
   }
@@ -196,7 +196,7 @@ module _ (near : Near) (symm : Symmetric near) (n : ℕ) (A : ℕ → Bool) wher
       onward : (x y : ℕ) → x < n → y < n → part k x ≡ true → part l y ≡ true → near x y ≡ true → part k y ≡ true
       onward x y hx hy c f g =
           part-near k x y hx c
-          (amid-of near n A x y hx hy (part-set k (omega arith) d x hx c) (part-set l hl e y hy f) g)
+          (amid_of near n A x y hx hy (part_set k (omega arith) d x hx c) (part_set l hl e y hy f) g)
 
 -- ## Several sets
 
@@ -242,11 +242,11 @@ module _ (g : ℕ → List ℕ) (f : ℕ → Bool) (x : ℕ) where
       ]
       go false d out e = later (out e)
 
-  pub any-in : (i m l : ℕ) → i ≤ l → l < i + m → f l ≡ true → member (g l) x ≡ true
+  pub any_in : (i m l : ℕ) → i ≤ l → l < i + m → f l ≡ true → member (g l) x ≡ true
       → any_of (map g (keep f (from i m))) x ≡ true
   unfolding any_of
-  any-in i zero l h k d c = absurd (omega arith)
-  any-in i (suc m) l h k d c = go (f i) refl (eq-or-lt_of_le h) (λ q. any-in (suc i) m l q (omega arith) d c)
+  any_in i zero l h k d c = absurd (omega arith)
+  any_in i (suc m) l h k d c = go (f i) refl (eq-or-lt_of_le h) (λ q. any_in (suc i) m l q (omega arith) d c)
     where
       rest : List ℕ
       rest = keep f (from (suc i) m)

@@ -21,10 +21,10 @@ use Rattle.model.specs.declared.Pass.{Pass}
 use Rattle.model.specs.Runs.{run, run_count, run_kept, All}
 use Rattle.model.specs.Effects.{Effect, always}
 use Rattle.model.specs.Published.{Procedure, member, between, amid, for_each}
-use Rattle.model.proofs.Sets.{member_keep, pixels_of, Separate, separate_turn, part, heads, part-self, part_of}
-use Rattle.model.proofs.Sets.{part-set, part-joined, parts-separate, any_of, any_reordered, any_out, any-in}
-use Rattle.model.proofs.Parts.{InRange, Shows, TwoParts, shown, shown_shows, shown_part, parts-run}
-use Rattle.model.proofs.Pieces.{Does, idle-does, Piece, piece_same}
+use Rattle.model.proofs.Sets.{member_keep, pixels_of, Separate, separate_turn, part, heads, part_self, part_of}
+use Rattle.model.proofs.Sets.{part_set, part_joined, parts_separate, any_of, any_reordered, any_out, any_in}
+use Rattle.model.proofs.Parts.{InRange, Shows, TwoParts, shown, shown_shows, shown_part, parts_run}
+use Rattle.model.proofs.Pieces.{Does, idle_does, Piece, piece_same}
 
 -- what the procedure f does to any piece in [a, b] that has the least area is what the passes do, all of them on
 -- sections in [a, b]
@@ -109,7 +109,7 @@ module _ (near : Near) (symm : Symmetric near) (area : ℕ) (f : Procedure) (ss 
           subst (λ (U : List ℕ). Does near n (member S) ss m t (f a b U t)) P.sorted
           (T.does n (member S) t m alone P.piece (omega (arith, many, leb-true area (length S) e)))
       go false e =
-          idle-does near symm n (member S) alone (λ x hx c. omega (arith, many, leb-false area (length S) e)) ss
+          idle_does near symm n (member S) alone (λ x hx c. omega (arith, many, leb-false area (length S) e)) ss
           T.fits
 
   -- one set, and then another that is separate from it
@@ -136,7 +136,7 @@ module _ (near : Near) (symm : Symmetric near) (area : ℕ) (f : Procedure) (ss 
       parts : TwoParts n a b A B (run (always near) ss q) (run (always near) ss m) (run (always near) ss r)
           × ((run_count (always near) ss q ≡ run_count (always near) ss m + run_count (always near) ss r)
           × (run_kept (always near) ss q ≡ run_kept (always near) ss m + run_kept (always near) ss r))
-      parts = parts-run near symm n a b area A B w ss T.fits q m r (record {
+      parts = parts_run near symm n a b area A B w ss T.fits q m r (record {
         one = shown_part (λ x hx e. or_inl (A x) (B x) e) S;
         other = shown_part (λ x hx e. or_inr (A x) (B x) e) S;
         rest = λ x hx d e. S.off x hx (ap (◌|| B x) d ∙ e);
@@ -150,18 +150,18 @@ module _ (near : Near) (symm : Symmetric near) (area : ℕ) (f : Procedure) (ss 
         | inr d ↦ E.on x hx d ∙ parts.0.other.on x hx d
       ]
 
-  pub for-each-does : (Ss : List (List ℕ)) (t : Effect) (q : List ℕ) → Patches near n a b t.plane Ss
+  pub for_each_does : (Ss : List (List ℕ)) (t : Effect) (q : List ℕ) → Patches near n a b t.plane Ss
       → Shows n a b (any_of Ss) t.plane q → Does near n (any_of Ss) ss q t (for_each area (f a b) Ss t)
   unfolding for_each any_of
-  for-each-does [] t q none S =
-      idle-does near symm n (λ x. false) S (λ x hx u. absurd (false≢true u)) ss T.fits
-  for-each-does (S ∷ Ss) t q (more P w rest) shows =
+  for_each_does [] t q none S =
+      idle_does near symm n (λ x. false) S (λ x hx u. absurd (false≢true u)) ss T.fits
+  for_each_does (S ∷ Ss) t q (more P w rest) shows =
       let t₁ : Effect = cond (leb area (length S)) (f a b S t) t in
       let D = patch-does S t shows.whole P in
       let same : (x : ℕ) → x < n → any_of Ss x ≡ true → at t₁.plane x ≡ at t.plane x =
       λ x hx u. D.off x hx ((separate_turn symm w).disjoint x hx u) in
       let R = shown_shows n a b (any_of Ss) t.plane shows.whole in
-      let E = for-each-does Ss t₁ (shown n b (any_of Ss) t.plane) (patches_same same rest) (record {
+      let E = for_each_does Ss t₁ (shown n b (any_of Ss) t.plane) (patches_same same rest) (record {
         whole = D.size;
         size = R.size;
         on = λ x hx u. R.on x hx u ∙ sym (same x hx u);
@@ -192,10 +192,10 @@ module _ (near : Near) (symm : Symmetric near) (n : ℕ) (G : ℕ → Bool) wher
   covered x hx = same_test (any_of (map from_first (keep First (from 0 n))) x) (G x)
       (λ e.
       let l = any_out from_first First x 0 n e in
-      part-set near symm n G l.0 (omega (arith, l.2)) l.3 x hx (sym (member-first l.0 x hx) ∙ l.4))
+      part_set near symm n G l.0 (omega (arith, l.2)) l.3 x hx (sym (member-first l.0 x hx) ∙ l.4))
       (λ e.
       let k = part_of near symm n G x hx e in
-      any-in from_first First x 0 n k.0 zero-le (omega (arith, k.1)) k.2 (member-first k.0 x hx ∙ k.3))
+      any_in from_first First x 0 n k.0 zero-le (omega (arith, k.1)) k.2 (member-first k.0 x hx ∙ k.3))
 
   first-separate : (k m : ℕ) → suc k + m ≡ n → First k ≡ true
       → Separate near n (member (from_first k)) (any_of (map from_first (keep First (from (suc k) m))))
@@ -212,7 +212,7 @@ module _ (near : Near) (symm : Symmetric near) (n : ℕ) (G : ℕ → Bool) wher
   }
     where
       away : (l : ℕ) → k < l → l < n → First l ≡ true → Separate near n (C k) (C l)
-      away l kl hl f = parts-separate near symm n G k l kl hl d f
+      away l kl hl f = parts_separate near symm n G k l kl hl d f
 
   module _ (a b : ℕ) (p : List ℕ) (vals : (x : ℕ) → x < n → G x ≡ true → between a b (at p x) ≡ true) where
     first-patch : (k : ℕ) → k < n → First k ≡ true → Patch near n a b p (from_first k)
@@ -220,18 +220,18 @@ module _ (near : Near) (symm : Symmetric near) (n : ℕ) (G : ℕ → Bool) wher
     first-patch k hk d = record {
       sorted = keep_same (member (from_first k)) (C k) 0 n (λ x _ h. member-first k x (omega arith));
       piece = piece_same (λ x hx. sym (member-first k x hx)) (record {
-        among = λ x hx c. vals x hx (part-set near symm n G k hk d x hx c);
-        joined = part-joined near symm n G k hk d;
+        among = λ x hx c. vals x hx (part_set near symm n G k hk d x hx c);
+        joined = part_joined near symm n G k hk d;
         pixel = k;
         below = hk;
-        holds = part-self near symm n G k;
+        holds = part_self near symm n G k;
       });
     }
 
     -- those whose first pixel is among the m pixels from k on
-    pub first-patches : (m k : ℕ) → k + m ≡ n → Patches near n a b p (map from_first (keep First (from k m)))
-    first-patches zero k e = none
-    first-patches (suc m) k e = go (First k) refl (first-patches m (suc k) (omega arith))
+    pub first_patches : (m k : ℕ) → k + m ≡ n → Patches near n a b p (map from_first (keep First (from k m)))
+    first_patches zero k e = none
+    first_patches (suc m) k e = go (First k) refl (first_patches m (suc k) (omega arith))
       where
         later : List ℕ
         later = keep First (from (suc k) m)

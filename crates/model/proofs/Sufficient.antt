@@ -2,8 +2,8 @@
 -- the sums of a run of passes, of a chain of calls, refused ones included, and of an enhancement, in the plane as each
 -- pass finds it. For any neighbour relation. Assumes nothing.
 --
---   pass_sufficient_lem, run-sufficient, chain-sufficient, enhanced-sufficient   the sums
---   run-few                    both counts of a run are together at most the plane's pixels for each pass
+--   pass_sufficient_lem, run_sufficient_lem, chain_sufficient_lem, enhanced_sufficient   the sums
+--   run_few                    both counts of a run are together at most the plane's pixels for each pass
 use Prim.Native.Nat.{ℕ, zero, suc, ◌+◌, ◌*◌, ◌≤◌}
 use mathlib.Core.Path.{◌≡◌, refl, sym, ap, ◌∙◌}
 use mathlib.Core.Bool.{Bool, true, false, cond, not, ◌&&◌}
@@ -30,7 +30,7 @@ use Rattle.model.specs.Runs.{run_count, run_kept, run_sufficient}
 use Rattle.model.specs.Calls.{Call, pass_refusal, retoned_in, kept_in, total, State, start, call, chain}
 use Rattle.model.specs.Calls.{chain_sufficient}
 use Rattle.model.specs.Enhancement.{passes, call_of, enhanced}
-use Rattle.model.proofs.Order.{length-passed}
+use Rattle.model.proofs.Order.{length_passed}
 use Rattle.model.proofs.Recursion.{pass_few}
 use Rattle.model.proofs.Enhancement.{total_append}
 
@@ -57,23 +57,23 @@ pass_sufficient_lem near s p = sym (count_sum
 -- ## A run of passes
 
 module _ (by : Pass → Near) where
-  pub run-sufficient : (ss : List Pass) (p : List ℕ) → run_count by ss p + run_kept by ss p ≡ run_sufficient by ss p
+  pub run_sufficient_lem : (ss : List Pass) (p : List ℕ) → run_count by ss p + run_kept by ss p ≡ run_sufficient by ss p
   unfolding run_effect run_sufficient
-  run-sufficient [] p = refl
-  run-sufficient (s ∷ ss) p =
-      omega (arith, pass_sufficient_lem (by s) s p, run-sufficient ss (pass_effect by s p).plane)
+  run_sufficient_lem [] p = refl
+  run_sufficient_lem (s ∷ ss) p =
+      omega (arith, pass_sufficient_lem (by s) s p, run_sufficient_lem ss (pass_effect by s p).plane)
 
-  pub run-few : (ss : List Pass) (p : List ℕ) → run_count by ss p + run_kept by ss p ≤ length ss * length p
+  pub run_few : (ss : List Pass) (p : List ℕ) → run_count by ss p + run_kept by ss p ≤ length ss * length p
   unfolding run_effect
-  run-few [] p = omega arith
-  run-few (s ∷ ss) p =
+  run_few [] p = omega arith
+  run_few (s ∷ ss) p =
       let after = (pass_effect by s p).plane in
       omega (
         arith,
         pass_sufficient_lem (by s) s p,
         pass_few (sufficient s) (by s) s p,
-        run-few ss after,
-        ap (length ss *◌) (length-passed (by s) s p),
+        run_few ss after,
+        ap (length ss *◌) (length_passed (by s) s p),
       )
 
 -- ## A chain of calls
@@ -86,12 +86,12 @@ both zero e = refl
 both (suc k) e = sym (ap (λ (t : Bool). cond t (e.retoned + e.kept) 0) (ne_eqb (suc k) 0 (λ h. omega arith)))
 
 module _ (z : Shape) where
-  pub chain-sufficient : (s : State) (cs : List Call)
+  pub chain_sufficient_lem : (s : State) (cs : List Call)
       → total retoned_in (chain z s cs).answers + total kept_in (chain z s cs).answers
       ≡ total retoned_in s.answers + total kept_in s.answers + chain_sufficient z s.plane cs
   unfolding chain call chain_sufficient
-  chain-sufficient s [] = sym (add-zero _)
-  chain-sufficient s (c ∷ cs) =
+  chain_sufficient_lem s [] = sym (add-zero _)
+  chain_sufficient_lem s (c ∷ cs) =
       let number = pass_refusal z (length s.plane) c in
       let e : Effect = pass_effect (pass_neighbours z) c.pass s.plane in
       let answer : Reply = replied number (counts e) in
@@ -99,7 +99,7 @@ module _ (z : Shape) where
       s.plane) in
       omega (
         arith,
-        chain-sufficient (call z s c) cs,
+        chain_sufficient_lem (call z s c) cs,
         total_append retoned_in s.answers (answer ∷ []),
         total_append kept_in s.answers (answer ∷ []),
         both number e ∙ found,
@@ -107,9 +107,9 @@ module _ (z : Shape) where
 
   -- ## An enhancement
 
-  pub enhanced-sufficient : (p : List ℕ) (last area : ℕ) (rule : Rule) (number : ℕ)
+  pub enhanced_sufficient : (p : List ℕ) (last area : ℕ) (rule : Rule) (number : ℕ)
       → (let replies = (enhanced z p last area rule number).answers in total retoned_in replies + total kept_in replies)
       ≡ chain_sufficient z p (map (call_of (pixels z)) (passes last area rule number))
   unfolding enhanced
-  enhanced-sufficient p last area rule number =
-      chain-sufficient (start p) (map (call_of (pixels z)) (passes last area rule number)) ∙ zero-add _
+  enhanced_sufficient p last area rule number =
+      chain_sufficient_lem (start p) (map (call_of (pixels z)) (passes last area rule number)) ∙ zero-add _

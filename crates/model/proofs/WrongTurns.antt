@@ -9,20 +9,20 @@ use Rattle.limited.specs.Limited.{clipped, limited_tone}
 use Rattle.tones.specs.Tones.{tone, kept}
 use Rattle.model.specs.Published.{Procedure, reading_order}
 use Rattle.model.specs.Published.{member, level_set, amid, connected_components, painted, histogram_equalization}
-use Rattle.model.specs.Published.{for_each, processLevelSet, recursiveHistogramEqualization, published_in}
+use Rattle.model.specs.Published.{for_each, process_level_set, recursive_histogram_equalization, published_in}
 use Rattle.model.specs.WrongTurns.{recursion_by, original_tones, one_histogram, area_test, stop_recursion, stop_at_kept}
 use Rattle.model.specs.WrongTurns.{rounded_even, halves_to_even, WrongTurns}
 
 -- with the published procedures it is Algorithm 2
 pub shape_is : (near : Near) (area : ℕ) (rule : Rule) (levels : ℕ)
-    → recursion_by (histogram_equalization rule) (processLevelSet reading_order near area) levels
-    ≡ recursiveHistogramEqualization reading_order near area rule levels
-unfolding recursion_by recursiveHistogramEqualization
+    → recursion_by (histogram_equalization rule) (process_level_set reading_order near area) levels
+    ≡ recursive_histogram_equalization reading_order near area rule levels
+unfolding recursion_by recursive_histogram_equalization
 shape_is near area rule zero = refl
 shape_is near area rule (suc levels) = ap one_more (shape_is near area rule levels)
   where
     half : Procedure → Procedure
-    half = processLevelSet reading_order near area
+    half = process_level_set reading_order near area
 
     one_more : Procedure → Procedure
     one_more next a b S t =
@@ -31,7 +31,7 @@ shape_is near area rule (suc levels) = ap one_more (shape_is near area rule leve
 pub wrong_turns : WrongTurns
 unfolding four linked component first plain_tone plain_kept clipped limited_tone tone kept
     member level_set amid connected_components painted histogram_equalization
-    for_each processLevelSet recursiveHistogramEqualization published_in
+    for_each process_level_set recursive_histogram_equalization published_in
     recursion_by original_tones one_histogram area_test stop_recursion stop_at_kept rounded_even halves_to_even
 wrong_turns = record {
   original_tones_lem = record { published_is = refl; wrong_is = refl };

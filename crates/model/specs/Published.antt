@@ -5,14 +5,14 @@
 --   Procedure    what is done with a set of pixels in a section [a, b]
 --   Arrangement  the order in which the components of a level set are treated; Algorithm 4 leaves it open
 --   published_in  all pixels, treated by Algorithm 2 in [0, 255], with the levels 0 to `last`
---   published    the same, with components in reading order; every other order ends alike (`published-any-order`)
+--   published    the same, with components in reading order; every other order ends alike (`published_any_order`)
 --   Connected    a plane of bytes that is one component
 --
 --   histogram_equalization           Algorithm 5, or 7, and line 3 of Algorithm 2: the pixels of a set get the rule's
 --                                   tones, unless it is kept back
 --   connected_components             Algorithm 4: the largest connected subsets, by their first pixels in reading order
---   processLevelSet                 Algorithm 3: each component of a level set that has the least area is treated
---   recursiveHistogramEqualization  Algorithm 2: a set is equalised; then its lower and its upper half are processed,
+--   process_level_set                 Algorithm 3: each component of a level set that has the least area is treated
+--   recursive_histogram_equalization  Algorithm 2: a set is equalised; then its lower and its upper half are processed,
 --                                   unless this is the last level
 use Rattle.std.specs.Prelude.{ℕ, zero, suc, ◌+◌, ◌/◌, ◌≤◌, ◌<◌, ◌≡◌, Bool, true, false, ◌&&◌, ◌||◌, cond, List, [], ◌∷◌, map, length, leb, eqb}
 use Rattle.planes.specs.Lists.{from, keep, at}
@@ -89,26 +89,26 @@ for_each area f (S ∷ Ss) t =
     for_each area f Ss (cond (leb area (length S)) treated t)
 
 module _ (arrange : Arrangement) (near : Near) (area : ℕ) where
-  -- `next` is the procedure for a component: `recursiveHistogramEqualization`, with one level less
-  unfoldable pub processLevelSet : Procedure → Procedure
-  processLevelSet next a b S t =
+  -- `next` is the procedure for a component: `recursive_histogram_equalization`, with one level less
+  unfoldable pub process_level_set : Procedure → Procedure
+  process_level_set next a b S t =
       let parts = connected_components near (length t.plane) (level_set a b t.plane S) in
       for_each area (next a b) (arrange a b parts) t
 
   -- `levels` is the last level less the one of line 5, so that Algorithms 2 and 3 call each other by a number that
   -- falls. With at most 7 levels below [0, 255] a section that is split has 4 values or more, and line 9 has no case.
-  unfoldable pub recursiveHistogramEqualization : Rule → ℕ → Procedure
-  recursiveHistogramEqualization rule zero a b S t = histogram_equalization rule a b S t
-  recursiveHistogramEqualization rule (suc levels) a b S t =
+  unfoldable pub recursive_histogram_equalization : Rule → ℕ → Procedure
+  recursive_histogram_equalization rule zero a b S t = histogram_equalization rule a b S t
+  recursive_histogram_equalization rule (suc levels) a b S t =
       let mid = (a + b) / 2 in
       let equalised = histogram_equalization rule a b S t in
-      let lower = processLevelSet (recursiveHistogramEqualization rule levels) a mid S equalised in
-      processLevelSet (recursiveHistogramEqualization rule levels) (mid + 1) b S lower
+      let lower = process_level_set (recursive_histogram_equalization rule levels) a mid S equalised in
+      process_level_set (recursive_histogram_equalization rule levels) (mid + 1) b S lower
 
 -- level 0 has no area test
 unfoldable pub published_in : Arrangement → Near → ℕ → ℕ → Rule → List ℕ → Effect
 published_in arrange near last area rule p =
-    recursiveHistogramEqualization arrange near area rule last 0 255 (from 0 (length p))
+    recursive_histogram_equalization arrange near area rule last 0 255 (from 0 (length p))
     (nothing p)
 
 abbrev pub published : Near → ℕ → ℕ → Rule → List ℕ → Effect

@@ -16,7 +16,7 @@ use Rattle.tones.specs.declared.Rule.TheVariants.{Plain}
 use Rattle.tones.specs.Tones.{kept}
 use Rattle.model.specs.Effects.{Effect, nothing}
 use Rattle.model.specs.Published.{Procedure, level_set, connected_components, painted}
-use Rattle.model.specs.Published.{histogram_equalization, reading_order, for_each, processLevelSet, published}
+use Rattle.model.specs.Published.{histogram_equalization, reading_order, for_each, process_level_set, published}
 use Rattle.tones.specs.Examples.{any_ratio}
 use Rattle.model.specs.PublishedExamples.{grey}
 
@@ -55,8 +55,8 @@ stop_recursion near area rule zero a b S t = histogram_equalization rule a b S t
 stop_recursion near area rule (suc levels) a b S t =
     let mid = (a + b) / 2 in
     let equalised = histogram_equalization rule a b S t in
-    let lower = processLevelSet reading_order near area (stop_recursion near area rule levels) a mid S equalised in
-    let split = processLevelSet reading_order near area (stop_recursion near area rule levels) (mid + 1) b S lower in
+    let lower = process_level_set reading_order near area (stop_recursion near area rule levels) a mid S equalised in
+    let split = process_level_set reading_order near area (stop_recursion near area rule levels) (mid + 1) b S lower in
     cond (kept rule a b (map (at t.plane) S)) equalised split
 
 unfoldable pub stop_at_kept : Near → ℕ → ℕ → Rule → List ℕ → Effect

@@ -1,10 +1,10 @@
 -- What reading replies, by the parts of a frame. Assumes nothing.
 --
 --   read_reply_lem, read-back   the reply of the answer, and the answer with that reply
---   malformed-reply         10 exactly where no header begins the bytes
+--   malformed_reply         10 exactly where no header begins the bytes
 --   headed_reply            after a header, the first refusal that applies to its numbers and to the raster, or its
 --                           values
---   framed-reply            the values of a frame exactly where the bytes are one
+--   framed_reply            the values of a frame exactly where the bytes are one
 --   refused_some            no refusal has the number 0
 use Prim.Native.Nat.{ℕ, zero, suc, ◌-◌}
 use mathlib.Core.Path.{◌≡◌, refl, sym, ap, ◌∙◌}
@@ -63,23 +63,23 @@ pub read_back : (bytes : List ℕ) (limit : ℕ) (r : Header) → header_reply r
 read_back bytes limit r e = header_same r (read_answer bytes limit) (e ∙ sym (read_reply_lem bytes limit))
 
 module _ (bytes : List ℕ) (limit : ℕ) where
-  pub refused-answer : {k : ℕ} → read_reply bytes limit ≡ refuses k → read_answer bytes limit ≡ Refused k
-  refused-answer e = header_refuses (read_answer bytes limit) (read_reply_lem bytes limit ∙ e)
+  pub refused_answer : {k : ℕ} → read_reply bytes limit ≡ refuses k → read_answer bytes limit ≡ Refused k
+  refused_answer e = header_refuses (read_answer bytes limit) (read_reply_lem bytes limit ∙ e)
 
   pub framed_answer : {w h offset : ℕ} → read_reply bytes limit ≡ gives (w ∷ h ∷ offset ∷ [])
       → read_answer bytes limit ≡ Frame w h offset
   framed_answer e = header_gives (read_answer bytes limit) (read_reply_lem bytes limit ∙ e)
 
-  pub malformed-reply : (read_reply bytes limit ≡ refuses 10)
+  pub malformed_reply : (read_reply bytes limit ≡ refuses 10)
       ↔ ((w h maxval : ℕ) (raster : List ℕ) → IsHeader bytes w h maxval raster → ⊥)
-  malformed-reply = (
-    λ e. (malformed_iff bytes limit).0 (refused-answer e),
+  malformed_reply = (
+    λ e. (malformed_iff bytes limit).0 (refused_answer e),
     λ none. sym (read_reply_lem bytes limit) ∙ ap header_reply ((malformed_iff bytes limit).1 none),
   )
 
-  pub framed-reply : (w h offset : ℕ) → (read_reply bytes limit ≡ gives (w ∷ h ∷ offset ∷ []))
+  pub framed_reply : (w h offset : ℕ) → (read_reply bytes limit ≡ gives (w ∷ h ∷ offset ∷ []))
       ↔ IsFrame bytes limit w h offset
-  framed-reply w h offset = (
+  framed_reply w h offset = (
     λ e. (accepted_iff bytes limit w h offset).0 (framed_answer e),
     λ f. sym (read_reply_lem bytes limit) ∙ ap header_reply ((accepted_iff bytes limit w h offset).1 f),
   )

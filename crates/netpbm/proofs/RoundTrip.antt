@@ -1,7 +1,7 @@
 -- What writing leaves reads back: the first bytes of the output, as many as writing answered, are read with the same
 -- width and height, the raster stands at the offset that reading answers, and no number sign, so no comment, before it.
 --
---   reads-back   at any limit that the frame keeps
+--   reads_back   at any limit that the frame keeps
 --   round_trip   at the library's own limit, which every written frame keeps
 --
 -- Assumes nothing.
@@ -30,7 +30,7 @@ use Rattle.netpbm.specs.Frames.{IsFrame}
 use Rattle.netpbm.specs.Writing.{encoding, WriteOutcome}
 use Rattle.netpbm.specs.declared.Header.TheVariants.{Frame}
 use Rattle.netpbm.proofs.Frames.{accepted_iff}
-use Rattle.texts.proofs.Writing.{wrote-size, wrote-bytes}
+use Rattle.texts.proofs.Writing.{wrote_size, wrote_bytes}
 use Rattle.netpbm.proofs.Writing.{wrote_writable}
 
 one_space : (b : ℕ) → is_white b ≡ true → Gap (b ∷ [])
@@ -95,12 +95,12 @@ pub record ReadsBack (raster : List ℕ) (w h limit size : ℕ) (output' : List 
 
 module _ (raster : List ℕ) (w h : ℕ) {output : List ℕ} {size : ℕ} {output' : List ℕ}
     (wrote : WriteOutcome raster w h output (gives (size ∷ [])) output') where
-  pub reads-back : (limit : ℕ) → w * h ≤ limit → ReadsBack raster w h limit size output'
-  reads-back limit few =
+  pub reads_back : (limit : ℕ) → w * h ≤ limit → ReadsBack raster w h limit size output'
+  reads_back limit few =
       let frame = encoding raster w h in
       let fine = wrote_writable raster w h wrote in
       let s = fine.size in
-      let whole = wrote-size wrote in
+      let whole = wrote_size wrote in
       let counted = length-append (heading w h) raster in
       let place : length (heading w h) ≡ size - length raster = omega arith in
       let is-frame : IsFrame frame limit w h (size - length raster) =
@@ -112,10 +112,10 @@ module _ (raster : List ℕ) (w h : ℕ) {output : List ℕ} {size : ℕ} {outpu
         placed = omega arith;
       } in
       record {
-        answers = rw (wrote-bytes wrote) ((accepted_iff frame limit w h (size - length raster)).1 is-frame);
-        stands = rw (wrote-bytes wrote) (drop_at (heading w h) raster (size - length raster) place);
-        uncommented = rw (wrote-bytes wrote) (signless_frame raster w h (omega arith) (omega arith));
+        answers = rw (wrote_bytes wrote) ((accepted_iff frame limit w h (size - length raster)).1 is-frame);
+        stands = rw (wrote_bytes wrote) (drop_at (heading w h) raster (size - length raster) place);
+        uncommented = rw (wrote_bytes wrote) (signless_frame raster w h (omega arith) (omega arith));
       }
 
   pub round_trip : ReadsBack raster w h greatest_pixels size output'
-  round_trip = reads-back greatest_pixels (wrote_writable raster w h wrote).size.few
+  round_trip = reads_back greatest_pixels (wrote_writable raster w h wrote).size.few

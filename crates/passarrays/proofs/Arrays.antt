@@ -3,7 +3,7 @@
 --
 --   Kept         what is kept of the array while it is lent for κ
 --   Fronts       what the callee is handed: a `&κ [T]` on the first k elements, and the token of κ
---   lends-front  the array's cell ∗ what the array owns ∗ the token  ⊢ ⇛ ∃ δ. Fronts δ ∗ Kept
+--   lends_front  the array's cell ∗ what the array owns ∗ the token  ⊢ ⇛ ∃ δ. Fronts δ ∗ Kept
 --   array_back   [†κ] ∗ Kept  ⊢ ⇛ room for the array
 use Prim.Native.Nat.{ℕ, ◌≤◌}
 use mathlib.Core.Path.{◌≡◌, refl, sym, ap, subst}
@@ -37,8 +37,8 @@ module _ (R : RattleType) (single : Single R.mir) (κ : Lft) (q : Share) (b : �
   Kept n = flent κ ((arr_parts (shares R) n).part full_share xs b 0)
 
   -- a reference to some elements from the array's start on
-  abbrev pub at-start : GName → List R.Denot → Bor (List R.Denot)
-  at-start δ ys = record { ref_ptr = (b, 0); now = ys }
+  abbrev pub at_start : GName → List R.Denot → Bor (List R.Denot)
+  at_start δ ys = record { ref_ptr = (b, 0); now = ys }
 
   module _ {M : Type 1} {𝓤 : Ura M} (𝓛 : Logic 𝓤) (ℓ : Lifetime) where
     open 𝓛 use {H, A}
@@ -50,7 +50,7 @@ module _ (R : RattleType) (single : Single R.mir) (κ : Lft) (q : Share) (b : �
     Owned n v = sem 𝓛 ((Array R n).own_val xs (v ∷ []))
 
     abbrev Slice : List R.Denot → GName → Fml
-    Slice ys δ = (ShrSlice ℓ κ R).own_val (at-start δ ys) (slice_val (b, 0) (length ys) ∷ [])
+    Slice ys δ = (ShrSlice ℓ κ R).own_val (at_start δ ys) (slice_val (b, 0) (length ys) ∷ [])
 
     -- the whole array is lent
     abbrev Lent : ℕ → GName → SProp 𝓤
@@ -79,7 +79,7 @@ module _ (R : RattleType) (single : Single R.mir) (κ : Lft) (q : Share) (b : �
     cuts halved k δ =
         qed 𝓛 (‵ (Slice xs δ) ∷ ‵ (flft κ q) ∷ []) ∵ updating ! $ fsplit ! $ fsplit ! $ feq_l ! (λ _. move ! (0 ∷ 1 ∷ [])
         $ fjoin ! $ use2 𝓛 (later (some (λ (γ : GName).
-        ‵ ((owned.ShrSlice erased κ R).own (at-start γ (take k xs))) ⊛ ‵ (flft κ q))))
+        ‵ ((owned.ShrSlice erased κ R).own (at_start γ (take k xs))) ⊛ ‵ (flft κ q))))
         (shs_prefix_same 𝓛 R κ q b halved 0 δ xs k) $ await ! tt $ pick ! (λ γ. split ! $ fsplit !
         $ feq_i ! (List Val) (slice_val (b, 0) (length (take k xs)) ∷ []) (slice_val (b, 0) (length (take k xs)) ∷ []) refl
         $ move ! (0 ∷ 1 ∷ []) $ fjoin ! $ move ! (0 ∷ 1 ∷ []) $ fjoin ! $ at_once ! $ show ! (Front k) γ $ done !))
@@ -87,12 +87,12 @@ module _ (R : RattleType) (single : Single R.mir) (κ : Lft) (q : Share) (b : �
     -- what the callee is handed, and what is kept
     abbrev pub Fronts : ℕ → ℕ → GName → SProp 𝓤
     Fronts n k δ =
-        sep 𝓤 (sem 𝓛 ((ShrSlice ℓ κ R).own_val (at-start δ (take k xs)) (slice_val (b, 0) k ∷ [])))
+        sep 𝓤 (sem 𝓛 ((ShrSlice ℓ κ R).own_val (at_start δ (take k xs)) (slice_val (b, 0) k ∷ [])))
         (sep 𝓤 (A.lft κ q) (sem 𝓛 (Kept n)))
 
-    pub lends-front : Halved 𝓛 R → (n k : ℕ) → length xs ≡ n → k ≤ length xs → (v : Val) → Room R n
+    pub lends_front : Halved 𝓛 R → (n k : ℕ) → length xs ≡ n → k ≤ length xs → (v : Val) → Room R n
         → ent 𝓤 (sep 𝓤 (Cell n v) (sep 𝓤 (Owned n v) (A.lft κ q))) (H.⇛ (ex 𝓤 (Fronts n k)))
-    lends-front halved n k e within v room = subst
+    lends_front halved n k e within v room = subst
         (λ (m : ℕ). ent 𝓤 (sep 𝓤 (Cell m v) (sep 𝓤 (Owned m v) (A.lft κ q))) (H.⇛ (ex 𝓤 (Fronts m k)))) e here
       where
         τ : Ty
@@ -106,7 +106,7 @@ module _ (R : RattleType) (single : Single R.mir) (κ : Lft) (q : Share) (b : �
             (lends-whole v (subst (Room R) (sym e) room)) $ await ! tt $ pick ! (λ δ. split ! $ move ! (0 ∷ 2 ∷ [])
             $ use2 𝓛 (later (some (λ (γ : GName). ‵ (Slice (take k xs) γ) ⊛ ‵ (flft κ q)))) (cuts halved k δ)
             $ await ! tt $ pick ! (λ γ. split !
-            $ rewrite ! 0 (λ (m : ℕ). ‵ ((ShrSlice ℓ κ R).own_val (at-start γ (take k xs)) (slice_val (b, 0) m ∷ [])))
+            $ rewrite ! 0 (λ (m : ℕ). ‵ ((ShrSlice ℓ κ R).own_val (at_start γ (take k xs)) (slice_val (b, 0) m ∷ [])))
             (length-take-le k xs within) refl $ at_once ! $ show ! (Fronts (length xs) k) γ $ done !))
 
     pub array_back : (n : ℕ) → ent 𝓤 (sep 𝓤 (A.dead κ) (sem 𝓛 (Kept n)))

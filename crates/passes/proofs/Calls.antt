@@ -24,7 +24,7 @@ use Rattle.painting.specs.Painting.{Marked}
 use Rattle.sections.specs.Sections.{Treated}
 use Rattle.retoning.specs.declared.Treatment.{Treatment}
 use Rattle.sections.proofs.Marked.{marked_gone}
-use Rattle.model.proofs.Order.{length-passed}
+use Rattle.model.proofs.Order.{length_passed}
 use Rattle.model.proofs.Chains.{Within, empty, next, carries_within}
 use Rattle.model.proofs.Recursion.{effect_same}
 use Rattle.passes.specs.Calls.{call_on, pass_call_refusal, PassOutcome, Sequence, none, more}
@@ -78,7 +78,7 @@ call_length z s {plane} {marks} {queue} O =
     ap length O.plane_is ∙ go (pass_call_refusal z s plane marks queue)
   where
     go : (k : ℕ) → length (after k plane (passed (pass_neighbours z s) s plane)) ≡ length plane
-    go zero = length-passed (pass_neighbours z s) s plane
+    go zero = length_passed (pass_neighbours z s) s plane
     go (suc k) = refl
 
 pub sequence_within : {z : Shape} {plane last : List ℕ} {cs : List Call} {rs : List Reply} (number : ℕ)

@@ -1,9 +1,9 @@
 -- A list that is not refused is the model's chain of calls of its passes: each call has the lent marks and queue, and
 -- the list's answer is the sum of the calls' answers. Assumes nothing.
 --
---   passes-chain   passes in memory
---   list-chain     a list of bytes
---   passes-taken, list-taken   none of the calls is refused
+--   passes_chain_lem   passes in memory
+--   list_chain     a list of bytes
+--   passes_taken, list_taken   none of the calls is refused
 use Prim.Native.Nat.{ℕ}
 use mathlib.Core.Path.{◌≡◌, refl, sym, ap, ap₂, subst, ◌∙◌}
 use mathlib.Core.List.{List, [], ◌∷◌, map}
@@ -21,11 +21,11 @@ use Rattle.model.specs.Outcomes.{Outcome}
 use Rattle.model.specs.Calls.{Call, numbers_refusal, pass_refusal, AllAccepted, none, State, start, chain, chain_effect}
 use Rattle.model.specs.Runs.{All, none, more}
 use Rattle.model.proofs.Recursion.{all_map, nothing_then}
-use Rattle.model.proofs.Enhancement.{chain-calls, chain-taken}
+use Rattle.model.proofs.Enhancement.{chain_calls, chain_taken}
 use Rattle.passes.specs.Calls.{call_on}
 use Rattle.listformat.specs.Format.{passes_of}
 use Rattle.listchecks.specs.Refusals.{first_refusal, list_refusal, passes_refusal}
-use Rattle.listchecks.proofs.Refusals.{accepted-list}
+use Rattle.listchecks.proofs.Refusals.{accepted_list}
 use Rattle.passlists.specs.Outcomes.{slices_refusal, run_list_refusal, run_passes_refusal, ListOutcome}
 use Rattle.passlists.specs.Outcomes.{PassesOutcome}
 use Rattle.passlists.proofs.Refusals.{fine_passes}
@@ -61,25 +61,25 @@ module _ (z : Shape) (plane marks queue : List ℕ) where
 
   -- so the replies are those of calls that were all accepted
   all-taken : unlent ≡ 0 → (ss : List Pass) → passes_refusal ss ≡ 0 → AllAccepted (chained ss).answers
-  all-taken e ss f = chain-taken z made (λ s. refl) ss (taken e ss f) (start plane) (whole e) none
+  all-taken e ss f = chain_taken z made (λ s. refl) ss (taken e ss f) (start plane) (whole e) none
 
-  pub passes-taken : (ss : List Pass) → run_passes_refusal z ss plane marks queue ≡ 0
+  pub passes_taken : (ss : List Pass) → run_passes_refusal z ss plane marks queue ≡ 0
       → AllAccepted (chained ss).answers
-  passes-taken ss e =
+  passes_taken ss e =
       let tests = ▷_none unlent (passes_refusal ss) e in
       all-taken tests.0 ss tests.1
 
-  pub list-taken : (list : List ℕ) → run_list_refusal z list plane marks queue ≡ 0
+  pub list_taken : (list : List ℕ) → run_list_refusal z list plane marks queue ≡ 0
       → AllAccepted (chained (passes_of list)).answers
-  list-taken list e =
+  list_taken list e =
       let tests = ▷_none unlent (list_refusal list) e in
-      all-taken tests.0 (passes_of list) (accepted-list list tests.1).1
+      all-taken tests.0 (passes_of list) (accepted_list list tests.1).1
 
   -- the effect of the calls is that of the run
   chained-runs : unlent ≡ 0 → (ss : List Pass) → passes_refusal ss ≡ 0
       → run_effect (pass_neighbours z) ss plane ≡ chain_effect (chained ss)
   chained-runs e ss f =
-      sym (chain-calls z made (λ s. refl) ss (taken e ss f) (start plane) (whole e)
+      sym (chain_calls z made (λ s. refl) ss (taken e ss f) (start plane) (whole e)
       ∙ nothing_then plane (run_effect (pass_neighbours z) ss plane))
 
   module _ (reply : Reply) (plane' marks' queue' : List ℕ) where
@@ -93,17 +93,17 @@ module _ (z : Shape) (plane marks queue : List ℕ) where
           out.answer ∙ ap₂ (λ (k : ℕ) (r : Effect). replied k (counts r)) e same,
         )
 
-    pub passes-chain : (ss : List Pass) → run_passes_refusal z ss plane marks queue ≡ 0
+    pub passes_chain_lem : (ss : List Pass) → run_passes_refusal z ss plane marks queue ≡ 0
         → PassesOutcome z ss plane marks queue reply plane' marks' queue'
         → (plane' ≡ (chained ss).plane) × (reply ≡ gives (counts (chain_effect (chained ss))))
-    passes-chain ss e out =
+    passes_chain_lem ss e out =
         let tests = ▷_none unlent (passes_refusal ss) e in
         accepted-chain (run_passes_refusal z ss plane marks queue) ss e tests.0 tests.1 out
 
-    pub list-chain : (list : List ℕ) → run_list_refusal z list plane marks queue ≡ 0
+    pub list_chain : (list : List ℕ) → run_list_refusal z list plane marks queue ≡ 0
         → ListOutcome z list plane marks queue reply plane' marks' queue'
         → (plane' ≡ (chained (passes_of list)).plane) × (reply ≡ gives (counts (chain_effect (chained (passes_of list)))))
-    list-chain list e out =
+    list_chain list e out =
         let tests = ▷_none unlent (list_refusal list) e in
-        let fine = (accepted-list list tests.1).1 in
+        let fine = (accepted_list list tests.1).1 in
         accepted-chain (run_list_refusal z list plane marks queue) (passes_of list) e tests.0 fine out

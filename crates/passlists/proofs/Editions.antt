@@ -14,19 +14,19 @@ use Rattle.planes.specs.Shapes.{lent_refusal}
 use Rattle.planes.specs.declared.Shape.{Shape}
 use Rattle.planes.specs.Replies.{Reply, gives, replied, after}
 use Rattle.planes.proofs.Refusals.{▷_right}
-use Rattle.texts.proofs.Writing.{wrote_none, wrote-bytes}
+use Rattle.texts.proofs.Writing.{wrote_none, wrote_bytes}
 use Rattle.model.specs.declared.Pass.{Pass}
 use Rattle.model.specs.Neighbourhoods.{pass_neighbours}
 use Rattle.model.specs.Effects.{Effect, counts, run_effect}
 use Rattle.model.specs.Runs.{All}
 use Rattle.listformat.specs.declared.Edition.TheVariants.{First, Second}
 use Rattle.listformat.specs.Format.{other, edition_of, passes_of, encode, Bytes, Storable}
-use Rattle.listformat.proofs.Format.{passes-encode}
+use Rattle.listformat.proofs.Format.{passes_encode}
 use Rattle.listchecks.specs.Refusals.{list_refusal, places_refusal}
-use Rattle.listchecks.proofs.Refusals.{encoded-refusal}
+use Rattle.listchecks.proofs.Refusals.{encoded_refusal}
 use Rattle.conversion.specs.Conversion.{converted, convert_refusal, ConvertOutcome}
 use Rattle.conversion.proofs.Refusals.{convertible}
-use Rattle.conversion.proofs.Editions.{stored, converted-passes, converted-sound}
+use Rattle.conversion.proofs.Editions.{stored, converted_passes, converted_sound}
 use Rattle.passlists.specs.Outcomes.{slices_refusal, run_list_refusal, ListOutcome}
 
 -- two runs of lists with one refusal and the same passes answer and leave the same
@@ -55,10 +55,10 @@ pub converted_alike : (list : List ℕ) → Bytes list → {output output' : Lis
     → (reply₁ ≡ reply₂) × (plane₁ ≡ plane₂)
 converted_alike list b {output} {output'} {size} wrote z =
     let fine = convertible list (length output) (wrote_none wrote) in
-    let read = wrote-bytes wrote in
+    let read = wrote_bytes wrote in
     same_runs z list (take size output')
-    (fine.sound ∙ sym (ap list_refusal read ∙ converted-sound list b fine))
-    (sym (ap passes_of read ∙ converted-passes list b fine))
+    (fine.sound ∙ sym (ap list_refusal read ∙ converted_sound list b fine))
+    (sym (ap passes_of read ∙ converted_passes list b fine))
 
 pub editions_alike : (ss : List Pass) → length ss < 65536 → All (Storable First) ss
     → (z : Shape) (plane : List ℕ) {marks queue marks' queue' : List ℕ}
@@ -70,8 +70,8 @@ pub editions_alike : (ss : List Pass) → length ss < 65536 → All (Storable Fi
 editions_alike ss told fit z =
     let wide = stored Second ss fit in
     same_runs z (encode First ss) (encode Second ss)
-    (encoded-refusal First ss told fit ∙ sym (encoded-refusal Second ss told wide))
-    ((passes-encode First ss told fit).0 ∙ sym (passes-encode Second ss told wide).0)
+    (encoded_refusal First ss told fit ∙ sym (encoded_refusal Second ss told wide))
+    ((passes_encode First ss told fit).0 ∙ sym (passes_encode Second ss told wide).0)
 
 pub convert_refuses : (z : Shape) (plane marks queue : List ℕ) → slices_refusal z plane marks queue ≡ 0
     → (bs : List ℕ) (output : ℕ) → convert_refusal bs output

@@ -1,8 +1,8 @@
 -- The runs of passes in memory and of a list of bytes, as plans: what their turns require and keep, and their outcomes.
 -- Assumes nothing.
 --
---   memoryPlan   the plan of passes in memory
---   filePlan     the plan of a list of bytes
+--   memory_plan   the plan of passes in memory
+--   file_plan     the plan of a list of bytes
 use Prim.Native.Nat.{ℕ, ◌≤◌, ◌<◌}
 use mathlib.Core.Path.{◌≡◌, refl, sym, ap, subst, ◌∙◌}
 use mathlib.Core.Bool.{true}
@@ -23,12 +23,12 @@ use Rattle.listformat.specs.Format.{count_of, passes_of, greatest_count, head_re
 use Rattle.listchecks.specs.Refusals.{first_refusal, record_at, record_refusals, list_refusal, passes_refusal}
 use Rattle.listchecks.specs.declared.Record.{Record}
 use Rattle.listformat.proofs.Format.{length_passes_of, no_pass, passes_of_at}
-use Rattle.listchecks.proofs.Refusals.{accepted-list, records-length, record-told}
+use Rattle.listchecks.proofs.Refusals.{accepted_list, records_length, record_told}
 use Rattle.passturns.specs.Steps.{so_far, counts_so_far, StepReady, Runnable, begun, TurnOutcome}
 use Rattle.passturns.specs.declared.Progress.{Progress}
 use Rattle.passlists.specs.Outcomes.{slices_refusal, ListOutcome, PassesOutcome}
 use Rattle.passlists.proofs.Refusals.{passes_at}
-use Rattle.passlists.proofs.Turns.{Plan, Inv, μ, within, under-way, asks, begins, turns, ends}
+use Rattle.passlists.proofs.Turns.{Plan, Inv, μ, within, under_way, asks, begins, turns, ends}
 
 -- ## Passes in memory
 
@@ -39,37 +39,37 @@ module _ (z : Shape) (ss : List Pass) (plane₀ marks₀ queue₀ : List ℕ) wh
   abbrev many : ℕ
   many = when (ltb greatest_count (length ss)) 16
 
-  pub memory-fine : unlent ▷ many ≡ 0 → first_refusal (map numbers_refusal ss) ≡ 0 → Runnable z ss plane₀ marks₀ queue₀
+  pub memory_fine : unlent ▷ many ≡ 0 → first_refusal (map numbers_refusal ss) ≡ 0 → Runnable z ss plane₀ marks₀ queue₀
   unfolding passes_refusal
-  memory-fine e f = let tests = ▷_none unlent many e in record {
+  memory_fine e f = let tests = ▷_none unlent many e in record {
     lent = lent_fits z (length plane₀) (length marks₀) (length queue₀) tests.0;
     fine = ▷_both many (first_refusal (map numbers_refusal ss)) tests.1 f;
   }
 
-  abbrev pub memoryPlan : Plan z plane₀ marks₀ queue₀
-  memoryPlan = record {
+  abbrev pub memory_plan : Plan z plane₀ marks₀ queue₀
+  memory_plan = record {
     passes = ss;
     early = unlent ▷ many;
     later = map numbers_refusal ss;
     each = length-map ss numbers_refusal;
-    fine = memory-fine;
+    fine = memory_fine;
   }
 
-  pub memory-turns : (s : Progress) (plane marks queue : List ℕ) → Inv memoryPlan s plane marks queue → s.at < s.end
+  pub memory_turns : (s : Progress) (plane marks queue : List ℕ) → Inv memory_plan s plane marks queue → s.at < s.end
       → (r : Progress) (plane' marks' queue' : List ℕ)
       → TurnOutcome z (numbers_refusal (get_or ss s.at no_pass)) (get_or ss s.at no_pass) s plane marks queue r
       plane' marks' queue'
-      → Inv memoryPlan r plane' marks' queue' × (μ memoryPlan r < μ memoryPlan s)
-  memory-turns s plane marks queue inv l =
-      let inside : s.at < length ss = omega (arith, l, within memoryPlan s plane marks queue inv) in
-      turns memoryPlan s plane marks queue inv l (sym (passes_at ss s.at inside)) refl
+      → Inv memory_plan r plane' marks' queue' × (μ memory_plan r < μ memory_plan s)
+  memory_turns s plane marks queue inv l =
+      let inside : s.at < length ss = omega (arith, l, within memory_plan s plane marks queue inv) in
+      turns memory_plan s plane marks queue inv l (sym (passes_at ss s.at inside)) refl
 
-  pub memory-ends : (s : Progress) (plane marks queue : List ℕ) → Inv memoryPlan s plane marks queue → s.end ≤ s.at
+  pub memory_ends : (s : Progress) (plane marks queue : List ℕ) → Inv memory_plan s plane marks queue → s.end ≤ s.at
       → PassesOutcome z ss plane₀ marks₀ queue₀ (replied s.refusal (counts_so_far s)) plane marks queue
   unfolding passes_refusal
-  memory-ends s plane marks queue inv l =
+  memory_ends s plane marks queue inv l =
       outcome_number (▷_assoc unlent many (first_refusal (map numbers_refusal ss)))
-      (ends memoryPlan s plane marks queue inv l)
+      (ends memory_plan s plane marks queue inv l)
 
 -- ## The records of a list
 
@@ -78,38 +78,38 @@ module _ (z : Shape) (bs : List ℕ) (plane₀ marks₀ queue₀ : List ℕ) whe
   abbrev first : ℕ
   first = slices_refusal z plane₀ marks₀ queue₀ ▷ head_refusal bs
 
-  pub file-fine : first ≡ 0 → first_refusal (record_refusals bs) ≡ 0
+  pub file_fine : first ≡ 0 → first_refusal (record_refusals bs) ≡ 0
       → Runnable z (passes_of bs) plane₀ marks₀ queue₀
   unfolding list_refusal
-  file-fine e f =
+  file_fine e f =
       let tests = ▷_none (slices_refusal z plane₀ marks₀ queue₀) (head_refusal bs) e in
       let none = ▷_both (head_refusal bs) (first_refusal (record_refusals bs)) tests.1 f in
       record {
         lent = lent_fits z (length plane₀) (length marks₀) (length queue₀) tests.0;
-        fine = (accepted-list bs none).1;
+        fine = (accepted_list bs none).1;
       }
 
-  abbrev pub filePlan : Plan z plane₀ marks₀ queue₀
-  filePlan = record {
+  abbrev pub file_plan : Plan z plane₀ marks₀ queue₀
+  file_plan = record {
     passes = passes_of bs;
     early = first;
     later = record_refusals bs;
-    each = records-length bs ∙ sym (length_passes_of bs);
-    fine = file-fine;
+    each = records_length bs ∙ sym (length_passes_of bs);
+    fine = file_fine;
   }
 
-  pub file-begins : (s : Progress) → s ≡ begun (first) (count_of bs)
-      → Inv filePlan s plane₀ marks₀ queue₀
-  file-begins s is = begins filePlan s (is ∙ ap (begun (first)) (sym (length_passes_of bs)))
+  pub file_begins : (s : Progress) → s ≡ begun (first) (count_of bs)
+      → Inv file_plan s plane₀ marks₀ queue₀
+  file_begins s is = begins file_plan s (is ∙ ap (begun (first)) (sym (length_passes_of bs)))
 
-  module _ {s : Progress} {plane marks queue : List ℕ} (inv : Inv filePlan s plane marks queue) where
+  module _ {s : Progress} {plane marks queue : List ℕ} (inv : Inv file_plan s plane marks queue) where
     counted : s.at < s.end → s.at < count_of bs
-    counted l = omega (arith, l, within filePlan s plane marks queue inv, length_passes_of bs)
+    counted l = omega (arith, l, within file_plan s plane marks queue inv, length_passes_of bs)
 
     -- the record that is due stands in the list
-    pub file-stands : s.at < s.end → (head_refusal bs ≡ 0) × (s.at < count_of bs)
-    file-stands l =
-        let none = under-way filePlan s plane marks queue inv l in
+    pub file_stands : s.at < s.end → (head_refusal bs ≡ 0) × (s.at < count_of bs)
+    file_stands l =
+        let none = under_way file_plan s plane marks queue inv l in
         ((▷_none (slices_refusal z plane₀ marks₀ queue₀) (head_refusal bs) none).1, counted l)
 
     module _ {rec : Record} (l : s.at < s.end) (is : rec ≡ record_at bs s.at) where
@@ -118,21 +118,21 @@ module _ (z : Shape) (bs : List ℕ) (plane₀ marks₀ queue₀ : List ℕ) whe
           ap (λ (r : Record). r.pass) is
           ∙ sym (passes_of_at bs s.at (counted l))
 
-      pub file-asks : s.running ≡ true → StepReady z rec.pass (so_far s plane) marks queue
-      file-asks y =
+      pub file_asks : s.running ≡ true → StepReady z rec.pass (so_far s plane) marks queue
+      file_asks y =
           subst (λ (q : Pass). StepReady z q (so_far s plane) marks queue) (sym pass-is)
-          (asks filePlan s plane marks queue inv l y)
+          (asks file_plan s plane marks queue inv l y)
 
-      pub file-turns : {r : Progress} {plane' marks' queue' : List ℕ}
+      pub file_turns : {r : Progress} {plane' marks' queue' : List ℕ}
           → TurnOutcome z (rec.form ▷ numbers_refusal rec.pass) rec.pass s plane marks queue r
           plane' marks' queue'
-          → Inv filePlan r plane' marks' queue' × (μ filePlan r < μ filePlan s)
-      file-turns = turns filePlan s plane marks queue inv l (record-told bs is (counted l)) pass-is _ _ _ _
+          → Inv file_plan r plane' marks' queue' × (μ file_plan r < μ file_plan s)
+      file_turns = turns file_plan s plane marks queue inv l (record_told bs is (counted l)) pass-is _ _ _ _
 
-    pub file-ends : s.end ≤ s.at
+    pub file_ends : s.end ≤ s.at
         → ListOutcome z bs plane₀ marks₀ queue₀ (replied s.refusal (counts_so_far s)) plane marks queue
     unfolding list_refusal
-    file-ends l =
+    file_ends l =
         outcome_number
         (▷_assoc (slices_refusal z plane₀ marks₀ queue₀) (head_refusal bs) (first_refusal (record_refusals bs)))
-        (ends filePlan s plane marks queue inv l)
+        (ends file_plan s plane marks queue inv l)

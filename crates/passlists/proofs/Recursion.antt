@@ -7,11 +7,11 @@
 --   by_levels, by_recursion   level by level they are, and in the order of the recursion: 1 for level 0 alone, 255 for
 --                             all levels
 --   Accepted                  settings that are not refused
---   sections-few              so there are few, and a list may have as many
---   sections-accepted         they are not refused in memory
---   sections-stored           nor as a file, which is read as these passes
---   memory-enhances           the outcome of the list in memory is the enhancement's plane and counts
---   file-enhances             so is that of the file
+--   sections_few              so there are few, and a list may have as many
+--   sections_accepted         they are not refused in memory
+--   sections_stored           nor as a file, which is read as these passes
+--   memory_enhances           the outcome of the list in memory is the enhancement's plane and counts
+--   file_enhances             so is that of the file
 use Prim.Native.Nat.{ℕ, zero, suc, ◌+◌, ◌-◌, ◌*◌, ◌^◌, ◌≤◌, ◌<◌}
 use mathlib.Core.Path.{◌≡◌, refl, sym, ap, ap₂, subst, ◌∙◌}
 use mathlib.Core.Logic.{◌⊎◌, inl, inr}
@@ -39,17 +39,17 @@ use Rattle.model.specs.Effects.{Effect, counts, run_effect, Same}
 use Rattle.model.specs.Calls.{area_refusal, neighbour_refusal, numbers_refusal, pass_refusal, chain_effect}
 use Rattle.model.specs.Runs.{All, none, more}
 use Rattle.model.specs.Enhancement.{section, level, levels, passes, enhanced, call_of, deep, recursive}
-use Rattle.model.proofs.Recursion.{all_append, all_map, double, recursion-listed}
-use Rattle.model.proofs.Enhancement.{start-runs}
+use Rattle.model.proofs.Recursion.{all_append, all_map, double, recursion_listed}
+use Rattle.model.proofs.Enhancement.{start_runs}
 use Rattle.tones.specs.Numbers.{RuleFits}
 use Rattle.tones.proofs.Numbers.{accepted_fits}
 use Rattle.listformat.specs.declared.Edition.{Edition}
 use Rattle.listformat.specs.Format.{passes_of, greatest_count, encode, NeighboursFit, Storable}
-use Rattle.listformat.proofs.Format.{passes-encode}
+use Rattle.listformat.proofs.Format.{passes_encode}
 use Rattle.listchecks.specs.Refusals.{first_refusal, list_refusal, passes_refusal}
-use Rattle.listchecks.proofs.Refusals.{encoded-refusal}
+use Rattle.listchecks.proofs.Refusals.{encoded_refusal}
 use Rattle.passlists.specs.Outcomes.{run_passes_refusal, ListOutcome, PassesOutcome}
-use Rattle.passlists.proofs.Lists.{same-outcomes}
+use Rattle.passlists.proofs.Lists.{same_outcomes}
 
 -- ## The sections
 
@@ -160,7 +160,7 @@ module _ (last area : ℕ) (rule : Rule) (number : ℕ) (levels-fine : last ≤ 
   by_recursion = record {
     size = (sizes last area rule number levels-fine).1;
     each = proper-recursive area rule number last levels-fine;
-    same = λ z. recursion-listed (pass_neighbours z) last area rule number levels-fine;
+    same = λ z. recursion_listed (pass_neighbours z) last area rule number levels-fine;
   }
 
 -- ## Their numbers are accepted, and fit
@@ -220,18 +220,18 @@ pub record Accepted (last area : ℕ) (rule : Rule) (number : ℕ) : Type 0 wher
 
 module _ {last area : ℕ} {rule : Rule} {number : ℕ} (A : Accepted last area rule number) {ss : List Pass}
     (S : Sections last area rule number ss) where
-  pub sections-few : length ss ≤ 255
-  sections-few =
+  pub sections_few : length ss ≤ 255
+  sections_few =
       let most : 2 ^ (last + 1) ≤ 256 = pow_mono {i = last + 1} {j = 8} (omega (arith, A.last_fine)) in
       omega (arith, S.size)
 
   each-fine : {ps : List Pass} → All (Proper area rule number) ps → All (λ s. numbers_refusal s ≡ 0) ps
   each-fine = all_map (accepted-pass area rule number A.area_fine A.rule_fine A.number_fine)
 
-  pub sections-accepted : passes_refusal ss ≡ 0
+  pub sections_accepted : passes_refusal ss ≡ 0
   unfolding passes_refusal
-  sections-accepted =
-      ap₂ (λ (t : Bool) (k : ℕ). when t 16 ▷ k) (le-ltb greatest_count (length ss) (omega (arith, sections-few)))
+  sections_accepted =
+      ap₂ (λ (t : Bool) (k : ℕ). when t 16 ▷ k) (le-ltb greatest_count (length ss) (omega (arith, sections_few)))
       (first_fine ss (each-fine S.each))
 
   -- ## As a file: in version 2 by either number, in version 1 by 4
@@ -241,10 +241,10 @@ module _ {last area : ℕ} {rule : Rule} {number : ℕ} (A : Accepted last area 
     storable = all_map (storable-pass area rule number A.area_fine A.rule_fine e fits) S.each
 
     told : length ss < 65536
-    told = omega (arith, sections-few)
+    told = omega (arith, sections_few)
 
-    pub sections-stored : (list_refusal (encode e ss) ≡ 0) × (passes_of (encode e ss) ≡ ss)
-    sections-stored = (encoded-refusal e ss told storable ∙ sections-accepted, (passes-encode e ss told storable).0)
+    pub sections_stored : (list_refusal (encode e ss) ≡ 0) × (passes_of (encode e ss) ≡ ss)
+    sections_stored = (encoded_refusal e ss told storable ∙ sections_accepted, (passes_encode e ss told storable).0)
 
   -- ## Runs
 
@@ -264,20 +264,20 @@ module _ {last area : ℕ} {rule : Rule} {number : ℕ} (A : Accepted last area 
         let whole = (lent_fits z (length plane) (length marks) (length queue) lent-fine).whole in
         let room = enough z (length plane) (length marks) (length queue) lent-fine in
         let fine = each-fine (proper area rule number last A.last_fine) in
-        start-runs z (passes last area rule number) (all_map (λ s y. ap₂ ◌▷◌ room y) fine) plane whole
+        start_runs z (passes last area rule number) (all_map (λ s y. ap₂ ◌▷◌ room y) fine) plane whole
 
-    pub memory-enhances : (reply : Reply) (plane' marks' queue' : List ℕ)
+    pub memory_enhances : (reply : Reply) (plane' marks' queue' : List ℕ)
         → PassesOutcome z ss plane marks queue reply plane' marks' queue' → Enhances reply plane'
-    memory-enhances reply plane' marks' queue' out =
-        let refusal : run_passes_refusal z ss plane marks queue ≡ 0 = ap₂ ◌▷◌ lent-fine sections-accepted in
+    memory_enhances reply plane' marks' queue' out =
+        let refusal : run_passes_refusal z ss plane marks queue ≡ 0 = ap₂ ◌▷◌ lent-fine sections_accepted in
         let same = (S.same z).effects plane ∙ sym enhancement-runs in (
           out.plane_is ∙ ap₂ (λ (k : ℕ) (e : Effect). after k plane e.plane) refusal same,
           out.answer ∙ ap₂ (λ (k : ℕ) (e : Effect). replied k (counts e)) refusal same,
         )
 
     -- a file has the outcome of the list in memory
-    pub file-enhances : (e : Edition) → NeighboursFit e number → (reply : Reply) (plane' marks' queue' : List ℕ)
+    pub file_enhances : (e : Edition) → NeighboursFit e number → (reply : Reply) (plane' marks' queue' : List ℕ)
         → ListOutcome z (encode e ss) plane marks queue reply plane' marks' queue' → Enhances reply plane'
-    file-enhances e fits reply plane' marks' queue' out =
-        memory-enhances reply plane' marks' queue' (subst (λ (T : Type 0). T)
-        (same-outcomes e ss (told e fits) (storable e fits) z plane marks queue reply plane' marks' queue') out)
+    file_enhances e fits reply plane' marks' queue' out =
+        memory_enhances reply plane' marks' queue' (subst (λ (T : Type 0). T)
+        (same_outcomes e ss (told e fits) (storable e fits) z plane marks queue reply plane' marks' queue') out)

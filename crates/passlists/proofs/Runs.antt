@@ -17,10 +17,10 @@ use Rattle.model.specs.declared.Pass.{Pass}
 use Rattle.model.specs.Neighbourhoods.{pass_neighbours}
 use Rattle.model.specs.Effects.{Effect, nothing, then, pass_effect, run_effect}
 use Rattle.model.specs.Outcomes.{Over}
-use Rattle.model.proofs.Order.{length-passed}
+use Rattle.model.proofs.Order.{length_passed}
 use Rattle.model.proofs.Chains.{ordered}
 use Rattle.model.proofs.Recursion.{then_assoc, nothing_then, then_nothing}
-use Rattle.model.proofs.Sufficient.{run-few}
+use Rattle.model.proofs.Sufficient.{run_few}
 use Rattle.listformat.specs.Format.{greatest_count}
 use Rattle.passturns.specs.Steps.{further, Countable, StepReady, Runnable}
 use Rattle.listformat.proofs.Format.{no_pass}
@@ -36,7 +36,7 @@ run_fits z ss plane marks queue r =
     let pixels : length plane ≤ greatest_pixels = omega (arith, r.lent.whole, r.lent.size.few) in
     let most : length ss * length plane ≤ greatest_count * greatest_pixels =
     mul-le-mul {n₂ = greatest_count} {m₂ = greatest_pixels} few pixels in
-    let all = run-few (pass_neighbours z) ss plane in
+    let all = run_few (pass_neighbours z) ss plane in
     (omega arith, omega arith)
 
 -- ## Along a list of passes
@@ -59,8 +59,8 @@ pub record Along (z : Shape) (ss : List Pass) (plane₀ marks₀ queue₀ : List
   pub queue_rest : Beyond (pixels z) queue₀ queue
 
 module _ {z : Shape} {ss : List Pass} {plane₀ marks₀ queue₀ : List ℕ} where
-  pub along-none : Along z ss plane₀ marks₀ queue₀ 0 (nothing plane₀) marks₀ queue₀
-  along-none = record {
+  pub along_none : Along z ss plane₀ marks₀ queue₀ 0 (nothing plane₀) marks₀ queue₀
+  along_none = record {
     upto = zero-le;
     effect_is = nothing_then plane₀ (effect_of z ss plane₀);
     size = refl;
@@ -79,9 +79,9 @@ module _ {z : Shape} {ss : List Pass} {plane₀ marks₀ queue₀ : List ℕ} wh
     next l = rw add-one (drop-cons ss i no_pass l)
 
     -- the memory is still lent
-    pub along-lent : Lent z (length plane₀) (length marks₀) (length queue₀)
+    pub along_lent : Lent z (length plane₀) (length marks₀) (length queue₀)
         → Lent z (length e.plane) (length marks) (length queue)
-    along-lent l = record {
+    along_lent l = record {
       size = l.size;
       whole = along.size ∙ l.whole;
       covered = subst (pixels z ≤◌) (sym along.marks_rest.size) l.covered;
@@ -96,30 +96,30 @@ module _ {z : Shape} {ss : List Pass} {plane₀ marks₀ queue₀ : List ℕ} wh
         then_assoc e (pass_effect (pass_neighbours z) here e.plane) (effect_of z later (further z here e).plane)
         ∙ ap (λ (r : List Pass). then e (effect_of z r e.plane)) (sym (next l)) ∙ along.effect_is
 
-    pub along-ready : Runnable z ss plane₀ marks₀ queue₀ → i < length ss → StepReady z here e marks queue
-    along-ready r l =
+    pub along_ready : Runnable z ss plane₀ marks₀ queue₀ → i < length ss → StepReady z here e marks queue
+    along_ready r l =
         let rest = effect_of z later (further z here e).plane in
         let all = run_fits z ss plane₀ marks₀ queue₀ r in
         record {
-          lent = along-lent r.lent;
+          lent = along_lent r.lent;
           order = ordered here (fine_pass ss r.fine i l);
           room = first_fits (further z here e) rest (subst Countable (sym (effect-next l)) all);
         }
 
-    pub along-more : i < length ss → {marks' queue' : List ℕ} → Beyond (pixels z) marks marks'
+    pub along_more : i < length ss → {marks' queue' : List ℕ} → Beyond (pixels z) marks marks'
         → Beyond (pixels z) queue queue' → Along z ss plane₀ marks₀ queue₀ (i + 1) (further z here e) marks' queue'
-    along-more l m q = record {
+    along_more l m q = record {
       upto = omega arith;
       effect_is = effect-next l;
-      size = length-passed (pass_neighbours z here) here e.plane ∙ along.size;
+      size = length_passed (pass_neighbours z here) here e.plane ∙ along.size;
       marks_rest = beyond_trans along.marks_rest m;
       queue_rest = beyond_trans along.queue_rest q;
     }
 
-    pub along-all : length ss ≤ i → Over (pixels z) (effect_of z ss plane₀) marks₀ queue₀ e.plane marks queue
+    pub along_all : length ss ≤ i → Over (pixels z) (effect_of z ss plane₀) marks₀ queue₀ e.plane marks queue
         (record { retoned = e.retoned; kept = e.kept })
     unfolding run_effect
-    along-all l =
+    along_all l =
         let none : drop i ss ≡ [] = drop_of_length-le ss l in
         let same : e ≡ effect_of z ss plane₀ =
         sym (then_nothing e)

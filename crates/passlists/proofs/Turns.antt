@@ -4,7 +4,7 @@
 --   Plan         the passes of a run, the refusal of each, and the one that applies before any of them is looked at
 --   Inv          the passes before the present one are checked and fine, or have run, or the run is refused
 --   μ            what is left to do: it falls with each turn
---   inv-sizes    the lent slices keep their lengths
+--   inv_sizes    the lent slices keep their lengths
 --   asks         what a turn requires
 --   begins       the invariant where the run begins
 --   turns        the invariant after a turn
@@ -33,9 +33,9 @@ use Rattle.passturns.specs.Steps.{so_far, counts_so_far, further, StepReady, Ste
 use Rattle.passturns.specs.Steps.{checked}
 use Rattle.passturns.specs.Steps.{TurnOutcome, checks, steps}
 use Rattle.passturns.specs.declared.Progress.{Progress}
-use Rattle.listchecks.proofs.First.{Clear, clear_none, clear-more, clear-stop, clear-all}
+use Rattle.listchecks.proofs.First.{Clear, clear_none, clear_more, clear_stop, clear_all}
 use Rattle.listformat.proofs.Format.{no_pass}
-use Rattle.passlists.proofs.Runs.{Along, along-none, along-more, along-all, along-ready}
+use Rattle.passlists.proofs.Runs.{Along, along_none, along_more, along_all, along_ready}
 
 pub record Plan (z : Shape) (plane₀ marks₀ queue₀ : List ℕ) : Type 0 where
   pub passes : List Pass
@@ -79,29 +79,29 @@ module _ {z : Shape} {plane₀ marks₀ queue₀ : List ℕ} (P : Plan z plane�
   within s plane marks queue (refused e) = zero-le
 
   -- where a pass is due, no refusal applies before the passes are looked at
-  pub under-way : (s : Progress) (plane marks queue : List ℕ) → Inv s plane marks queue → s.at < s.end
+  pub under_way : (s : Progress) (plane marks queue : List ℕ) → Inv s plane marks queue → s.at < s.end
       → P.early ≡ 0
-  under-way s plane marks queue (checking e c l) t = e
-  under-way s plane marks queue (running e a) t = (▷_none P.early (first_refusal P.later) e).0
-  under-way s plane marks queue (refused e) t = absurd (omega (arith, t))
+  under_way s plane marks queue (checking e c l) t = e
+  under_way s plane marks queue (running e a) t = (▷_none P.early (first_refusal P.later) e).0
+  under_way s plane marks queue (refused e) t = absurd (omega (arith, t))
 
-  pub inv-sizes : {s : Progress} {plane marks queue : List ℕ} → Inv s plane marks queue
+  pub inv_sizes : {s : Progress} {plane marks queue : List ℕ} → Inv s plane marks queue
       → (length plane ≡ length plane₀) × ((length marks ≡ length marks₀) × (length queue ≡ length queue₀))
-  inv-sizes (checking e c l) = (refl, (refl, refl))
-  inv-sizes (running e a) = (a.size, (a.marks_rest.size, a.queue_rest.size))
-  inv-sizes (refused e) = (refl, (refl, refl))
+  inv_sizes (checking e c l) = (refl, (refl, refl))
+  inv_sizes (running e a) = (a.size, (a.marks_rest.size, a.queue_rest.size))
+  inv_sizes (refused e) = (refl, (refl, refl))
 
   pub asks : (s : Progress) (plane marks queue : List ℕ) → Inv s plane marks queue → s.at < s.end
       → s.running ≡ true → StepReady z (get_or P.passes s.at no_pass) (so_far s plane) marks queue
   asks s plane marks queue (checking e c l) t y = absurd (false≢true y)
   asks s plane marks queue (running e a) t y =
       let tests = ▷_none P.early (first_refusal P.later) e in
-      along-ready a (P.fine tests.0 tests.1) t
+      along_ready a (P.fine tests.0 tests.1) t
   asks s plane marks queue (refused e) t y = absurd (omega (arith, t))
 
   -- no pass is refused, so the first one runs
   starts : P.early ≡ 0 → 0 ≡ first_refusal P.later → Inv (runs 0 (nothing plane₀)) plane₀ marks₀ queue₀
-  starts e f = running (▷_both P.early (first_refusal P.later) e (sym f)) along-none
+  starts e f = running (▷_both P.early (first_refusal P.later) e (sym f)) along_none
 
   pub begins : (s : Progress) → s ≡ begun P.early end → Inv s plane₀ marks₀ queue₀
   begins s is = subst (λ (r : Progress). Inv r plane₀ marks₀ queue₀) (sym is) (go P.early refl)
@@ -110,7 +110,7 @@ module _ {z : Shape} {plane₀ marks₀ queue₀ : List ℕ} (P : Plan z plane�
           → Inv (record { at = 0; end = end; retoned = 0; kept = 0; refusal = 0; running = t }) plane₀ marks₀ queue₀
       some e true n =
           let none : length P.later ≤ 0 = omega (arith, eqb-true end 0 n, P.each) in
-          starts e (clear-all (clear_none P.later) none)
+          starts e (clear_all (clear_none P.later) none)
       some e false n = let f = eqb-false end 0 n in checking e (clear_none P.later) (omega arith)
 
       go : (k : ℕ) → P.early ≡ k → Inv (begun k end) plane₀ marks₀ queue₀
@@ -133,12 +133,12 @@ module _ {z : Shape} {plane₀ marks₀ queue₀ : List ℕ} (P : Plan z plane�
       next d false m =
           let over = ltb-false (i + 1) end m in
           let all : length P.later ≤ i + 1 = omega (arith, P.each) in
-          (starts e (clear-all d all), omega arith)
+          (starts e (clear_all d all), omega arith)
 
       go : (k : ℕ) → at P.later i ≡ k → Nearer (checked (due i) k) i
-      go zero y = next (clear-more c inside y) (ltb (i + 1) end) refl
+      go zero y = next (clear_more c inside y) (ltb (i + 1) end) refl
       go (suc k) y =
-          let first = clear-stop c inside (λ n. absurd (omega (arith, y, n))) in
+          let first = clear_stop c inside (λ n. absurd (omega (arith, y, n))) in
           (refused (▷_right P.early (first_refusal P.later) e ∙ sym first ∙ y), omega arith)
 
   -- a pass that has run
@@ -149,7 +149,7 @@ module _ {z : Shape} {plane₀ marks₀ queue₀ : List ℕ} (P : Plan z plane�
   runs-pass {i} {e} {marks' = marks'} {queue' = queue'} {plane' = plane'} f a l st =
       let next = further z (get_or P.passes i no_pass) e in
       let inv : Inv (runs (i + 1) next) next.plane marks' queue' =
-      running f (along-more a l st.marks_rest st.queue_rest) in (
+      running f (along_more a l st.marks_rest st.queue_rest) in (
         subst (λ (s : Progress). Inv s plane' marks' queue') (sym st.state_is)
             (subst (λ (p : List ℕ). Inv (runs (i + 1) next) p marks' queue') (sym st.plane_is) inv),
         subst (λ (s : Progress). μ s < μ (runs i e)) (sym st.state_is) (omega arith),
@@ -173,5 +173,5 @@ module _ {z : Shape} {plane₀ marks₀ queue₀ : List ℕ} (P : Plan z plane�
       → Outcome (pixels z) refusal (run_effect (pass_neighbours z) P.passes plane₀) plane₀ marks₀ queue₀
       (replied s.refusal (counts_so_far s)) plane marks queue
   ends s plane marks queue (checking e c l) t = absurd (omega (arith, t))
-  ends s plane marks queue (running e a) t = done_by e (along-all a t)
+  ends s plane marks queue (running e a) t = done_by e (along_all a t)
   ends s plane marks queue (refused {k} e) t = refused_by (suc k) (sym e) (λ y. absurd (omega (arith, y)))

@@ -13,8 +13,8 @@ use Rattle.histograms.specs.Sums.{SummedInPlace}
 use Rattle.histograms.specs.Tables.{Tabled}
 use Rattle.histograms.specs.declared.Measures.{Measures}
 use Rattle.histograms.proofs.Sums.{sum_to_first}
-use Rattle.histograms.proofs.Values.{spread-map}
-use Rattle.histograms.proofs.Histograms.{histogram-sum, summed-counts}
+use Rattle.histograms.proofs.Values.{spread_map}
+use Rattle.histograms.proofs.Histograms.{histogram_sum, summed_counts}
 use Rattle.plain.proofs.Sound.{plain_rises}
 use Rattle.plain.proofs.Ends.{plain_greatest}
 
@@ -23,20 +23,20 @@ module _ {a b : ℕ} {vs counts : List ℕ} {c : Measures} (range : Ranged c a b
   least-tone : scaled a b (at counts c.least) c.size ≡ plain_tone a b vs (least vs)
   unfolding plain_tone
   least-tone =
-      let count = sym (sum_to_first (at counts) c.least) ∙ histogram-sum h c.least (omega arith) in
+      let count = sym (sum_to_first (at counts) c.least) ∙ histogram_sum h c.least (omega arith) in
       ap₂ (scaled a b) count h.measured.size
       ∙ ap (plain_tone a b vs) h.measured.least_is
 
   -- the greatest value's tone is b
-  pub kept-by-ends : (low high : ℕ)
+  pub kept_by_ends : (low high : ℕ)
       → kept_by low high (c.greatest - c.least) (b - scaled a b (at counts c.least) c.size)
       ≡ plain_kept low high a b vs
   unfolding plain_kept
-  kept-by-ends low high =
+  kept_by_ends low high =
       let some : 1 ≤ length vs = omega (arith, h.measured.size) in
       let before : c.greatest - c.least ≡ spread vs = ap₂ ◌-◌ h.measured.greatest_is h.measured.least_is in
       let after : spread (map (plain_tone a b vs) vs) ≡ b - scaled a b (at counts c.least) c.size
-      = spread-map (plain_tone a b vs) (plain_rises a b vs) vs some
+      = spread_map (plain_tone a b vs) (plain_rises a b vs) vs some
       ∙ ap₂ ◌-◌ (plain_greatest a b vs (omega arith) some) (sym least-tone) in
       ap₂ (kept_by low high) before (sym after)
 
@@ -48,5 +48,5 @@ pub plain_tabled : (a b : ℕ) {counts sums table table' : List ℕ} {c : Measur
 unfolding plain_tone
 plain_tabled a b s t = record {
   exact = λ vs h v lv vg.
-      t.new v lv (omega arith) ∙ ap₂ (scaled a b) (summed-counts h s v lv vg) h.measured.size;
+      t.new v lv (omega arith) ∙ ap₂ (scaled a b) (summed_counts h s v lv vg) h.measured.size;
 }

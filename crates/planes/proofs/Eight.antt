@@ -107,8 +107,8 @@ module _ (w y x : ℕ) (hx : x < w) where
       )
 
   -- every neighbour is next to i in its row, or across
-  pub eight-cases : (j : ℕ) → eight w i j ≡ true → NextTo w x i j ⊎ Across w x i j
-  eight-cases j e =
+  pub eight_cases : (j : ℕ) → eight w i j ≡ true → NextTo w x i j ⊎ Across w x i j
+  eight_cases j e =
       let split = div-add-mod' j w in
       go (j / w) (j % w) (mod-lt j (omega arith)) split (subst (λ (k : ℕ). eight w i k ≡ true) (sym split) e)
     where
@@ -117,7 +117,7 @@ module _ (w y x : ℕ) (hx : x < w) where
           let t = parts v u hu d in
           let line = line_of u hu t.1.0 in
           elim (close_cases y v t.0) [
-            | inl r ↦ inl (in-row v u hu q (t.1.1 r) r (close_cases x u t.1.0))
+            | inl r ↦ inl (in_row_lem v u hu q (t.1.1 r) r (close_cases x u t.1.0))
             | inr (inl r) ↦ inr (record {
               middle = y * w + u;
               line = line;
@@ -130,11 +130,11 @@ module _ (w y x : ℕ) (hx : x < w) where
             })
           ]
         where
-          in-row : (v u : ℕ) → u < w → v * w + u ≡ j → (x ≡ u → ⊥) → y ≡ v
+          in_row_lem : (v u : ℕ) → u < w → v * w + u ≡ j → (x ≡ u → ⊥) → y ≡ v
               → (x ≡ u) ⊎ ((x + 1 ≡ u) ⊎ (u + 1 ≡ x)) → NextTo w x i j
-          in-row v u hu q two r (inl c) = absurd (two c)
-          in-row v u hu q two r (inr (inl c)) = inl (omega (arith, ap (◌* w) r), omega arith)
-          in-row v u hu q two r (inr (inr c)) = inr (omega (arith, ap (◌* w) r), omega arith)
+          in_row_lem v u hu q two r (inl c) = absurd (two c)
+          in_row_lem v u hu q two r (inr (inl c)) = inl (omega (arith, ap (◌* w) r), omega arith)
+          in_row_lem v u hu q two r (inr (inr c)) = inr (omega (arith, ap (◌* w) r), omega arith)
 
   -- what is below or above the pixel in column u of row y, if that column differs by at most one
   eight-below : (u : ℕ) → u < w → close x u ≡ true → (j : ℕ) → j ≡ y * w + u + w → eight w i j ≡ true
@@ -160,7 +160,7 @@ module _ (w p : ℕ) (wide : 1 ≤ w) where
   pub around : (q : ℕ) → eight w p q ≡ true → NextTo w (p % w) p q ⊎ Across w (p % w) p q
   around q e =
       subst (λ (i : ℕ). NextTo w (p % w) i q ⊎ Across w (p % w) i q) split
-      (eight-cases w (p / w) (p % w) (mod-lt p wide) q (subst (λ (i : ℕ). eight w i q ≡ true) (sym split) e))
+      (eight_cases w (p / w) (p % w) (mod-lt p wide) q (subst (λ (i : ℕ). eight w i q ≡ true) (sym split) e))
 
   -- the column of the pixel itself, or of one next to it
   abbrev column : (s : ℕ) → (s ≡ p) ⊎ NextTo w (p % w) p s → ℕ

@@ -20,36 +20,36 @@ use Rattle.planes.proofs.Counts.{count_add, count_upto}
 -- ## Members of a queue
 
 module _ (queue : List ℕ) where
-  pub among-at : (m k : ℕ) → k < m → among queue m (at queue k) ≡ true
+  pub among_at : (m k : ℕ) → k < m → among queue m (at queue k) ≡ true
   unfolding among
-  among-at zero k h = absurd (omega arith)
-  among-at (suc m) k h = let l : k ≤ m = omega arith in elim (eq-or-lt_of_le l) [
+  among_at zero k h = absurd (omega arith)
+  among_at (suc m) k h = let l : k ≤ m = omega arith in elim (eq-or-lt_of_le l) [
     | inl q ↦ or_inr (among queue m (at queue k)) _ (eq-eqb _ _ (ap (at queue) q))
-    | inr q ↦ or_inl (among queue m (at queue k)) _ (among-at m k q)
+    | inr q ↦ or_inl (among queue m (at queue k)) _ (among_at m k q)
   ]
 
-  pub among-place : (m p : ℕ) → among queue m p ≡ true → Place queue m p
+  pub among_place : (m p : ℕ) → among queue m p ≡ true → Place queue m p
   unfolding among
-  among-place zero p e = absurd (false≢true e)
-  among-place (suc m) p e = elim (or_cases (among queue m p) (eqb p (at queue m)) e) [
+  among_place zero p e = absurd (false≢true e)
+  among_place (suc m) p e = elim (or_cases (among queue m p) (eqb p (at queue m)) e) [
     | inl d ↦
-        let r = among-place m p d in
+        let r = among_place m p d in
         record { index = r.index; below = omega (arith, r.below); holds = r.holds }
     | inr d ↦ record { index = m; below = omega arith; holds = sym (eqb-true p (at queue m) d) }
   ]
 
-  pub place-among : {m p : ℕ} → Place queue m p → among queue m p ≡ true
-  place-among {m} {p} r = subst (λ (x : ℕ). among queue m x ≡ true) r.holds (among-at m r.index r.below)
+  pub place_among : {m p : ℕ} → Place queue m p → among queue m p ≡ true
+  place_among {m} {p} r = subst (λ (x : ℕ). among queue m x ≡ true) r.holds (among_at m r.index r.below)
 
   -- ## Counts
 
   -- the first m entries are below n, and none of them is among those before it
   module _ (n m : ℕ) (below : (k : ℕ) → k < m → at queue k < n)
       (fresh : (k : ℕ) → k < m → among queue k (at queue k) ≡ false) where
-    pub count-among : m ≤ length queue → (f : ℕ → Bool)
+    pub count_among : m ≤ length queue → (f : ℕ → Bool)
         → count f (take m queue) ≡ count (λ z. among queue m z && f z) (from 0 n)
     unfolding among
-    count-among h f = go m (omega arith)
+    count_among h f = go m (omega arith)
       where
         go : (k : ℕ) → k ≤ m → count f (take k queue) ≡ count (λ z. among queue k z && f z) (from 0 n)
         go zero l = sym (count_none (from 0 n))
@@ -64,13 +64,13 @@ module _ (queue : List ℕ) where
             ∙ sym added
 
   -- the entries, one by one
-  pub count-indexes : (f : ℕ → Bool) (m : ℕ) → m ≤ length queue
+  pub count_indexes : (f : ℕ → Bool) (m : ℕ) → m ≤ length queue
       → count f (take m queue) ≡ count (λ i. f (at queue i)) (from 0 m)
-  count-indexes f zero h = refl
-  count-indexes f (suc m) h =
+  count_indexes f zero h = refl
+  count_indexes f (suc m) h =
       ap (count f) (take-suc queue m 0 h)
       ∙ count_snoc f (take m queue) (at queue m)
-      ∙ ap (cond (f (at queue m)) 1 0 +◌) (count-indexes f m (omega arith))
+      ∙ ap (cond (f (at queue m)) 1 0 +◌) (count_indexes f m (omega arith))
       ∙ sym (count_upto (λ i. f (at queue i)) m)
 
 -- ## An enumeration of a set
@@ -79,37 +79,37 @@ module _ {queue : List ℕ} {m n : ℕ} {S : ℕ → Bool} (E : Enumerates queue
   among-set : (p : ℕ) → p < n → among queue m p ≡ S p
   among-set p h = same_test (among queue m p) (S p)
       (λ e.
-      let r = among-place queue m p e in
+      let r = among_place queue m p e in
       subst (λ (x : ℕ). S x ≡ true) r.holds (E.inside r.index r.below))
-      (λ e. place-among queue (E.every p h e))
+      (λ e. place_among queue (E.every p h e))
 
   fresh : (k : ℕ) → k < m → among queue k (at queue k) ≡ false
   fresh k h = go (among queue k (at queue k)) refl
     where
       go : (t : Bool) → among queue k (at queue k) ≡ t → t ≡ false
       go true e =
-          let r = among-place queue k (at queue k) e in
+          let r = among_place queue k (at queue k) e in
           absurd (E.distinct r.index k r.below h r.holds)
       go false e = refl
 
   -- a test passes at as many entries as pixels of the set
-  pub entries-count : (f : ℕ → Bool) → count f (take m queue) ≡ count (λ p. S p && f p) (from 0 n)
-  entries-count f =
-      count-among queue n m E.below fresh E.fits f
+  pub entries_count : (f : ℕ → Bool) → count f (take m queue) ≡ count (λ p. S p && f p) (from 0 n)
+  entries_count f =
+      count_among queue n m E.below fresh E.fits f
       ∙ count_same _ _ n (λ x h. ap (◌&& f x) (among-set x h))
 
   -- the values of a plane at the entries are the values of the set's pixels, each as often
-  pub values-count : (plane : List ℕ) (f : ℕ → Bool)
+  pub values_count : (plane : List ℕ) (f : ℕ → Bool)
       → count f (map (at plane) (take m queue)) ≡ count f (map (at plane) (keep S (from 0 n)))
-  values-count plane f =
+  values_count plane f =
       count_map f (at plane) (take m queue)
-      ∙ entries-count (λ p. f (at plane p))
+      ∙ entries_count (λ p. f (at plane p))
       ∙ sym (count_keep (λ p. f (at plane p)) S (from 0 n))
       ∙ sym (count_map f (at plane) (keep S (from 0 n)))
 
-  pub entries-size : m ≡ count S (from 0 n)
-  entries-size =
+  pub entries_size : m ≡ count S (from 0 n)
+  entries_size =
       sym (length-take-le m queue E.fits)
       ∙ sym (count_all (take m queue))
-      ∙ entries-count (λ p. true)
+      ∙ entries_count (λ p. true)
       ∙ count_same _ _ n (λ x h. and-true (S x))

@@ -19,7 +19,7 @@ use Rattle.planes.specs.Neighbours.{Near, Chain, here, step, linked}
 use Rattle.planes.specs.Extrema.{flat, extreme, gtb, Contains}
 use Rattle.planes.proofs.Tests.{decide, eqb_sym, implies_out, implies_in}
 use Rattle.planes.proofs.Lists.{every_out, every_in}
-use Rattle.planes.proofs.Links.{chain_map, linked-iff, link-refl, link_near, link-trans}
+use Rattle.planes.proofs.Links.{chain_map, linked_iff, link_refl, link_near, link_trans}
 
 -- ## The order that makes a maximum or a minimum
 
@@ -128,9 +128,9 @@ module _ (le lower : ℕ → ℕ → Bool) (O : Order le lower) where
       | inr b ↦ inr (best-more n b (decide (P n)) (O.total (f n) (f b.pixel)))
     ]
 
-    pub greatest-at : (n i : ℕ) → i < n → P i ≡ true → Best f P n
+    pub greatest_at : (n i : ℕ) → i < n → P i ≡ true → Best f P n
     unfolding None
-    greatest-at n i h e = elim (best n) [ inl none ↦ absurd (none i h e) | inr b ↦ b ]
+    greatest_at n i h e = elim (best n) [ inl none ↦ absurd (none i h e) | inr b ↦ b ]
 
 -- ## Flat zones
 
@@ -144,7 +144,7 @@ module _ (near : Near) (n : ℕ) where
 -- the pixels of one zone have one value
 pub zone_value : (near : Near) (n : ℕ) (r : List ℕ) (u v : ℕ) → u < n → v < n
     → linked (flat near r) n u v ≡ true → at r u ≡ at r v
-zone_value near n r u v hu hv e = flat-value near n r ((linked-iff (flat near r) n u v hu hv).0 e)
+zone_value near n r u v hu hv e = flat-value near n r ((linked_iff (flat near r) n u v hu hv).0 e)
 
 pub flat_sym : (near : Near) → ((i j : ℕ) → near i j ≡ near j i) → (p : List ℕ) (i j : ℕ)
     → flat near p i j ≡ flat near p j i
@@ -162,13 +162,13 @@ module _ (le lower : ℕ → ℕ → Bool) (O : Order le lower) (near : Near) (p
   abbrev Zone : ℕ → Bool
   Zone = linked (flat near p) (length p) i
 
-  -- no pixel next to the zone is above it; `extreme-out` and `extreme-in`: this is so exactly where the zone is extreme
+  -- no pixel next to the zone is above it; `extreme_out` and `extreme_in`: this is so exactly where the zone is extreme
   abbrev Bounded : Type 0
   Bounded = (j k : ℕ) → j < length p → k < length p → Zone j ≡ true → near j k ≡ true → le (at p k) (at p i) ≡ true
 
-  pub extreme-out : extreme lower near p i ≡ true → Bounded
+  pub extreme_out : extreme lower near p i ≡ true → Bounded
   unfolding extreme
-  extreme-out e j k hj hk d f = elim (decide (Zone k)) [
+  extreme_out e j k hj hk d f = elim (decide (Zone k)) [
     | inl z ↦ subst (λ (v : ℕ). le v (at p i) ≡ true) (zone_value near (length p) p i k hi hk z) (O.refl' (at p i))
     | inr z ↦
         let all = every_out _ (length p) (every_out _ (length p) e j hj) k hk in
@@ -185,12 +185,12 @@ module _ (le lower : ℕ → ℕ → Bool) (O : Order le lower) (near : Near) (p
       let outside : Zone k ≡ false = not-true (Zone k) (and_elim_right (Zone j && near j k) (not (Zone k)) e) in
       let joined : at p k ≡ at p i → Zone k ≡ true = λ q.
       let same : at p j ≡ at p k = sym (zone_value near (length p) p i j hi hj d) ∙ sym q in
-      link-trans (flat near p) (length p) i j k hj d (link_near (flat near p) (length p) (flat_in near p j k same f)) in
+      link_trans (flat near p) (length p) i j k hj d (link_near (flat near p) (length p) (flat_in near p j k same f)) in
       O.tight (at p k) (at p i) (h j k hj hk d f) (λ q. true≢false (sym (joined q) ∙ outside))
 
-  pub extreme-in : Bounded → extreme lower near p i ≡ true
+  pub extreme_in : Bounded → extreme lower near p i ≡ true
   unfolding extreme
-  extreme-in h =
+  extreme_in h =
       every_in _ (length p) (λ j hj.
       every_in _ (length p) (λ k hk.
       implies_in _ (lower (at p k) (at p i)) (outside-lower h j k hj hk)))
@@ -210,11 +210,11 @@ module _ (le lower : ℕ → ℕ → Bool) (O : Order le lower) (near : Near) (s
       let down : le (at q v) (at q u) ≡ true = keeps v u hv hu (symm v u ∙ r) (level _ _ (sym s)) in
       and_intro (eq-eqb (at q u) (at q v) (O.anti _ _ up down)) r
 
-  pub zone-stay : (u v : ℕ) → u < length p → v < length p → linked (flat near p) (length p) u v ≡ true
+  pub zone_stay : (u v : ℕ) → u < length p → v < length p → linked (flat near p) (length p) u v ≡ true
       → linked (flat near q) (length p) u v ≡ true
-  zone-stay u v hu hv e =
-      let c = (linked-iff (flat near p) (length p) u v hu hv).0 e in
-      (linked-iff (flat near q) (length p) u v hu hv).1
+  zone_stay u v hu hv e =
+      let c = (linked_iff (flat near p) (length p) u v hu hv).0 e in
+      (linked_iff (flat near q) (length p) u v hu hv).1
       (chain_map (length p) (flat near p) (flat near q) flat-stay hu c).1
 
   -- a regional extremum of q contains one of p: the zone of p that has the greatest value in it
@@ -222,7 +222,7 @@ module _ (le lower : ℕ → ℕ → Bool) (O : Order le lower) (near : Near) (s
   contained i hi e = record {
     pixel = j;
     within = hj;
-    extremal = extreme-in le lower O near p j hj extremal;
+    extremal = extreme_in le lower O near p j hj extremal;
     held = held;
   }
     where
@@ -230,7 +230,7 @@ module _ (le lower : ℕ → ℕ → Bool) (O : Order le lower) (near : Near) (s
       Z = linked (flat near q) (length p) i
 
       b : Best le lower O (at p) Z (length p)
-      b = greatest-at le lower O (at p) Z (length p) i hi (link-refl (flat near q) (length p) i)
+      b = greatest_at le lower O (at p) Z (length p) i hi (link_refl (flat near q) (length p) i)
 
       j : ℕ
       j = b.pixel
@@ -239,7 +239,7 @@ module _ (le lower : ℕ → ℕ → Bool) (O : Order le lower) (near : Near) (s
       hj = b.within
 
       held : (x : ℕ) → x < length p → linked (flat near p) (length p) j x ≡ true → Z x ≡ true
-      held x hx d = link-trans (flat near q) (length p) i j x hj b.passes (zone-stay j x hj hx d)
+      held x hx d = link_trans (flat near q) (length p) i j x hj b.passes (zone_stay j x hj hx d)
 
       extremal : (x k : ℕ) → x < length p → k < length p → linked (flat near p) (length p) j x ≡ true
           → near x k ≡ true → le (at p k) (at p j) ≡ true
@@ -258,8 +258,8 @@ module _ (le lower : ℕ → ℕ → Bool) (O : Order le lower) (near : Near) (s
               subst (λ (v : ℕ). le v (at p k) ≡ true) (zone_value near (length p) p j x hj hx d) l in
               let up : le (at q x) (at q k) ≡ true = keeps x k hx hk f l' in
               let top : le (at q k) (at q i) ≡ true =
-              extreme-out le lower O near q i (rw same hi) e x k (rw same hx) (rw same hk) (rw same zx) f in
+              extreme_out le lower O near q i (rw same hi) e x k (rw same hx) (rw same hk) (rw same zx) f in
               let down : le (at q k) (at q x) ≡ true =
               subst (λ (v : ℕ). le (at q k) v ≡ true) (zone_value near (length p) q i x hi hx zx) top in
               let flat-xk = flat_in near q x k (O.anti _ _ up down) f in
-              link-trans (flat near q) (length p) i x k hx zx (link_near (flat near q) (length p) flat-xk)
+              link_trans (flat near q) (length p) i x k hx zx (link_near (flat near q) (length p) flat-xk)

@@ -18,9 +18,9 @@ use Rattle.planes.specs.Extrema.{flat, extreme, extremes, gtb, maxima, minima}
 use Rattle.planes.proofs.Tests.{decide}
 use Rattle.planes.proofs.Lists.{every_out, every_in}
 use Rattle.planes.proofs.Counts.{count_cons, unit_mono, count_mono}
-use Rattle.planes.proofs.Links.{link-trans, link-sym, link-refl}
-use Rattle.planes.proofs.Extrema.{geb, Order, leb_order, geb_order, Best, greatest-at, Steady}
-use Rattle.planes.proofs.Extrema.{extreme-out, extreme-in, contained, zone_value, flat_sym}
+use Rattle.planes.proofs.Links.{link_trans, link_sym, link_refl}
+use Rattle.planes.proofs.Extrema.{geb, Order, leb_order, geb_order, Best, greatest_at, Steady}
+use Rattle.planes.proofs.Extrema.{extreme_out, extreme_in, contained, zone_value, flat_sym}
 
 -- ## Counting by a relation
 
@@ -89,21 +89,21 @@ module _ (near : Near) (symm : (i j : ℕ) → near i j ≡ near j i) (n : ℕ) 
       | inl q ↦ q
       | inr h ↦ absurd (true≢false (sym d ∙ first_out n near j f i h))
     ]
-    | inr l ↦ absurd (true≢false (sym d ∙ link-sym near symm n i j ∙ first_out n near i e j (leb-false i j l)))
+    | inr l ↦ absurd (true≢false (sym d ∙ link_sym near symm n i j ∙ first_out n near i e j (leb-false i j l)))
   ]
 
   -- the first pixel of a component
   pub first_of : (j : ℕ) → j < n → (i : ℕ) × (i < n) × (linked near n i j ≡ true) × (first n near i ≡ true)
   unfolding first
   first_of j h =
-      let b = greatest-at geb gtb geb_order (λ x. x) (λ x. linked near n x j) n j h (link-refl near n j) in
+      let b = greatest_at geb gtb geb_order (λ x. x) (λ x. linked near n x j) n j h (link_refl near n j) in
       (b.pixel, b.within, b.passes, every_in _ b.pixel (λ x l. ap not (low b x l)))
     where
       low : (b : Best geb gtb geb_order (λ x. x) (λ x. linked near n x j) n) (x : ℕ) → x < b.pixel
           → linked near n x b.pixel ≡ false
       low b x l = elim (decide (linked near n x b.pixel)) [
         | inl d ↦
-            let through = link-trans near n x b.pixel j b.within d b.passes in
+            let through = link_trans near n x b.pixel j b.within d b.passes in
             let least = b.tops x (omega (arith, b.within)) through in
             absurd (omega (arith, leb-true b.pixel x least))
         | inr d ↦ d
@@ -116,11 +116,11 @@ module _ (le lower : ℕ → ℕ → Bool) (O : Order le lower) (near : Near) (s
   -- all pixels of a zone are extreme where one is
   move : (j y : ℕ) → j < length p → y < length p → linked (flat near p) (length p) y j ≡ true
       → extreme lower near p j ≡ true → extreme lower near p y ≡ true
-  move j y hj hy d e = extreme-in le lower O near p y hy (λ a k ha hk c f.
+  move j y hj hy d e = extreme_in le lower O near p y hy (λ a k ha hk c f.
       let back : linked (flat near p) (length p) j y ≡ true =
-      link-sym (flat near p) (flat_sym near symm p) (length p) j y ∙ d in
-      let joined = link-trans (flat near p) (length p) j y a hy back c in
-      let bounded = extreme-out le lower O near p j hj e a k ha hk joined f in
+      link_sym (flat near p) (flat_sym near symm p) (length p) j y ∙ d in
+      let joined = link_trans (flat near p) (length p) j y a hy back c in
+      let bounded = extreme_out le lower O near p j hj e a k ha hk joined f in
       subst (λ (v : ℕ). le (at p k) v ≡ true) (sym (zone_value near (length p) p y j hy hj d)) bounded)
 
   -- x is the first pixel of a zone of q in which y lies
@@ -131,9 +131,9 @@ module _ (le lower : ℕ → ℕ → Bool) (O : Order le lower) (near : Near) (s
 
   single : (x x' y : ℕ) → R x y → R x' y → x ≡ x'
   single x x' y r s =
-      let back = link-sym (flat near q) (flat_sym near symm q) (length p) y x' ∙ s.3 in
+      let back = link_sym (flat near q) (flat_sym near symm q) (length p) y x' ∙ s.3 in
       first_one (flat near q) (flat_sym near symm q) (length p) x x' r.2 s.2
-      (link-trans (flat near q) (length p) x y x' r.1 r.3 back)
+      (link_trans (flat near q) (length p) x y x' r.1 r.3 back)
 
   pub no_more : extremes lower near q ≤ extremes lower near p
   unfolding extremes
@@ -147,7 +147,7 @@ module _ (le lower : ℕ → ℕ → Bool) (O : Order le lower) (near : Near) (s
           let fx : first (length p) (flat near q) x ≡ true = and_elim_right (extreme lower near q x) _ e in
           let i = contained le lower O near symm p q same keeps x hx ex in
           let y = first_of (flat near p) (flat_sym near symm p) (length p) i.pixel i.within in
-          let back = link-sym (flat near p) (flat_sym near symm p) (length p) i.pixel y.0 ∙ y.2 in (
+          let back = link_sym (flat near p) (flat_sym near symm p) (length p) i.pixel y.0 ∙ y.2 in (
             y.0,
             y.1,
             and_intro (move i.pixel y.0 i.within y.1 y.2 i.extremal) y.3,
@@ -156,12 +156,12 @@ module _ (le lower : ℕ → ℕ → Bool) (O : Order le lower) (near : Near) (s
 
 module _ (near : Near) (symm : (i j : ℕ) → near i j ≡ near j i) (p q : List ℕ) (same : length q ≡ length p)
     (k : Keeps near (length p) p q) where
-  pub no-more-maxima : maxima near q ≤ maxima near p
-  no-more-maxima =
+  pub no_more_maxima : maxima near q ≤ maxima near p
+  no_more_maxima =
       no_more leb ltb leb_order near symm p q same
       (λ i j hi hj e l. le-leb _ _ (k.ordered i j hi hj e (leb-true (at p i) (at p j) l)))
 
-  pub no-more-minima : minima near q ≤ minima near p
-  no-more-minima =
+  pub no_more_minima : minima near q ≤ minima near p
+  no_more_minima =
       no_more geb gtb geb_order near symm p q same
       (λ i j hi hj e l. le-leb _ _ (k.ordered j i hj hi (symm j i ∙ e) (leb-true (at p j) (at p i) l)))

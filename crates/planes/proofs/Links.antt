@@ -28,10 +28,10 @@ module _ (near : Near) where
   link_near zero {i} {j} e = or_inr (eqb i j) (near i j) e
   link_near (suc k) {i} {j} e = or_inl (linked near k i j) _ (link_near k e)
 
-  pub link-refl : (k i : ℕ) → linked near k i i ≡ true
+  pub link_refl : (k i : ℕ) → linked near k i i ≡ true
   unfolding linked
-  link-refl zero i = or_inl (eqb i i) (near i i) (eq-eqb i i refl)
-  link-refl (suc k) i = or_inl (linked near k i i) _ (link-refl k i)
+  link_refl zero i = or_inl (eqb i i) (near i i) (eq-eqb i i refl)
+  link_refl (suc k) i = or_inl (linked near k i i) _ (link_refl k i)
 
   -- the two ways of `linked near (suc k) i j`, and back
   abbrev Ways : ℕ → ℕ → ℕ → Type 0
@@ -102,21 +102,21 @@ module _ (near : Near) where
     ]
 
     complete : {i j : ℕ} → i < n → Chain near n i j → linked near n i j ≡ true
-    complete {i} h here = link-refl n i
+    complete {i} h here = link_refl n i
     complete {i} {j} h (step {j = l} c e k) = link-join n i l j (chain-end h c) (complete h c) (link_near n e)
 
     -- the computed component is the set of pixels that a chain leads to
-    pub linked-iff : (i j : ℕ) → i < n → j < n → (linked near n i j ≡ true) ↔ Chain near n i j
-    linked-iff i j hi hj = (sound n i j (le_refl n) hi hj, complete hi)
+    pub linked_iff : (i j : ℕ) → i < n → j < n → (linked near n i j ≡ true) ↔ Chain near n i j
+    linked_iff i j hi hj = (sound n i j (le_refl n) hi hj, complete hi)
 
-    pub link-trans : (i l j : ℕ) → l < n → linked near n i l ≡ true → linked near n l j ≡ true
+    pub link_trans : (i l j : ℕ) → l < n → linked near n i l ≡ true → linked near n l j ≡ true
         → linked near n i j ≡ true
-    link-trans = link-join n
+    link_trans = link-join n
 
   module _ (symm : (i j : ℕ) → near i j ≡ near j i) where
-    pub link-sym : (k i j : ℕ) → linked near k i j ≡ linked near k j i
+    pub link_sym : (k i j : ℕ) → linked near k i j ≡ linked near k j i
     unfolding linked
-    link-sym zero i j = ap₂ ◌||◌ (eqb_sym i j) (symm i j)
-    link-sym (suc k) i j =
-        ap₂ ◌||◌ (link-sym k i j)
-        (and_comm (linked near k i k) (linked near k k j) ∙ ap₂ ◌&&◌ (link-sym k k j) (link-sym k i k))
+    link_sym zero i j = ap₂ ◌||◌ (eqb_sym i j) (symm i j)
+    link_sym (suc k) i j =
+        ap₂ ◌||◌ (link_sym k i j)
+        (and_comm (linked near k i k) (linked near k k j) ∙ ap₂ ◌&&◌ (link_sym k k j) (link_sym k i k))

@@ -93,10 +93,10 @@ module _ (f : ℕ → Bool) where
   every_append (x ∷ s) t d e =
       and_intro (and_elim_left (f x) (every f s) d) (every_append s t (and_elim_right (f x) (every f s) d) e)
 
-  pub every-parts : (s t : List ℕ) → every f (s ++ t) ≡ true → (every f s ≡ true) × (every f t ≡ true)
-  every-parts [] t e = (refl, e)
-  every-parts (x ∷ s) t e =
-      let both = every-parts s t (and_elim_right (f x) (every f (s ++ t)) e) in
+  pub every_parts : (s t : List ℕ) → every f (s ++ t) ≡ true → (every f s ≡ true) × (every f t ≡ true)
+  every_parts [] t e = (refl, e)
+  every_parts (x ∷ s) t e =
+      let both = every_parts s t (and_elim_right (f x) (every f (s ++ t)) e) in
       (and_intro (and_elim_left (f x) (every f (s ++ t)) e) both.0, both.1)
 
 pub every_count : (f : ℕ → Bool) (xs : List ℕ) → count f xs ≡ length xs → every f xs ≡ true

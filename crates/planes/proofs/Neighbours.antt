@@ -13,7 +13,7 @@ use lib.Dec.{eqb}
 use borrow.Author.Tests.{eqb-true, eq-eqb}
 use Rattle.planes.specs.Neighbours.{Near, apart, beside, four, Chain, here, step, linked}
 use Rattle.planes.proofs.Tests.{or_cases, eqb_sym, same_test}
-use Rattle.planes.proofs.Links.{linked-iff}
+use Rattle.planes.proofs.Links.{linked_iff}
 
 -- ## A filled set
 
@@ -23,8 +23,8 @@ pub filled : (near : Near) (n i : ℕ) (marked : ℕ → Bool) → i < n → mar
     → ((u : ℕ) → u < n → marked u ≡ true → Chain near n i u)
     → (x : ℕ) → x < n → marked x ≡ linked near n i x
 filled near n i marked hi e closed reached x hx = same_test (marked x) (linked near n i x)
-    (λ d. (linked-iff near n i x hi hx).1 (reached x hx d))
-    (λ d. (go ((linked-iff near n i x hi hx).0 d)).1)
+    (λ d. (linked_iff near n i x hi hx).1 (reached x hx d))
+    (λ d. (go ((linked_iff near n i x hi hx).0 d)).1)
   where
     go : {y : ℕ} → Chain near n i y → (y < n) × (marked y ≡ true)
     go here = (hi, e)
@@ -64,8 +64,8 @@ module _ (w y x : ℕ) (hx : x < w) where
   abbrev i : ℕ
   i = y * w + x
 
-  pub near-cases : (j : ℕ) → four w i j ≡ true → Sides w x i j
-  near-cases j e =
+  pub near_cases : (j : ℕ) → four w i j ≡ true → Sides w x i j
+  near_cases j e =
       let split = div-add-mod' j w in
       go (j / w) (j % w) (mod-lt j (omega arith)) split (subst (λ (k : ℕ). four w i k ≡ true) (sym split) e)
     where
@@ -77,8 +77,8 @@ module _ (w y x : ℕ) (hx : x < w) where
         | inr (inr r, c) ↦ inr (inr (omega (arith, ap (◌* w) r)))
       ]
 
-  pub near-right : x + 1 < w → four w i (i + 1) ≡ true
-  near-right h =
+  pub near_right : x + 1 < w → four w i (i + 1) ≡ true
+  near_right h =
       let q : i + 1 ≡ y * w + (x + 1) = omega arith in
       rw (q, four_at w y x y (x + 1) hx h)
       (or_inl (eqb y y && apart x (x + 1)) _ (and_intro (eq-eqb y y refl) (apart_next x)))
@@ -106,20 +106,20 @@ module _ (w p : ℕ) (wide : 1 ≤ w) where
   abbrev split : p / w * w + p % w ≡ p
   split = div-add-mod' p w
 
-  pub down-of : four w p (p + w) ≡ true
-  down-of = subst (λ (i : ℕ). four w i (i + w) ≡ true) split (near_down w (p / w) (p % w) (mod-lt p wide))
+  pub down_of : four w p (p + w) ≡ true
+  down_of = subst (λ (i : ℕ). four w i (i + w) ≡ true) split (near_down w (p / w) (p % w) (mod-lt p wide))
 
   pub right_of : p % w + 1 < w → four w p (p + 1) ≡ true
-  right_of h = subst (λ (i : ℕ). four w i (i + 1) ≡ true) split (near-right w (p / w) (p % w) (mod-lt p wide) h)
+  right_of h = subst (λ (i : ℕ). four w i (i + 1) ≡ true) split (near_right w (p / w) (p % w) (mod-lt p wide) h)
 
   -- every neighbour is one of the four
   pub sides : (q : ℕ) → four w p q ≡ true → Sides w (p % w) p q
   sides q e =
       subst (λ (i : ℕ). Sides w (p % w) i q) split
-      (near-cases w (p / w) (p % w) (mod-lt p wide) q (subst (λ (i : ℕ). four w i q ≡ true) (sym split) e))
+      (near_cases w (p / w) (p % w) (mod-lt p wide) q (subst (λ (i : ℕ). four w i q ≡ true) (sym split) e))
 
 pub up_of : (w p q : ℕ) → 1 ≤ w → q + w ≡ p → four w p q ≡ true
-up_of w p q h e = four_sym w p q ∙ subst (λ (i : ℕ). four w q i ≡ true) e (down-of w q h)
+up_of w p q h e = four_sym w p q ∙ subst (λ (i : ℕ). four w q i ≡ true) e (down_of w q h)
 
 -- ## A whole plane
 
@@ -133,15 +133,15 @@ module _ (w n : ℕ) (wide : 1 ≤ w) where
 
   down : (y : ℕ) → y * w < n → Leads (y * w)
   down zero h = subst Leads (sym (zero-mul w)) here
-  down (suc y) h = onward (down y (omega arith)) (down-of w (y * w) wide) (omega arith) h
+  down (suc y) h = onward (down y (omega arith)) (down_of w (y * w) wide) (omega arith) h
 
   along-row : (y x : ℕ) → x < w → y * w + x < n → Leads (y * w + x)
   along-row y zero l h = rw add-zero (down y (omega arith))
   along-row y (suc x) l h =
-      onward (along-row y x (omega arith) (omega arith)) (near-right w y x (omega arith) (omega arith))
+      onward (along-row y x (omega arith) (omega arith)) (near_right w y x (omega arith) (omega arith))
       (omega arith) h
 
-  pub plane-chain : (p : ℕ) → p < n → Leads p
-  plane-chain p h =
+  pub plane_chain : (p : ℕ) → p < n → Leads p
+  plane_chain p h =
       let place = div-add-mod' p w in
       subst Leads place (along-row (p / w) (p % w) (mod-lt p wide) (omega arith))

@@ -26,8 +26,8 @@ module _ (s d r x : ℕ) (some : 1 ≤ d) (inverse : r ≡ s / d + 1) (small : x
       let right : suc x * s ≤ suc q * d * s = mul-le-mul_right s past in
       lt_of_mul-lt-mul_right d (omega arith)
 
-  pub by-inverse : x * r / s ≡ q
-  by-inverse =
+  pub by_inverse : x * r / s ≡ q
+  by_inverse =
       let pos : 0 < s = omega arith in
       let most : x * r / s < suc q = (div-lt_iff_lt-mul {k = s} pos).1 no_more in
       le_antisymm (omega arith) ((le-div_iff_mul-le {k = s} pos).1 no_less)

@@ -14,7 +14,7 @@ use Rattle.planes.specs.declared.Shape.{Shape}
 use Rattle.planes.proofs.Refusals.{▷_none, ▷_both, sized, sized_none, length_fits, length_none}
 use Rattle.planes.proofs.Refusals.{room_fits, room_none}
 use Rattle.planes.proofs.Links.{chain_map}
-use Rattle.planes.proofs.Neighbours.{four_sym, plane-chain}
+use Rattle.planes.proofs.Neighbours.{four_sym, plane_chain}
 use Rattle.planes.proofs.Eight.{eight_sym, four_eight}
 
 -- ## Neighbours
@@ -26,7 +26,7 @@ neighbours_sym z = four_sym z.w
 -- among the first n pixels a chain of neighbours leads from the first one to any other
 pub shape_chain : (z : Shape) (n : ℕ) → 1 ≤ z.w → (p : ℕ) → p < n → Chain (neighbours z) n 0 p
 unfolding neighbours
-shape_chain z n = plane-chain z.w n
+shape_chain z n = plane_chain z.w n
 
 -- by a number of neighbours: what holds of the eight and of those of the shape
 by_number : (z : Shape) (number : ℕ) (P : Near → Type 0) → P (eight z.w) → P (neighbours z)

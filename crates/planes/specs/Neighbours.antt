@@ -4,7 +4,7 @@
 --   four w      neighbours in a plane of w columns: one coordinate differs by one, the other agrees
 --   eight w     neighbours in a plane of w columns: two pixels, no coordinate of which differs by more than one
 --   Chain       a chain of neighbours leads from one pixel to another
---   linked      the same as a test that computes: it passes exactly where there is a chain (`linked-iff`)
+--   linked      the same as a test that computes: it passes exactly where there is a chain (`linked_iff`)
 --   component   the pixels linked to one, in reading order
 --   first       a pixel is the first of its component in reading order
 use Rattle.std.specs.Prelude.{ℕ, zero, suc, ◌+◌, ◌/◌, ◌%◌, ◌<◌, ◌≡◌, Bool, true, not, ◌&&◌, ◌||◌, List, eqb}

@@ -1,13 +1,13 @@
 -- The points of a component by the sums of its counts: each may be reached from the one before, the last is at the
 -- greatest value, and they are the points of every list of values that has these measures and counts. Assumes nothing.
 --
---   reached-first, reached-next
+--   reached_first, reached_next
 --                  point 0, and the point after one that is reached
---   next-after     the next point is no nearer
---   next-is        the next point is what the search finds
---   reached-end    the last point is at the greatest value
+--   next_after     the next point is no nearer
+--   next_is        the next point is what the search finds
+--   reached_end    the last point is at the greatest value
 --   cumulative     sums of counts, by what they are of every list of values that has the counts
---   points-same    sums and values have the same points
+--   points_same    sums and values have the same points
 use Prim.Native.Nat.{ℕ, zero, suc, ◌+◌, ◌-◌, ◌*◌, ◌≤◌, ◌<◌, max}
 use mathlib.Core.Path.{◌≡◌, refl, sym, ap, ap₂, subst, ◌∙◌}
 use mathlib.Core.Logic.{⊎_elim}
@@ -27,12 +27,12 @@ use Rattle.histograms.specs.declared.Measures.{Measures}
 use Rattle.histograms.proofs.Sums.{sum_none, sum_to_mono, sum_to_next}
 use Rattle.histograms.proofs.Values.{inside_sum, greatest_in, count_greatest}
 use Rattle.histograms.proofs.Measured.{measured_inside}
-use Rattle.histograms.proofs.Histograms.{summed-counts}
+use Rattle.histograms.proofs.Histograms.{summed_counts}
 use Rattle.points.specs.declared.Slopes.{Slopes}
 use Rattle.points.specs.declared.Point.{Point}
 use Rattle.points.specs.Points.{place_of, point_at, next_point, start, points_after, points, up_to}
 use Rattle.points.specs.Points.{Cumulative, First, Reached}
-use Rattle.points.proofs.Search.{least_ge, least_first, least_is, least_below, least-passes, least_same}
+use Rattle.points.proofs.Search.{least_ge, least_first, least_is, least_below, least_passes, least_same}
 
 -- ## Reached points
 
@@ -47,8 +47,8 @@ module _ (s : Slopes) {sums : List ℕ} {c : Measures} {a b : ℕ} (k : Cumulati
   abbrev enough : ℕ → ℕ → Bool
   enough j v = leb (j * m) (n * at sums v)
 
-  pub reached-first : Reached s sums c a 0 (start a)
-  reached-first =
+  pub reached_first : Reached s sums c a 0 (start a)
+  reached_first =
       let r = k.range in
       record {
         from = le_refl a;
@@ -84,7 +84,7 @@ module _ (s : Slopes) {sums : List ℕ} {c : Measures} {a b : ℕ} (k : Cumulati
     -- and that place has enough
     many : (i + 1) * m ≤ n * at sums place
     many = leb-true ((i + 1) * m) (n * at sums place)
-        (least-passes (enough (i + 1)) a (b - a) c.greatest from-a to-b whole)
+        (least_passes (enough (i + 1)) a (b - a) c.greatest from-a to-b whole)
 
     module _ (p : Point) (r : Reached s sums c a i p) where
       -- the next point is no nearer
@@ -94,13 +94,13 @@ module _ (s : Slopes) {sums : List ℕ} {c : Measures} {a b : ℕ} (k : Cumulati
           (λ l. l)
           (less_or_not place p.place)
 
-      pub next-after : p.place ≤ (next_point s a b (at sums) m (i + 1) p).place
+      pub next_after : p.place ≤ (next_point s a b (at sums) m (i + 1) p).place
       unfolding next_point
-      next-after = next-from
+      next_after = next-from
 
-      pub reached-next : Reached s sums c a (i + 1) (next_point s a b (at sums) m (i + 1) p)
+      pub reached_next : Reached s sums c a (i + 1) (next_point s a b (at sums) m (i + 1) p)
       unfolding next_point
-      reached-next =
+      reached_next =
           let slope = s.smax * n in
           let d = place - p.place in
           let want = 100 * (b - a) * (i + 1) - p.height in
@@ -141,22 +141,22 @@ module _ (s : Slopes) {sums : List ℕ} {c : Measures} {a b : ℕ} (k : Cumulati
               (less_or_not v p.place)
 
       -- the next point, by what the search finds
-      pub next-is : {x : ℕ} → First sums n ((i + 1) * m) (max p.place c.least) c.greatest x
+      pub next_is : {x : ℕ} → First sums n ((i + 1) * m) (max p.place c.least) c.greatest x
           → next_point s a b (at sums) m (i + 1) p
           ≡ point_at s a b (i + 1) p x
       unfolding next_point
-      next-is found = ap (point_at s a b (i + 1) p) (place_found found)
+      next_is found = ap (point_at s a b (i + 1) p) (place_found found)
 
   -- no sum is above the number of pixels, which is not too large
-  pub sums-few : (v : ℕ) → v ≤ c.greatest → at sums v ≤ 1048576
-  sums-few v vg = ⊎_elim
+  pub sums_few : (v : ℕ) → v ≤ c.greatest → at sums v ≤ 1048576
+  sums_few v vg = ⊎_elim
       (λ (l : v < c.greatest). omega (arith, k.part v l, k.range.few))
       (λ l. let e : v ≡ c.greatest = le_antisymm vg l in omega (arith, ap (at sums) e, k.whole, k.range.few))
       (less_or_not v c.greatest)
 
   -- the last point is at the greatest value: before it there are too few pixels
-  pub reached-end : {p : Point} → 1 ≤ n → Reached s sums c a n p → p.place ≡ c.greatest
-  reached-end {p} some r = ⊎_elim
+  pub reached_end : {p : Point} → 1 ≤ n → Reached s sums c a n p → p.place ≡ c.greatest
+  reached_end {p} some r = ⊎_elim
       (λ (l : p.place < c.greatest). absurd (omega (
         arith,
         r.enough,
@@ -187,7 +187,7 @@ module _ {vs counts sums : List ℕ} {c : Measures} {a b : ℕ} (h : Histogram v
 
   all-summed : at sums c.greatest ≡ c.size
   all-summed =
-      summed-counts h summed c.greatest range.order (le_refl _)
+      summed_counts h summed c.greatest range.order (le_refl _)
       ∙ ap (λ v. count (λ x. leb x v) vs) h.measured.greatest_is
       ∙ count_greatest vs
       ∙ sym h.measured.size
@@ -228,7 +228,7 @@ module _ {vs counts sums : List ℕ} {c : Measures} {a b : ℕ} (h : Histogram v
   agree : (v : ℕ) → v ≤ c.greatest → up_to vs v ≡ at sums v
   agree v vg = ⊎_elim
       (λ (g : v < c.least). none-up v g ∙ sym (none_below v g))
-      (λ g. sym (summed-counts h summed v g vg))
+      (λ g. sym (summed_counts h summed v g vg))
       (less_or_not v c.least)
 
   module _ (s : Slopes) where
@@ -252,5 +252,5 @@ module _ {vs counts sums : List ℕ} {c : Measures} {a b : ℕ} (h : Histogram v
         ap₂ ◌∷◌ same (after_same k (i + 1) q (omega arith)
         ∙ ap (points_after s a b (up_to vs) (length vs) k (i + 1)) same)
 
-    pub points-same : points s a b (at sums) c.size ≡ points s a b (up_to vs) (length vs)
-    points-same = after_same s.segments 0 (start a) (omega arith)
+    pub points_same : points s a b (at sums) c.size ≡ points s a b (up_to vs) (length vs)
+    points_same = after_same s.segments 0 (start a) (omega arith)

@@ -26,19 +26,19 @@ top_high (more places heights rest) = le_trans heights (top_high rest)
 -- ## The points of a component rise
 
 module _ (s : Slopes) (a b : ℕ) (c : ℕ → ℕ) (m : ℕ) where
-  pub place-rises : (j : ℕ) → place_of s a b c m j ≤ place_of s a b c m (j + 1)
-  place-rises j =
+  pub place_rises : (j : ℕ) → place_of s a b c m j ≤ place_of s a b c m (j + 1)
+  place_rises j =
       let enough : ℕ → ℕ → Bool = λ i v. leb (i * m) (s.segments * c v) in
       least_mono (enough (j + 1)) (enough j) a (b - a)
       (λ u e. le-leb (j * m) (s.segments * c u) (omega (arith, leb-true ((j + 1) * m) (s.segments * c u) e)))
 
-  pub points-rise : (n i : ℕ) (p : Point) → p.place ≤ place_of s a b c m (i + 1)
+  pub points_rise : (n i : ℕ) (p : Point) → p.place ≤ place_of s a b c m (i + 1)
       → Rising p (points_after s a b c m n i p)
   unfolding points_after next_point
-  points-rise zero i p from = last
-  points-rise (suc n) i p from =
+  points_rise zero i p from = last
+  points_rise (suc n) i p from =
       let q = next_point s a b c m (i + 1) p in
-      more {p = p} {q = q} from (omega arith) (points-rise n (i + 1) q (place-rises (i + 1)))
+      more {p = p} {q = q} from (omega arith) (points_rise n (i + 1) q (place_rises (i + 1)))
 
-  pub all-rise : Rising (start a) (points s a b c m)
-  all-rise = points-rise s.segments 0 (start a) (least_ge _ a (b - a))
+  pub all_rise : Rising (start a) (points s a b c m)
+  all_rise = points_rise s.segments 0 (start a) (least_ge _ a (b - a))

@@ -5,7 +5,7 @@
 --   least_first          nothing before it passes
 --   least_stops          it passes, unless it is the last number
 --   least_is             what has these properties is the least
---   least-passes         it passes where some number does, and is no greater
+--   least_passes         it passes where some number does, and is no greater
 --   least_mono           a test that passes wherever another does has a least that is no greater
 --   least_same           tests that agree up to a number that passes have the same least
 use Prim.Native.Nat.{ℕ, zero, suc, ◌+◌, ◌≤◌, ◌<◌}
@@ -79,8 +79,8 @@ module _ (f : ℕ → Bool) (v n : ℕ) where
         (λ g. g)
         (less_or_not w (least_from f v n))
 
-    pub least-passes : f (least_from f v n) ≡ true
-    least-passes = ⊎_elim
+    pub least_passes : f (least_from f v n) ≡ true
+    least_passes = ⊎_elim
         (λ (g : least_from f v n < w). least_stops f v n (omega arith))
         (λ g. subst (λ (z : ℕ). f z ≡ true) (le_antisymm g least_below) passes)
         (less_or_not (least_from f v n) w)
@@ -104,4 +104,4 @@ least_same f g v n w from to passes same =
     let below : x ≤ w = least_below f v n w from to passes in
     least_is g v n x (least_ge f v n) (least_le f v n)
     (λ u vu ux. same u (omega arith) ∙ least_first f v n u vu ux)
-    (λ _. same x below ∙ least-passes f v n w from to passes)
+    (λ _. same x below ∙ least_passes f v n w from to passes)

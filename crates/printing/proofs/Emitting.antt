@@ -9,7 +9,7 @@ use lib.Seq.{take_at, drop_at}
 use Rattle.planes.specs.Replies.{gives}
 use Rattle.texts.specs.Placing.{Put}
 use Rattle.netpbm.specs.Writing.{encoding, WriteOutcome}
-use Rattle.texts.proofs.Writing.{wrote-size, wrote-bytes, wrote-beyond}
+use Rattle.texts.proofs.Writing.{wrote_size, wrote_bytes, wrote_beyond}
 use Rattle.printing.specs.Printing.{Emitted}
 
 -- bytes that were put from the beginning on
@@ -31,5 +31,5 @@ pub emitted_wrote : (raster : List ℕ) (w h : ℕ) {output output' : List ℕ} 
     → WriteOutcome raster w h output (gives (size ∷ [])) output'
     → Emitted (encoding raster w h) output size output'
 emitted_wrote raster w h {output' = output'} {size = size} wrote =
-    let counted = sym (length-take size output') ∙ ap length (wrote-bytes wrote) ∙ sym (wrote-size wrote) in
-    record { within = omega arith; written = wrote-bytes wrote; beyond = wrote-beyond wrote }
+    let counted = sym (length-take size output') ∙ ap length (wrote_bytes wrote) ∙ sym (wrote_size wrote) in
+    record { within = omega arith; written = wrote_bytes wrote; beyond = wrote_beyond wrote }

@@ -13,7 +13,7 @@ use Rattle.planes.proofs.Refusals.{▷_both, length_none, room_none, output_none
 use Rattle.planes.proofs.Shapes.{shape_none}
 use Rattle.planes.proofs.Replies.{refuses_not_gives, replied_none}
 use Rattle.colours.specs.Frames.{recolour}
-use Rattle.colours.proofs.Frames.{length-recolour}
+use Rattle.colours.proofs.Frames.{length_recolour}
 use Rattle.tones.specs.Refusals.{rule_refusal}
 use Rattle.model.specs.Calls.{area_refusal, neighbour_refusal}
 use Rattle.levels.specs.declared.Settings.{Settings}
@@ -100,27 +100,27 @@ module _ {input : List ℕ} {w h offset : ℕ} (f : IsFrame input greatest_frame
       let counted = ap length frame_is ∙ channels in
       let accepted = ap refusal setting-is ∙ enhance-accepts f.sized counted room in
       let new = recolour frame (chain_of (shape_of w h) t frame).plane in
-      let long = length-recolour frame (chain_of (shape_of w h) t frame).plane ∙ counted in
+      let long = length_recolour frame (chain_of (shape_of w h) t frame).plane ∙ counted in
       let left = outcome.output_is ∙ ap (λ (k : ℕ). after k colours (overwritten colours new)) accepted in
       ap (take (3 * (w * h))) left ∙ take_at new (drop (length new) colours) (3 * (w * h)) long
       ∙ ap (λ (s : Settings). recolour frame (chain_of (shape_of w h) s frame).plane) setting-is
       ∙ ap (λ (l : List ℕ). recolour l (chain_of (shape_of w h) house l).plane) frame_is
 
   -- which is what is written
-  pub emitted-enhanced : (new : List ℕ) {output output' : List ℕ} {answer : Written} {size : ℕ}
+  pub emitted_enhanced : (new : List ℕ) {output output' : List ℕ} {answer : Written} {size : ℕ}
       → WriteOutcome new w h output (written_reply answer) output' → answer ≡ Length size
       → new ≡ recolour raster (chain_of (shape_of w h) house raster).plane
       → Emitted (enhanced_frame raster w h) output size output'
   unfolding enhanced_frame
-  emitted-enhanced new {output} {output'} {size = size} wrote answer-is New-is =
+  emitted_enhanced new {output} {output'} {size = size} wrote answer-is New-is =
       let written = subst (λ (r : Written). WriteOutcome new w h output (written_reply r) output') answer-is wrote in
       subst (λ (l : List ℕ). Emitted (encoding l w h) output size output') New-is (emitted_wrote new w h written)
 
   -- and is not refused
-  pub never-refused : (new : List ℕ) {output output' : List ℕ} {answer : Written} {number : ℕ}
+  pub never_refused : (new : List ℕ) {output output' : List ℕ} {answer : Written} {number : ℕ}
       → WriteOutcome new w h output (written_reply answer) output' → answer ≡ Refused number → length new ≡ 3 * (w * h)
       → 65536 ≤ length output → ⊥
-  never-refused new {output} wrote answer-is counted room =
+  never_refused new {output} wrote answer-is counted room =
       let few = f.sized.few in
       let fits : 3 * (w * h) + 21 ≤ length output = omega arith in
       let accepted = write-accepts f.sized counted fits in

@@ -37,7 +37,7 @@ use Rattle.levels.specs.Levels.{Wide}
 use Rattle.levels.specs.declared.Settings.{Settings}
 use Rattle.branches.specs.Branches.{pass_on, Rest, gone_below, all_told, Halved}
 use Rattle.branches.proofs.Halves.{MarksAre}
-use Rattle.branches.proofs.Branches.{rest_of, rest_then, told, treated-came, run-one, run_more, came-then}
+use Rattle.branches.proofs.Branches.{rest_of, rest_then, told, treated_came, run_one, run_more, came_then}
 use Rattle.recursion.specs.Recursion.{levels_left, RecursionOutcome}
 
 -- a plane marked with 1 where level 0 is due, and 0 elsewhere
@@ -94,12 +94,12 @@ module _ (z : Shape) (t : Settings) {u : Next} {plane marks₀ marks queue plane
   marked : Rest (pixels z) marks₀ queue marks queue
   marked = record { marks_rest = M.rest; queue_rest = beyond_refl (pixels z) queue }
 
-  pub root-only : t.last ≡ 0 → RecursionOutcome z t plane marks₀ queue plane₁ marks₁ queue₁ left
+  pub root_only : t.last ≡ 0 → RecursionOutcome z t plane marks₀ queue plane₁ marks₁ queue₁ left
   unfolding recursive section
-  root-only e = record {
+  root_only e = record {
     model = effect_same refl refl (omega (arith, none-gone, no-levels (ltb (pixels z) t.area)))
-        ∙ treated-came (pass_neighbours z) T
-        ∙ sym (run-one (pass_neighbours z) _ plane)
+        ∙ treated_came (pass_neighbours z) T
+        ∙ sym (run_one (pass_neighbours z) _ plane)
         ∙ ap (λ (k : ℕ). run_effect (pass_neighbours z) (recursive k t.area t.rule t.neighbours) plane) (sym e);
     rest = rest_then marked (rest_of T);
   }
@@ -108,7 +108,7 @@ module _ (z : Shape) (t : Settings) {u : Next} {plane marks₀ marks queue plane
       no-levels true = refl
       no-levels false = ap (◌* r.left) e
 
-  pub root-halves : {code span : ℕ} {plane' marks' queue' : List ℕ} {r' : Counts} → 0 < t.last → t.last ≤ 7
+  pub root_halves : {code span : ℕ} {plane' marks' queue' : List ℕ} {r' : Counts} → 0 < t.last → t.last ≤ 7
       → length plane ≡ pixels z → 1 ≤ pixels z
       → ((p : ℕ) → p < pixels z
       → length (component_values (pass_neighbours z (whole_pass t)) (whole_pass t) plane p) ≡ pixels z)
@@ -117,7 +117,7 @@ module _ (z : Shape) (t : Settings) {u : Next} {plane marks₀ marks queue plane
       → Halved z 0 255 code span t plane₁ marks₁ queue₁ plane' marks' queue' r'
       → RecursionOutcome z t plane marks₀ queue plane' marks' queue' (sums left r')
   unfolding recursive section
-  root-halves {code} {span} {plane' = plane'} {r' = r'} some l whole pixel sizes below H = record {
+  root_halves {code} {span} {plane' = plane'} {r' = r'} some l whole pixel sizes below H = record {
     model = go t.last refl;
     rest = rest_then marked (rest_then (rest_of T) H.rest);
   }
@@ -148,7 +148,7 @@ module _ (z : Shape) (t : Settings) {u : Next} {plane marks₀ marks queue plane
           ap₂ ◌*◌ (e ∙ sym (add-one m)) (sym gones-are) in
           let lefts = each (ltb (pixels z) t.area) t.last ∙ levels in
           effect_same refl refl (omega (arith, none-gone, lefts))
-          ∙ came-then (pass_neighbours z) _ (told r) r' _ ((m + 1) * gones)
-          (treated-came (pass_neighbours z) T) (H.model m (7 - m) W)
+          ∙ came_then (pass_neighbours z) _ (told r) r' _ ((m + 1) * gones)
+          (treated_came (pass_neighbours z) T) (H.model m (7 - m) W)
           ∙ sym (run_more (pass_neighbours z) _ _ plane)
           ∙ ap (λ (k : ℕ). run_effect (pass_neighbours z) (recursive k t.area t.rule t.neighbours) plane) (sym e)

@@ -17,7 +17,7 @@ use Rattle.planes.specs.Neighbours.{Near, linked, component, first}
 use Rattle.planes.proofs.Tests.{decide, same_test, or_cases, or_none}
 use Rattle.planes.proofs.Counts.{keep_same, count_mono_from}
 use Rattle.planes.proofs.Lists.{every_same, map_same}
-use Rattle.planes.proofs.Links.{link-refl, link_near, link-trans, link-sym, chain_map, linked-iff}
+use Rattle.planes.proofs.Links.{link_refl, link_near, link_trans, link_sym, chain_map, linked_iff}
 use Rattle.tones.specs.declared.Rule.{Rule}
 use Rattle.histograms.specs.Histograms.{Alike}
 use Rattle.tones.specs.Tones.{kept}
@@ -25,10 +25,10 @@ use Rattle.tones.specs.Lone.{lone}
 use Rattle.tones.proofs.Lone.{lone_kept, lone_alike, lone_part, lone_one}
 use Rattle.model.specs.declared.Pass.{Pass}
 use Rattle.model.specs.Passes.{within, inside, component_values, sufficient, changes, kept_back, passed}
-use Rattle.model.proofs.Components.{values_length, every_value, value-every, inside-sym, out-tone, linked-values}
-use Rattle.model.proofs.Components.{still-tone}
-use Rattle.model.proofs.Sets.{linked-in}
-use Rattle.model.proofs.Order.{in-of, in-to, length-passed, passed-at}
+use Rattle.model.proofs.Components.{values_length, every_value, value_every, inside_sym, out_tone, linked_values}
+use Rattle.model.proofs.Components.{still_tone}
+use Rattle.model.proofs.Sets.{linked_in}
+use Rattle.model.proofs.Order.{in-of, in-to, length_passed, passed_at}
 use Rattle.retoning.specs.Retoning.{small, inert, leaves}
 
 -- ## An inert component is not changed
@@ -100,40 +100,40 @@ module _ (near : Near) (symm : Symmetric near) (s t : Pass) (P : Part s t) (p : 
   abbrev q : List ℕ
   q = passed near s p
 
-  pub was-within : (i : ℕ) → i < n → within s (at q i) ≡ true → within s (at p i) ≡ true
-  was-within i h e = go (within s (at p i)) refl
+  pub was_within : (i : ℕ) → i < n → within s (at q i) ≡ true → within s (at p i) ≡ true
+  was_within i h e = go (within s (at p i)) refl
     where
       go : (b : Bool) → within s (at p i) ≡ b → within s (at p i) ≡ true
       go true d = d
-      go false d = ap (within s) (sym (passed-at near s p i h ∙ out-tone near s p i d)) ∙ e
+      go false d = ap (within s) (sym (passed_at near s p i h ∙ out_tone near s p i d)) ∙ e
 
-  pub inside-part : (u v : ℕ) → u < n → v < n → inside near t q u v ≡ true → inside near s p u v ≡ true
+  pub inside_part : (u v : ℕ) → u < n → v < n → inside near t q u v ≡ true → inside near s p u v ≡ true
   unfolding inside
-  inside-part u v hu hv e =
+  inside_part u v hu hv e =
       let both = and_elim_left (within t (at q u) && within t (at q v)) (near u v) e in
       let wu = part_within P (at q u) (and_elim_left (within t (at q u)) (within t (at q v)) both) in
       let wv = part_within P (at q v) (and_elim_right (within t (at q u)) (within t (at q v)) both) in
       let e' = and_elim_right (within t (at q u) && within t (at q v)) (near u v) e in
-      and_intro (and_intro (was-within u hu wu) (was-within v hv wv)) e'
+      and_intro (and_intro (was_within u hu wu) (was_within v hv wv)) e'
 
   -- a component of the part lies in one of the section
-  pub linked-part : (i x : ℕ) → i < n → x < n → linked (inside near t q) n i x ≡ true
+  pub linked_part : (i x : ℕ) → i < n → x < n → linked (inside near t q) n i x ≡ true
       → linked (inside near s p) n i x ≡ true
-  linked-part i x hi hx e =
-      let c = (linked-iff (inside near t q) n i x hi hx).0 e in
-      (linked-iff (inside near s p) n i x hi hx).1 (chain_map n (inside near t q) (inside near s p) inside-part hi c).1
+  linked_part i x hi hx e =
+      let c = (linked_iff (inside near t q) n i x hi hx).0 e in
+      (linked_iff (inside near s p) n i x hi hx).1 (chain_map n (inside near t q) (inside near s p) inside_part hi c).1
 
   same_size : length q ≡ n
-  same_size = length-passed near s p
+  same_size = length_passed near s p
 
-  pub no-larger : (i : ℕ) → i < n → length (component_values near t q i) ≤ length (component_values near s p i)
-  no-larger i hi =
+  pub no_larger : (i : ℕ) → i < n → length (component_values near t q i) ≤ length (component_values near s p i)
+  no_larger i hi =
       let larger = values_length near s p i in
       let smaller =
       values_length near t q i
       ∙ ap (λ (k : ℕ). count (linked (inside near t q) k i) (from 0 k)) same_size in
       let fewer = count_mono_from (linked (inside near t q) n i) (linked (inside near s p) n i) 0 n
-      (λ x _ h d. linked-part i x hi (omega arith) d) in
+      (λ x _ h d. linked_part i x hi (omega arith) d) in
       omega arith
 
   -- a component of the part has no other values
@@ -142,20 +142,20 @@ module _ (near : Near) (symm : Symmetric near) (s t : Pass) (P : Part s t) (p : 
   one-part i hi e v one = every_value near t q i (eqb v) (λ x hx d.
       let hx' : x < n = omega (arith, same_size) in
       let d' = subst (λ (k : ℕ). linked (inside near t q) k i x ≡ true) same_size d in
-      let l = linked-part i x hi hx' d' in
+      let l = linked_part i x hi hx' d' in
       let still : changes s (component_values near s p x) ≡ false =
-      ap (changes s) (sym (linked-values near symm s p i x hi hx' l)) ∙ inert_still s (component_values near s p i) e in
-      let old : at q x ≡ at p x = passed-at near s p x hx' ∙ still-tone near s p x still in
-      ap (eqb v) old ∙ value-every near s p i (eqb v) one x hx' l)
+      ap (changes s) (sym (linked_values near symm s p i x hi hx' l)) ∙ inert_still s (component_values near s p i) e in
+      let old : at q x ≡ at p x = passed_at near s p x hx' ∙ still_tone near s p x still in
+      ap (eqb v) old ∙ value_every near s p i (eqb v) one x hx' l)
 
   -- an inert component of the section: the components of the part in it are inert
-  pub inert-part : (i : ℕ) → i < n → inert s (component_values near s p i) ≡ true
+  pub inert_part : (i : ℕ) → i < n → inert s (component_values near s p i) ≡ true
       → inert t (component_values near t q i) ≡ true
   unfolding inert small
-  inert-part i hi e = elim (or_cases (ltb (length vs) s.area) (lone s.rule vs) e) [
+  inert_part i hi e = elim (or_cases (ltb (length vs) s.area) (lone s.rule vs) e) [
     | inl d ↦
         let few = ltb-true (length vs) s.area d in
-        let small : length ws < t.area = omega (arith, no-larger i hi, P.area) in
+        let small : length ws < t.area = omega (arith, no_larger i hi, P.area) in
         or_inl _ _ (lt-ltb (length ws) t.area small)
     | inr d ↦
         let one = lone_part s.rule vs ws (one-part i hi e) d in
@@ -180,23 +180,23 @@ module _ (near : Near) (symm : Symmetric near) (s t : Pass) (P : Part s t) (p : 
     old_value : (x : ℕ) → x < n → Mine x ≡ true → at q x ≡ at p x
     old_value x hx d =
         let still : changes s (component_values near s p x) ≡ false =
-        ap (changes s) (sym (linked-values near symm s p i x hi hx d)) ∙ inert_still s (component_values near s p i) e in
-        passed-at near s p x hx ∙ still-tone near s p x still
+        ap (changes s) (sym (linked_values near symm s p i x hi hx d)) ∙ inert_still s (component_values near s p i) e in
+        passed_at near s p x hx ∙ still_tone near s p x still
 
     -- and have one value, which is in the part
     in-part : (x : ℕ) → x < n → Mine x ≡ true → within t (at q x) ≡ true
     in-part x hx d =
         let v : ℕ = at (component_values near s p i) 0 in
         let all = lone_one s.rule (component_values near s p i) alone in
-        let self = link-refl (inside near s p) n i in
+        let self = link_refl (inside near s p) n i in
         let one : at q x ≡ at q i = old_value x hx d
-        ∙ sym (eqb-true v (at p x) (value-every near s p i (eqb v) all x hx d))
-        ∙ eqb-true v (at p i) (value-every near s p i (eqb v) all i hi self)
+        ∙ sym (eqb-true v (at p x) (value_every near s p i (eqb v) all x hx d))
+        ∙ eqb-true v (at p i) (value_every near s p i (eqb v) all i hi self)
         ∙ sym (old_value i hi self) in
         ap (within t) one ∙ held
 
     closed : (x y : ℕ) → x < n → y < n → Mine x ≡ true → inside near s p x y ≡ true → Mine y ≡ true
-    closed x y hx hy d c = link-trans (inside near s p) n i x y hx d (link_near (inside near s p) n c)
+    closed x y hx hy d c = link_trans (inside near s p) n i x y hx d (link_near (inside near s p) n c)
 
     both-in : (x y : ℕ) → inside near s p x y ≡ true → within t (at q x) ≡ true → within t (at q y) ≡ true
         → inside near t q x y ≡ true
@@ -206,21 +206,21 @@ module _ (near : Near) (symm : Symmetric near) (s t : Pass) (P : Part s t) (p : 
 
     inside-same : (x y : ℕ) → x < n → y < n → Mine x ≡ true → inside near t q x y ≡ inside near s p x y
     inside-same x y hx hy d = same_test (inside near t q x y) (inside near s p x y)
-        (λ c. inside-part x y hx hy c)
+        (λ c. inside_part x y hx hy c)
         (λ c. both-in x y c (in-part x hx d) (in-part y hy (closed x y hx hy d c)))
 
     links-same : (x : ℕ) → x < n → linked (inside near t q) n i x ≡ linked (inside near s p) n i x
-    links-same x hx = linked-in n (inside near t q) (inside near s p) Mine inside-same closed i x hi hx
-        (link-refl (inside near s p) n i)
+    links-same x hx = linked_in n (inside near t q) (inside near s p) Mine inside-same closed i x hi hx
+        (link_refl (inside near s p) n i)
 
-    pub lone-values : component_values near t q i ≡ component_values near s p i
+    pub lone_values : component_values near t q i ≡ component_values near s p i
     unfolding component_values component
-    lone-values = rw same_size (ap (map (at q)) (keep_same _ _ 0 n (λ x _ h. links-same x (omega arith)))
+    lone_values = rw same_size (ap (map (at q)) (keep_same _ _ 0 n (λ x _ h. links-same x (omega arith)))
         ∙ map_same Mine (at q) (at p) 0 n (λ x _ h d. old_value x (omega arith) d))
 
-    pub lone-first : first (length q) (inside near t q) i ≡ first n (inside near s p) i
+    pub lone_first : first (length q) (inside near t q) i ≡ first n (inside near s p) i
     unfolding first
-    lone-first = rw same_size (every_same _ _ 0 i (λ x _ h. ap not
-        (link-sym (inside near t q) (inside-sym near symm t q) n x i
+    lone_first = rw same_size (every_same _ _ 0 i (λ x _ h. ap not
+        (link_sym (inside near t q) (inside_sym near symm t q) n x i
         ∙ links-same x (omega arith)
-        ∙ link-sym (inside near s p) (inside-sym near symm s p) n i x)))
+        ∙ link_sym (inside near s p) (inside_sym near symm s p) n i x)))

@@ -129,8 +129,8 @@ lively_large s vs e = ltb-false (length vs) s.area (or_none (ltb (length vs) s.a
 -- ## A gathered component
 
 module _ {plane queue counts : List ℕ} {c : Measures} {a b : ℕ} (G : Gathered plane queue counts c a b) where
-  pub gathered-some : 1 ≤ length (values plane queue c.size)
-  gathered-some = omega (arith, G.component.some, G.measured.size)
+  pub gathered_some : 1 ≤ length (values plane queue c.size)
+  gathered_some = omega (arith, G.component.some, G.measured.size)
 
-  pub gathered-size : {vs : List ℕ} → Alike vs (values plane queue c.size) → length vs ≡ c.size
-  gathered-size A = queue_size plane queue G.component.room A
+  pub gathered_size : {vs : List ℕ} → Alike vs (values plane queue c.size) → length vs ≡ c.size
+  gathered_size A = queue_size plane queue G.component.room A

@@ -28,16 +28,16 @@ module _ (near : Near) (code : ℕ) (marks : List ℕ) where
   pub alike_from : (u v : ℕ) → Link u v ≡ true → at marks u ≡ code
   alike_from u v e = eqb-true _ _ (and_elim_left (eqb (at marks u) code) (eqb (at marks v) code) (both_coded u v e))
 
-  pub alike-to : (u v : ℕ) → Link u v ≡ true → at marks v ≡ code
-  alike-to u v e = eqb-true _ _ (and_elim_right (eqb (at marks u) code) (eqb (at marks v) code) (both_coded u v e))
+  pub alike_to : (u v : ℕ) → Link u v ≡ true → at marks v ≡ code
+  alike_to u v e = eqb-true _ _ (and_elim_right (eqb (at marks u) code) (eqb (at marks v) code) (both_coded u v e))
 
-  pub alike-near : (u v : ℕ) → Link u v ≡ true → near u v ≡ true
+  pub alike_near : (u v : ℕ) → Link u v ≡ true → near u v ≡ true
   unfolding alike
-  alike-near u v e = and_elim_right (eqb (at marks u) code && eqb (at marks v) code) (near u v) e
+  alike_near u v e = and_elim_right (eqb (at marks u) code && eqb (at marks v) code) (near u v) e
 
-  pub alike-sym : Symmetric near → Symmetric Link
+  pub alike_sym : Symmetric near → Symmetric Link
   unfolding alike
-  alike-sym symm u v = ap₂ ◌&&◌ (and_comm (eqb (at marks u) code) (eqb (at marks v) code)) (symm u v)
+  alike_sym symm u v = ap₂ ◌&&◌ (and_comm (eqb (at marks u) code) (eqb (at marks v) code)) (symm u v)
 
 -- where near₁ holds near does, and what has the code in marks₁ has it in marks
 pub alike_on : (near₁ near : Near) (m n code : ℕ) (marks₁ marks : List ℕ) → m ≤ n
@@ -47,7 +47,7 @@ pub alike_on : (near₁ near : Near) (m n code : ℕ) (marks₁ marks : List ℕ
 alike_on near₁ near m n code marks₁ marks h f g c here = c
 alike_on near₁ near m n code marks₁ marks h f g c (step {j = j} {k = k} d e l) =
     let from-j = g j (alike_from near₁ code marks₁ j k e) in
-    let to-k = g k (alike-to near₁ code marks₁ j k e) in
-    let nearby = f j k (alike-near near₁ code marks₁ j k e) in
+    let to-k = g k (alike_to near₁ code marks₁ j k e) in
+    let nearby = f j k (alike_near near₁ code marks₁ j k e) in
     let link = alike_of near code marks from-j to-k nearby in
     step (alike_on near₁ near m n code marks₁ marks h f g c d) link (omega arith)

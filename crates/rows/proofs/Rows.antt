@@ -15,7 +15,7 @@ use Rattle.planes.specs.Neighbours.{apart}
 use Rattle.planes.specs.Refusals.{greatest_pixels, Sized}
 use Rattle.planes.specs.Shapes.{Symmetric}
 use Rattle.planes.proofs.Tests.{or_cases, eqb_sym, less_or_not}
-use Rattle.planes.proofs.Quotients.{by-inverse}
+use Rattle.planes.proofs.Quotients.{by_inverse}
 use Rattle.rows.specs.Rows.{in_row, row_end, inverse_of, Width}
 
 -- ## Row y of a plane of w columns and h rows is the w pixels from y * w on
@@ -34,8 +34,8 @@ past_rows y w h p =
     omega (arith, mul_comm w h)
 
 module _ (w : ℕ) where
-  pub row-bounds : (p : ℕ) → 1 ≤ w → (p / w * w ≤ p) × (p < row_end w p)
-  row-bounds p wide =
+  pub row_bounds : (p : ℕ) → 1 ≤ w → (p / w * w ≤ p) × (p < row_end w p)
+  row_bounds p wide =
       let whole = div-add-mod' p w in
       let column = mod-lt p wide in
       (omega arith, omega arith)
@@ -47,29 +47,29 @@ module _ (w : ℕ) where
       sym (ap (◌/ w) e) ∙ digits_div y c
 
   -- rows are whole, so each ends within the plane
-  pub row-end-le : (n p : ℕ) → 1 ≤ w → n % w ≡ 0 → p < n → row_end w p ≤ n
-  row-end-le n p wide whole h = elim (less_or_not (p / w) (n / w)) [
+  pub row_end_le : (n p : ℕ) → 1 ≤ w → n % w ≡ 0 → p < n → row_end w p ≤ n
+  row_end_le n p wide whole h = elim (less_or_not (p / w) (n / w)) [
     | inl l ↦ omega (arith, row_inside (p / w) w (n / w) l, mul_comm w (n / w), div-add-mod' n w)
-    | inr l ↦ omega (arith, mul-le-mul_right w l, div-add-mod' n w, (row-bounds p wide).0)
+    | inr l ↦ omega (arith, mul-le-mul_right w l, div-add-mod' n w, (row_bounds p wide).0)
   ]
 
   -- ## Neighbours in a row
 
-  pub in-row : (p q : ℕ) → in_row w p q ≡ true → (q / w ≡ p / w) × ((p + 1 ≡ q) ⊎ (q + 1 ≡ p))
+  pub in_row_lem : (p q : ℕ) → in_row w p q ≡ true → (q / w ≡ p / w) × ((p + 1 ≡ q) ⊎ (q + 1 ≡ p))
   unfolding in_row
-  in-row p q e =
+  in_row_lem p q e =
       let row = eqb-true (p / w) (q / w) (and_elim_left (eqb (p / w) (q / w)) (apart p q) e) in
       let next = or_cases (eqb (p + 1) q) (eqb (q + 1) p) (and_elim_right (eqb (p / w) (q / w)) (apart p q) e) in
       (sym row, elim next [ inl d ↦ inl (eqb-true (p + 1) q d) | inr d ↦ inr (eqb-true (q + 1) p d) ])
 
-  pub in-row-sym : Symmetric (in_row w)
+  pub in_row_sym : Symmetric (in_row w)
   unfolding in_row
-  in-row-sym p q = ap₂ ◌&&◌ (eqb_sym (p / w) (q / w)) (or_comm (eqb (p + 1) q) (eqb (q + 1) p))
+  in_row_sym p q = ap₂ ◌&&◌ (eqb_sym (p / w) (q / w)) (or_comm (eqb (p + 1) q) (eqb (q + 1) p))
 
   -- two pixels of row y that follow each other
-  pub in-row-next : (y p q : ℕ) → y * w ≤ p → q < y * w + w → q ≡ p + 1 → in_row w p q ≡ true
+  pub in_row_next : (y p q : ℕ) → y * w ≤ p → q < y * w + w → q ≡ p + 1 → in_row w p q ≡ true
   unfolding in_row
-  in-row-next y p q l h e =
+  in_row_next y p q l h e =
       let row : p / w ≡ q / w = row_of y p l (omega arith) ∙ sym (row_of y q (omega arith) h) in
       and_intro (eq-eqb (p / w) (q / w) row) (or_inl (eqb (p + 1) q) (eqb (q + 1) p) (eq-eqb (p + 1) q (sym e)))
 
@@ -90,9 +90,9 @@ module _ {w inverse : ℕ} (W : Width w inverse) (q : ℕ) (few : q < greatest_p
   small : q * w < 4294967296
   small = omega (arith, mul-le-mul {n₁ = q} {n₂ = 1048575} (omega arith) W.narrow)
 
-  pub row-by-inverse : q * inverse / 4294967296 ≡ q / w
+  pub row_by_inverse : q * inverse / 4294967296 ≡ q / w
   unfolding inverse_of
-  row-by-inverse = by-inverse 4294967296 w inverse q W.wide W.inverse_is small
+  row_by_inverse = by_inverse 4294967296 w inverse q W.wide W.inverse_is small
 
 -- ## Facts of a stretch
 
@@ -108,5 +108,5 @@ module _ (P : ℕ → Type 0) (low : ℕ) where
   each_more high high' f e t k p q =
       ⊎_elim (λ (s : k ≡ high). subst P (sym s) e) (λ (l : k < high). f k p l) (eq-or-lt_of_le (omega arith))
 
-  pub each-less : (high high' : ℕ) → Each P low high → high' ≤ high → Each P low high'
-  each-less high high' f l k p q = f k p (omega arith)
+  pub each_less : (high high' : ℕ) → Each P low high → high' ≤ high → Each P low high'
+  each_less high high' f l k p q = f k p (omega arith)

@@ -16,9 +16,9 @@ use Rattle.planes.proofs.Stores.{at_set}
 use Rattle.rows.specs.Rows.{in_row, row_end}
 use Rattle.rows.specs.Codes.{alike, Joined, Shut}
 use Rattle.rows.specs.Runs.{Room, Taken, none, one, RunStart, RunUpTo, start, more, RunTaken, Reached}
-use Rattle.rows.proofs.Rows.{row-bounds, row_of, in-row, in-row-sym, in-row-next}
+use Rattle.rows.proofs.Rows.{row_bounds, row_of, in_row_lem, in_row_sym, in_row_next}
 use Rattle.rows.proofs.Codes.{alike_of}
-use Rattle.rows.proofs.Taken.{room_for, taken-room, taken-was}
+use Rattle.rows.proofs.Taken.{room_for, taken_room, taken_was}
 
 -- ## Chains in a row
 
@@ -35,7 +35,7 @@ module _ (w y code l r : ℕ) (marks : List ℕ) (low : y * w ≤ l) (high : r �
   right : (d p q : ℕ) → q ≡ p + d → l ≤ p → q < r → Link p q
   right zero p q e a b = let d : p ≡ q = omega arith in subst (Link p) d here
   right (suc d) p q e a b =
-      let next = in-row-next w y (p + d) q (omega arith) (omega arith) (omega arith) in
+      let next = in_row_next w y (p + d) q (omega arith) (omega arith) (omega arith) in
       let link = one_link (p + d) q (omega arith) (omega arith) (omega arith) b next in
       step (right d p (p + d) refl a (omega arith)) link (omega arith)
 
@@ -43,7 +43,7 @@ module _ (w y code l r : ℕ) (marks : List ℕ) (low : y * w ≤ l) (high : r �
   left : (d p q : ℕ) → p ≡ q + d → l ≤ q → p < r → Link p q
   left zero p q e a b = let d : p ≡ q = omega arith in subst (Link p) d here
   left (suc d) p q e a b =
-      let next = in-row-sym w (q + 1) q ∙ in-row-next w y q (q + 1) (omega arith) (omega arith) refl in
+      let next = in_row_sym w (q + 1) q ∙ in_row_next w y q (q + 1) (omega arith) (omega arith) refl in
       let link = one_link (q + 1) q (omega arith) (omega arith) a (omega arith) next in
       step (left d p (q + 1) (omega arith) (omega arith) b) link (omega arith)
 
@@ -60,12 +60,12 @@ module _ {code l tail : ℕ} {marks queue : List ℕ} where
   run_past start = omega arith
   run_past (more run e) = omega (arith, run_past run)
 
-  pub run-taken : (P : ℕ → Type 0) (n : ℕ) {r tail' : ℕ} {marks' queue' : List ℕ} → ((x : ℕ) → l ≤ x → x < r → P x)
+  pub run_taken : (P : ℕ → Type 0) (n : ℕ) {r tail' : ℕ} {marks' queue' : List ℕ} → ((x : ℕ) → l ≤ x → x < r → P x)
       → r ≤ n → RunUpTo code l marks queue tail r marks' queue' tail'
       → Taken P n code marks queue tail marks' queue' tail'
-  run-taken P n f h start = none
-  run-taken P n f h (more {r} run e) =
-      let before = run-taken P n (λ x a b. f x a (omega arith)) (omega arith) run in
+  run_taken P n f h start = none
+  run_taken P n f h (more {r} run e) =
+      let before = run_taken P n (λ x a b. f x a (omega arith)) (omega arith) run in
       one before (f r (run_past run) (omega arith)) (omega arith) e
 
   -- the pixels from the run's end on keep their marks
@@ -78,7 +78,7 @@ module _ {code l tail : ℕ} {marks queue : List ℕ} where
   module _ {n : ℕ} (R : Room marks queue n code tail) where
     pub run_room : {r tail' : ℕ} {marks' queue' : List ℕ} → r ≤ n
         → RunUpTo code l marks queue tail r marks' queue' tail' → Room marks' queue' n code tail'
-    run_room h run = taken-room R (run-taken (l ≤◌) n (λ x a _. a) h run)
+    run_room h run = taken_room R (run_taken (l ≤◌) n (λ x a _. a) h run)
 
     -- its pixels had the code
     run-had : {r tail' : ℕ} {marks' queue' : List ℕ} → r ≤ n → RunUpTo code l marks queue tail r marks' queue' tail'
@@ -128,7 +128,7 @@ module _ {w code q l row tail tail' : ℕ} {marks queue marks' queue' : List ℕ
   past-q : q < T.r
   past-q = elim (less_or_not q T.r) [
     | inl h ↦ h
-    | inr h ↦ absurd (T.stop (omega (arith, (row-bounds w q wide).1)) (run-rest T.run T.r (omega arith) ∙ was h))
+    | inr h ↦ absurd (T.stop (omega (arith, (row_bounds w q wide).1)) (run-rest T.run T.r (omega arith) ∙ was h))
   ]
     where
       was : T.r ≤ q → at marks T.r ≡ code
@@ -138,15 +138,15 @@ module _ {w code q l row tail tail' : ℕ} {marks queue marks' queue' : List ℕ
       ]
 
   run-was : (x : ℕ) → at marks' x ≡ code → at marks x ≡ code
-  run-was = taken-was R (run-taken (l ≤◌) (row_end w q) (λ x a _. a) inside T.run)
+  run-was = taken_was R (run_taken (l ≤◌) (row_end w q) (λ x a _. a) inside T.run)
 
   -- a pixel beside one of the run is one of the run, or stops it
   shut : (p : ℕ) → l ≤ p → p < T.r → Shut (in_row w) code marks' p
   shut p a b x e d =
       let at_p = row_of w y p (omega (arith, S.past)) (omega (arith, inside)) in
-      let at_x = ap (◌* w) ((in-row w p x e).0 ∙ at_p) in
-      let bounds = row-bounds w x wide in
-      elim (in-row w p x e).1 [
+      let at_x = ap (◌* w) ((in_row_lem w p x e).0 ∙ at_p) in
+      let bounds = row_bounds w x wide in
+      elim (in_row_lem w p x e).1 [
         | inl next ↦ elim (less_or_not x T.r) [
           | inl h ↦ run-off R inside T.run x (omega arith) h d
           | inr h ↦ let end : x ≡ T.r = omega arith in T.stop (omega arith) (sym (ap (at marks') end) ∙ d)
@@ -159,7 +159,7 @@ module _ {w code q l row tail tail' : ℕ} {marks queue marks' queue' : List ℕ
 
   pub reached : Reached w code q marks queue tail marks' queue' tail'
   reached = record {
-    taken = run-taken (Joined (in_row w) (row_end w q) marks code q) (row_end w q)
+    taken = run_taken (Joined (in_row w) (row_end w q) marks code q) (row_end w q)
         (λ x a b. record {
           has = has;
           chain = joined w y code l T.r marks (omega (arith, S.past)) inside (run-had R inside T.run) q x

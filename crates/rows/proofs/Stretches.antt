@@ -10,7 +10,7 @@ use borrow.Author.Tests.{eqb-true, eqb-false}
 use Rattle.planes.specs.Lists.{at}
 use Rattle.planes.proofs.Tests.{or_cases, or_none, less_or_not}
 use Rattle.rows.specs.Stretches.{None, Tells, Skipped}
-use Rattle.rows.proofs.Rows.{each_none, each_more, each-less}
+use Rattle.rows.proofs.Rows.{each_none, each_more, each_less}
 
 module _ (marks : List ℕ) (code low : ℕ) where
   -- no pixel of an empty stretch has the code
@@ -22,7 +22,7 @@ module _ (marks : List ℕ) (code low : ℕ) where
       → Tells marks code low (low + (i + 1)) (t || eqb (at marks (low + i)) code)
   tells_more i t r = record {
     yes = λ e f. elim (or_cases t (eqb (at marks (low + i)) code) e) [
-      | inl d ↦ r.yes d (each-less _ low (low + (i + 1)) (low + i) f (omega arith))
+      | inl d ↦ r.yes d (each_less _ low (low + (i + 1)) (low + i) f (omega arith))
       | inr d ↦ f (low + i) (omega arith) (omega arith) (eqb-true (at marks (low + i)) code d)
     ];
     no = λ e.
@@ -32,21 +32,21 @@ module _ (marks : List ℕ) (code low : ℕ) where
   }
 
   -- nothing is passed yet
-  pub skipped-none : (p : ℕ) → p ≡ low → Skipped marks code low p
-  skipped-none p e = record { past = omega arith; none = each_none _ low p (omega arith) }
+  pub skipped_none : (p : ℕ) → p ≡ low → Skipped marks code low p
+  skipped_none p e = record { past = omega arith; none = each_none _ low p (omega arith) }
 
   -- the pixel p is passed too
-  pub skipped-one : {p : ℕ} (q : ℕ) → q ≡ p + 1 → Skipped marks code low p → (at marks p ≡ code → ⊥)
+  pub skipped_one : {p : ℕ} (q : ℕ) → q ≡ p + 1 → Skipped marks code low p → (at marks p ≡ code → ⊥)
       → Skipped marks code low q
-  skipped-one {p} q e s f = record { past = omega (arith, s.past); none = each_more _ low p q s.none f e }
+  skipped_one {p} q e s f = record { past = omega (arith, s.past); none = each_more _ low p q s.none f e }
 
   -- a stretch from p on is passed too
-  pub skipped-more : {p q : ℕ} → Skipped marks code low p → p ≤ q → None marks code p q → Skipped marks code low q
-  skipped-more {p} s h f = record {
+  pub skipped_more : {p q : ℕ} → Skipped marks code low p → p ≤ q → None marks code p q → Skipped marks code low q
+  skipped_more {p} s h f = record {
     past = omega (arith, s.past);
     none = λ k l m. elim (less_or_not k p) [ inl d ↦ s.none k l d | inr d ↦ f k d m ];
   }
 
   -- what was passed on the way
-  pub skipped-less : {p : ℕ} (q : ℕ) → low ≤ q → q ≤ p → Skipped marks code low p → Skipped marks code low q
-  skipped-less {p} q l h s = record { past = l; none = each-less _ low p q s.none h }
+  pub skipped_less : {p : ℕ} (q : ℕ) → low ≤ q → q ≤ p → Skipped marks code low p → Skipped marks code low q
+  skipped_less {p} q l h s = record { past = l; none = each_less _ low p q s.none h }

@@ -59,8 +59,8 @@ module _ {marks queue : List ℕ} {n code tail : ℕ} (R : Room marks queue n co
   pub room_for : (q : ℕ) → q < n → at marks q ≡ code → tail < length queue
   room_for q h e = omega (arith, R.spare, fewer marks n code q h R.covered R.real e)
 
-  pub room-took : (q : ℕ) → q < n → at marks q ≡ code → Room (set marks q 0) (set queue tail q) n code (tail + 1)
-  room-took q h e = record {
+  pub room_took : (q : ℕ) → q < n → at marks q ≡ code → Room (set marks q 0) (set queue tail q) n code (tail + 1)
+  room_took q h e = record {
     few = R.few;
     real = R.real;
     covered = rw length-set R.covered;
@@ -68,8 +68,8 @@ module _ {marks queue : List ℕ} {n code tail : ℕ} (R : Room marks queue n co
   }
 
   -- room for the first pixels alone
-  pub room-less : (m : ℕ) → m ≤ n → Room marks queue m code tail
-  room-less m h = record {
+  pub room_less : (m : ℕ) → m ≤ n → Room marks queue m code tail
+  room_less m h = record {
     few = omega (arith, R.few);
     real = R.real;
     covered = omega (arith, R.covered);
@@ -90,35 +90,35 @@ room_whole marks queue n code few real covered spare = record {
 
 module _ {P : ℕ → Type 0} {n code tail : ℕ} {marks queue : List ℕ} where
   -- what was in the queue stays
-  pub taken-kept : {tail' : ℕ} {marks' queue' : List ℕ} → Taken P n code marks queue tail marks' queue' tail'
+  pub taken_kept : {tail' : ℕ} {marks' queue' : List ℕ} → Taken P n code marks queue tail marks' queue' tail'
       → (tail ≤ tail') × ((k : ℕ) → k < tail → at queue' k ≡ at queue k)
-  taken-kept none = (omega arith, λ k l. refl)
-  taken-kept (one {q} {tail' = tail'} {queue' = queue'} t p h e) =
-      let r = taken-kept t in
+  taken_kept none = (omega arith, λ k l. refl)
+  taken_kept (one {q} {tail' = tail'} {queue' = queue'} t p h e) =
+      let r = taken_kept t in
       (omega (arith, r.0), λ k l. get_or-set_other queue' tail' k q 0 (λ z. absurd (omega (arith, r.0))) ∙ r.1 k l)
 
-  pub taken-room : {tail' : ℕ} {marks' queue' : List ℕ} → Room marks queue n code tail
+  pub taken_room : {tail' : ℕ} {marks' queue' : List ℕ} → Room marks queue n code tail
       → Taken P n code marks queue tail marks' queue' tail' → Room marks' queue' n code tail'
-  taken-room R none = R
-  taken-room R (one {q} t p h e) = room-took (taken-room R t) q h e
+  taken_room R none = R
+  taken_room R (one {q} t p h e) = room_took (taken_room R t) q h e
 
   -- a pixel that has the code had it before
-  pub taken-was : {tail' : ℕ} {marks' queue' : List ℕ} → Room marks queue n code tail
+  pub taken_was : {tail' : ℕ} {marks' queue' : List ℕ} → Room marks queue n code tail
       → Taken P n code marks queue tail marks' queue' tail' → (x : ℕ) → at marks' x ≡ code → at marks x ≡ code
-  taken-was R none x e = e
-  taken-was R (one {q} {marks' = marks'} t p h c) x e =
-      let S = taken-room R t in
+  taken_was R none x e = e
+  taken_was R (one {q} {marks' = marks'} t p h c) x e =
+      let S = taken_room R t in
       at_set (λ (y : ℕ). y ≡ code → at marks x ≡ code) marks' q x 0 (omega (arith, S.covered))
-      (λ _ z. absurd (omega (arith, S.real))) (λ _ z. taken-was R t x z) e
+      (λ _ z. absurd (omega (arith, S.real))) (λ _ z. taken_was R t x z) e
 
   -- more holds of the pixels taken
-  pub taken-map : {Q : ℕ → Type 0} {m tail' : ℕ} {marks' queue' : List ℕ} → n ≤ m → ((x : ℕ) → P x → Q x)
+  pub taken_map : {Q : ℕ → Type 0} {m tail' : ℕ} {marks' queue' : List ℕ} → n ≤ m → ((x : ℕ) → P x → Q x)
       → Taken P n code marks queue tail marks' queue' tail' → Taken Q m code marks queue tail marks' queue' tail'
-  taken-map h f none = none
-  taken-map h f (one {q} t p l e) = one (taken-map h f t) (f q p) (omega arith) e
+  taken_map h f none = none
+  taken_map h f (one {q} t p l e) = one (taken_map h f t) (f q p) (omega arith) e
 
-  pub taken-join : {tail' : ℕ} {marks' queue' : List ℕ} {tail'' : ℕ} {marks'' queue'' : List ℕ}
+  pub taken_join : {tail' : ℕ} {marks' queue' : List ℕ} {tail'' : ℕ} {marks'' queue'' : List ℕ}
       → Taken P n code marks queue tail marks' queue' tail' → Taken P n code marks' queue' tail' marks'' queue'' tail''
       → Taken P n code marks queue tail marks'' queue'' tail''
-  taken-join s none = s
-  taken-join s (one t p h e) = one (taken-join s t) p h e
+  taken_join s none = s
+  taken_join s (one t p h e) = one (taken_join s t) p h e

@@ -3,10 +3,10 @@
 -- work that has a pixel's old value in an interval, and the run of all passes, give the pixel the tone that its pass
 -- gives it on the first plane. Assumes nothing.
 --
---   works-ordered    the passes of works were accepted
---   together-run     the copies put together are the run of all passes
---   works-answered, work-answered-is   each pass answers in its work what it answers on the first plane, and only that
---   copies-effect    plane and counts of the works are those of a run of their passes, in any order
+--   works_ordered    the passes of works were accepted
+--   together_run     the copies put together are the run of all passes
+--   works_answered, work_answered_is   each pass answers in its work what it answers on the first plane, and only that
+--   copies_effect    plane and counts of the works are those of a run of their passes, in any order
 --   rounds_effect    the same round by round
 use Prim.Native.Nat.{ℕ, ◌+◌, ◌<◌}
 use mathlib.Core.Path.{◌≡◌, refl, sym, ap, ap₂, subst, ◌∙◌}
@@ -29,15 +29,15 @@ use Rattle.model.specs.Passes.{within, changes, kept_back, new_tone, component_c
 use Rattle.model.specs.Effects.{Effect, nothing, then, pass_effect, run_effect}
 use Rattle.model.specs.Runs.{All, none, more, run}
 use Rattle.model.specs.Calls.{Call, retoned_in, kept_in, total, AllAccepted}
-use Rattle.model.proofs.Recursion.{all_append, all_map, effect_same, run-append}
+use Rattle.model.proofs.Recursion.{all_append, all_map, effect_same, run_append}
 use Rattle.passes.specs.Calls.{Sequence}
 use Rattle.schedules.specs.Orders.{PairwiseDisjoint, passes_in, Answered}
 use Rattle.schedules.specs.Copies.{Work, Worked, none, more, work_passes, WorkAnswered, now, later, work_total}
 use Rattle.schedules.specs.Copies.{taken, handed_back, together, Rounds, none, more, rounds_total}
-use Rattle.schedules.proofs.Orders.{all-permuted, all-parts, all_both, pairwise_permuted, pairwise_parts}
+use Rattle.schedules.proofs.Orders.{all_permuted, all_parts, all_both, pairwise_permuted, pairwise_parts}
 use Rattle.schedules.proofs.Orders.{Ordered, permuted_same}
 use Rattle.schedules.proofs.Runs.{Ran, run_ran, sum_over, sum_append, total_first}
-use Rattle.schedules.proofs.Calls.{sequence-run, answerOn, answered_has, all-answered, answered-is}
+use Rattle.schedules.proofs.Calls.{sequence_run, answer_on, answered_has, all_answered, answered_is}
 
 -- ## Intervals that have a value
 
@@ -59,17 +59,17 @@ untaken (s ∷ ss) v e = let both = or_none (within s v) (taken ss v) e in more 
 work_has : {P : Pass → Type 0} {s : Pass} {reply : Reply} {ws : List Work} → WorkAnswered s reply ws
     → All P (work_passes ws) → P s
 unfolding work_passes
-work_has (now {w = w} y) a = answered_has y (all-parts (passes_in w.calls) a).0
-work_has (later {w = w} y) a = work_has y (all-parts (passes_in w.calls) a).1
+work_has (now {w = w} y) a = answered_has y (all_parts (passes_in w.calls) a).0
+work_has (later {w = w} y) a = work_has y (all_parts (passes_in w.calls) a).1
 
 module _ (z : Shape) (p : List ℕ) where
   abbrev by : Pass → Near
   by = pass_neighbours z
 
-  pub works-ordered : {ws : List Work} → Worked z p ws → All Ordered (work_passes ws)
+  pub works_ordered : {ws : List Work} → Worked z p ws → All Ordered (work_passes ws)
   unfolding work_passes
-  works-ordered none = none
-  works-ordered (more S a W) = all_append (sequence-run z S a).0 (works-ordered W)
+  works_ordered none = none
+  works_ordered (more S a W) = all_append (sequence_run z S a).0 (works_ordered W)
 
   -- ## The plane
 
@@ -77,7 +77,7 @@ module _ (z : Shape) (p : List ℕ) where
   work-ran : {cs : List Call} {rs : List Reply} {q : List ℕ} → Sequence z p cs rs q → AllAccepted rs
       → PairwiseDisjoint (passes_in cs) → Ran by (passes_in cs) p q
   work-ran {cs} S a d =
-      let made = sequence-run z S a in
+      let made = sequence_run z S a in
       subst (Ran by (passes_in cs) p) (ap (λ (e : Effect). e.plane) made.1)
       (run_ran by (passes_in cs) made.0 d p)
 
@@ -103,14 +103,14 @@ module _ (z : Shape) (p : List ℕ) where
   handed q i h (more {w = w} {ws = ws} S a W) d tones rest =
       let own = passes_in w.calls in
       let apart = pairwise_parts own d in
-      let parts = all-parts own tones in
+      let parts = all_parts own tones in
       own-handed q i h w (work-ran S a apart.0) parts.0 (handed_back ws i (at p i))
       (λ n. handed q i h W apart.1 parts.1 (λ m. rest (all_append n m)))
 
-  pub together-run : {ws : List Work} → Worked z p ws → PairwiseDisjoint (work_passes ws)
+  pub together_run : {ws : List Work} → Worked z p ws → PairwiseDisjoint (work_passes ws)
       → together ws p ≡ run by (work_passes ws) p
   unfolding together
-  together-run {ws} W d = ext_get_or 0 _ _ (size ∙ sym R.size) (λ i h. pixel i (subst (i <◌) size h))
+  together_run {ws} W d = ext_get_or 0 _ _ (size ∙ sym R.size) (λ i h. pixel i (subst (i <◌) size h))
     where
       back : ℕ → ℕ
       back i = handed_back ws i (at p i)
@@ -119,7 +119,7 @@ module _ (z : Shape) (p : List ℕ) where
       size = length_all back (length p)
 
       R : Ran by (work_passes ws) p (run by (work_passes ws) p)
-      R = run_ran by (work_passes ws) (works-ordered W) d p
+      R = run_ran by (work_passes ws) (works_ordered W) d p
 
       pixel : (i : ℕ) → i < length p → at (together ws p) i ≡ at (run by (work_passes ws) p) i
       pixel i h =
@@ -129,38 +129,38 @@ module _ (z : Shape) (p : List ℕ) where
 
   -- ## Answers
 
-  pub works-answered : {ws : List Work} → Worked z p ws → PairwiseDisjoint (work_passes ws)
-      → All (λ s. WorkAnswered s (answerOn z p s) ws) (work_passes ws)
+  pub works_answered : {ws : List Work} → Worked z p ws → PairwiseDisjoint (work_passes ws)
+      → All (λ s. WorkAnswered s (answer_on z p s) ws) (work_passes ws)
   unfolding work_passes
-  works-answered none d = none
-  works-answered (more {w = w} S a W) d =
+  works_answered none d = none
+  works_answered (more {w = w} S a W) d =
       let apart = pairwise_parts (passes_in w.calls) d in
-      all_append (all_map (λ s x. now x) (all-answered z S a apart.0))
-      (all_map (λ s x. later x) (works-answered W apart.1))
+      all_append (all_map (λ s x. now x) (all_answered z S a apart.0))
+      (all_map (λ s x. later x) (works_answered W apart.1))
 
-  pub work-answered-is : {s : Pass} {reply : Reply} {ws : List Work} → Worked z p ws → PairwiseDisjoint (work_passes ws)
-      → WorkAnswered s reply ws → reply ≡ answerOn z p s
+  pub work_answered_is : {s : Pass} {reply : Reply} {ws : List Work} → Worked z p ws → PairwiseDisjoint (work_passes ws)
+      → WorkAnswered s reply ws → reply ≡ answer_on z p s
   unfolding work_passes
-  work-answered-is (more {w = w} S a W) d (now y) =
-      answered-is z S a (pairwise_parts (passes_in w.calls) d).0 y
-  work-answered-is (more {w = w} S a W) d (later y) =
-      work-answered-is W (pairwise_parts (passes_in w.calls) d).1 y
+  work_answered_is (more {w = w} S a W) d (now y) =
+      answered_is z S a (pairwise_parts (passes_in w.calls) d).0 y
+  work_answered_is (more {w = w} S a W) d (later y) =
+      work_answered_is W (pairwise_parts (passes_in w.calls) d).1 y
 
   -- the works and any sequence of their passes, from one plane
   module _ {ws : List Work} {cs : List Call} {rs : List Reply} {last : List ℕ} (W : Worked z p ws)
       (S : Sequence z p cs rs last) (a : AllAccepted rs) (d : PairwiseDisjoint (work_passes ws))
       (r : Permutation (work_passes ws) (passes_in cs)) where
-    pub copies-plane : last ≡ together ws p
-    copies-plane =
-        let same = (permuted_same by r (works-ordered W) d).effects p in
-        sym (together-run W d ∙ ap (λ (e : Effect). e.plane) (same ∙ (sequence-run z S a).1))
+    pub copies_plane : last ≡ together ws p
+    copies_plane =
+        let same = (permuted_same by r (works_ordered W) d).effects p in
+        sym (together_run W d ∙ ap (λ (e : Effect). e.plane) (same ∙ (sequence_run z S a).1))
 
-    pub copies-answers : (s : Pass) (reply : Reply) → WorkAnswered s reply ws ↔ Answered s reply cs rs
-    copies-answers s reply = (
-      (λ y. subst (λ (x : Reply). Answered s x cs rs) (sym (work-answered-is W d y))
-          (work_has y (all-permuted (permutation_sym r) (all-answered z S a (pairwise_permuted r d))))),
-      (λ y. subst (λ (x : Reply). WorkAnswered s x ws) (sym (answered-is z S a (pairwise_permuted r d) y))
-          (answered_has y (all-permuted r (works-answered W d)))),
+    pub copies_answers : (s : Pass) (reply : Reply) → WorkAnswered s reply ws ↔ Answered s reply cs rs
+    copies_answers s reply = (
+      (λ y. subst (λ (x : Reply). Answered s x cs rs) (sym (work_answered_is W d y))
+          (work_has y (all_permuted (permutation_sym r) (all_answered z S a (pairwise_permuted r d))))),
+      (λ y. subst (λ (x : Reply). WorkAnswered s x ws) (sym (answered_is z S a (pairwise_permuted r d) y))
+          (answered_has y (all_permuted r (works_answered W d)))),
     )
 
   -- ## Counts
@@ -183,31 +183,31 @@ module _ (z : Shape) (p : List ℕ) where
         let own = passes_in w.calls in
         let apart = pairwise_parts own d in
         ap₂ ◌+◌ (sym (of-run w.calls w.replies w.plane S a)
-        ∙ total_first by f k of_pass of_none of-then own (sequence-run z S a).0 apart.0 p)
+        ∙ total_first by f k of_pass of_none of-then own (sequence_run z S a).0 apart.0 p)
         (works-sum W apart.1)
         ∙ sym (sum_append each own (work_passes ws))
 
     works-count : {ws : List Work} → Worked z p ws → PairwiseDisjoint (work_passes ws)
         → k (run_effect by (work_passes ws) p) ≡ work_total c ws
     works-count {ws} W d =
-        total_first by f k of_pass of_none of-then (work_passes ws) (works-ordered W) d p ∙ sym (works-sum W d)
+        total_first by f k of_pass of_none of-then (work_passes ws) (works_ordered W) d p ∙ sym (works-sum W d)
 
   works-effect : {ws : List Work} → Worked z p ws → PairwiseDisjoint (work_passes ws)
       → run_effect by (work_passes ws) p
       ≡ record { plane = together ws p; retoned = work_total retoned_in ws; kept = work_total kept_in ws }
-  works-effect W d = effect_same (sym (together-run W d))
+  works-effect W d = effect_same (sym (together_run W d))
       (works-count changes (λ e. e.retoned) retoned_in (λ s q. refl) (λ q. refl) (λ x y. refl)
-      (λ cs rs q S a. ap (λ (e : Effect). e.retoned) (sequence-run z S a).1) W d)
+      (λ cs rs q S a. ap (λ (e : Effect). e.retoned) (sequence_run z S a).1) W d)
       (works-count kept_back (λ e. e.kept) kept_in (λ s q. refl) (λ q. refl) (λ x y. refl)
-      (λ cs rs q S a. ap (λ (e : Effect). e.kept) (sequence-run z S a).1) W d)
+      (λ cs rs q S a. ap (λ (e : Effect). e.kept) (sequence_run z S a).1) W d)
 
-  pub copies-effect : {ws : List Work} {ss : List Pass} → Worked z p ws → Permutation (work_passes ws) ss
+  pub copies_effect : {ws : List Work} {ss : List Pass} → Worked z p ws → Permutation (work_passes ws) ss
       → PairwiseDisjoint ss
       → run_effect by ss p
       ≡ record { plane = together ws p; retoned = work_total retoned_in ws; kept = work_total kept_in ws }
-  copies-effect W r d =
+  copies_effect W r d =
       let apart = pairwise_permuted (permutation_sym r) d in
-      sym ((permuted_same by r (works-ordered W) apart).effects p) ∙ works-effect W apart
+      sym ((permuted_same by r (works_ordered W) apart).effects p) ∙ works-effect W apart
 
 -- ## Round by round
 
@@ -231,6 +231,6 @@ rounds_effect {z} {p = p} (more {ss = ss} {sss = sss} {ws = ws} W r R) (round d 
     let by = pass_neighbours z in
     let now : Effect =
     record { plane = together ws p; retoned = work_total retoned_in ws; kept = work_total kept_in ws } in
-    run-append by ss (joined_rounds sss) p
-    ∙ ap (λ (x : Effect). then x (run_effect by (joined_rounds sss) x.plane)) (copies-effect z p W r d)
+    run_append by ss (joined_rounds sss) p
+    ∙ ap (λ (x : Effect). then x (run_effect by (joined_rounds sss) x.plane)) (copies_effect z p W r d)
     ∙ ap (then now) (rounds_effect R e)

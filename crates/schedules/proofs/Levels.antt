@@ -40,13 +40,13 @@ module _ (area : ℕ) (rule : Rule) (number : ℕ) where
     nths-disjoint j zero = none
     nths-disjoint j (suc m) = more (nth-apart j (suc j) m (omega arith)) (nths-disjoint (suc j) m)
 
-  pub level-disjoint : (l : ℕ) → PairwiseDisjoint (level l area rule number)
+  pub level_disjoint : (l : ℕ) → PairwiseDisjoint (level l area rule number)
   unfolding level
-  level-disjoint l = nths-disjoint (2 ^ (8 - l)) (pow_pos (8 - l)) 0 (2 ^ l)
+  level_disjoint l = nths-disjoint (2 ^ (8 - l)) (pow_pos (8 - l)) 0 (2 ^ l)
 
   levels-disjoint : (ls : List ℕ) → EachDisjoint (map (λ l. level l area rule number) ls)
   levels-disjoint [] = no_round
-  levels-disjoint (l ∷ ls) = round (level-disjoint l) (levels-disjoint ls)
+  levels-disjoint (l ∷ ls) = round (level_disjoint l) (levels-disjoint ls)
 
   levels-joined : (ls : List ℕ) → joined_rounds (map (λ l. level l area rule number) ls) ≡ levels ls area rule number
   unfolding joined_rounds levels
@@ -62,4 +62,4 @@ unfolding passes level_rounds joined_rounds
 levels_effect {z} last area rule number {p = p} R =
     ap (λ (ss : List Pass). run_effect (pass_neighbours z) (level 0 1 rule number ++ ss) p)
     (sym (levels-joined area rule number (from 1 last)))
-    ∙ rounds_effect R (round (level-disjoint 1 rule number 0) (levels-disjoint area rule number (from 1 last)))
+    ∙ rounds_effect R (round (level_disjoint 1 rule number 0) (levels-disjoint area rule number (from 1 last)))

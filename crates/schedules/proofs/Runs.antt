@@ -21,11 +21,11 @@ use Rattle.model.specs.Neighbourhoods.{pass_neighbours}
 use Rattle.model.specs.Passes.{within, new_tone, passed, component_count}
 use Rattle.model.specs.Effects.{Effect, nothing, then, pass_effect, run_effect}
 use Rattle.model.specs.Runs.{All, none, more, Disjoint, run}
-use Rattle.model.proofs.Apart.{Alike, tone-alike, count-alike, not_both, turn, section-stays, other-alike}
-use Rattle.model.proofs.Chains.{Fine, fine-refl, fine-trans}
-use Rattle.model.proofs.Components.{out-tone}
+use Rattle.model.proofs.Apart.{Alike, tone_alike, count_alike, not_both, turn, section_stays, other_alike}
+use Rattle.model.proofs.Chains.{Fine, fine_refl, fine_trans}
+use Rattle.model.proofs.Components.{out_tone}
 use Rattle.model.proofs.Neighbourhoods.{pass_sym}
-use Rattle.model.proofs.Order.{length-passed, passed-at, passed_keeps}
+use Rattle.model.proofs.Order.{length_passed, passed_at, passed_keeps}
 use Rattle.model.proofs.Recursion.{all_map}
 use Rattle.schedules.specs.Orders.{PairwiseDisjoint, none, more}
 use Rattle.schedules.proofs.Orders.{all_both, Ordered}
@@ -49,8 +49,8 @@ sum_same (more e a) = ap₂ ◌+◌ e (sum_same a)
 
 module _ (by : Pass → Near) where
   -- the section of a pass is alike before and after one that is disjoint from it
-  pub later-alike : (s t : Pass) → Disjoint s t → Ordered s → (p : List ℕ) → Alike t p (passed (by s) s p)
-  later-alike s t d o p = other-alike (by s) t s (turn s t d) o p
+  pub later_alike : (s t : Pass) → Disjoint s t → Ordered s → (p : List ℕ) → Alike t p (passed (by s) s p)
+  later_alike s t d o p = other_alike (by s) t s (turn s t d) o p
 
   -- ## Planes
 
@@ -67,30 +67,30 @@ module _ (by : Pass → Near) where
     q = passed (by s) s p
 
     still : (i : ℕ) → i < length p → i < length q
-    still i h = subst (i <◌) (sym (length-passed (by s) s p)) h
+    still i h = subst (i <◌) (sym (length_passed (by s) s p)) h
 
     -- a pixel of the first section is in no later one
     own : (i : ℕ) → i < length p → within s (at p i) ≡ true → at last i ≡ new_tone (by s) s p i
     own i h w =
-        let new = passed-at (by s) s p i h in
-        let stays : within s (at q i) ≡ true = ap (within s) new ∙ section-stays (by s) s o p i w in
+        let new = passed_at (by s) s p i h in
+        let stays : within s (at q i) ≡ true = ap (within s) new ∙ section_stays (by s) s o p i w in
         R.elsewhere i (still i h) (all_map (λ t x. not_both s t x (at q i) stays) d) ∙ new
 
     later : (t : Pass) → Disjoint s t
         → ((i : ℕ) → i < length q → within t (at q i) ≡ true → at last i ≡ new_tone (by t) t q i)
         → (i : ℕ) → i < length p → within t (at p i) ≡ true → at last i ≡ new_tone (by t) t p i
     later t x f i h w =
-        let A = later-alike s t x o p in
-        f i (still i h) (A.section i h ∙ w) ∙ tone-alike (by t) t p q A i h w
+        let A = later_alike s t x o p in
+        f i (still i h) (A.section i h ∙ w) ∙ tone_alike (by t) t p q A i h w
 
     other : (i : ℕ) → i < length p → All (λ t. within t (at p i) ≡ false) (s ∷ ss) → at last i ≡ at p i
     other i h (more u n) =
-        let same : at q i ≡ at p i = passed-at (by s) s p i h ∙ out-tone (by s) s p i u in
+        let same : at q i ≡ at p i = passed_at (by s) s p i h ∙ out_tone (by s) s p i u in
         R.elsewhere i (still i h) (all_map (λ t x. ap (within t) same ∙ x) n) ∙ same
 
     ran-more : Ran (s ∷ ss) p last
     ran-more = record {
-      size = R.size ∙ length-passed (by s) s p;
+      size = R.size ∙ length_passed (by s) s p;
       sections = more own (all_both later d R.sections);
       elsewhere = other;
     }
@@ -115,7 +115,7 @@ module _ (by : Pass → Near) where
         let q = passed (by s) s p in
         of-then (pass_effect by s p) (run_effect by ss q)
         ∙ ap₂ ◌+◌ (of_pass s p) (total_first ss a e q
-        ∙ sum_same (all_map (λ t x. count-alike (by t) t p q (later-alike s t x o p) (f t)) d))
+        ∙ sum_same (all_map (λ t x. count_alike (by t) t p q (later_alike s t x o p) (f t)) d))
 
 -- ## Order
 
@@ -124,12 +124,12 @@ pub run_fine : (near : Near) (z : Shape) (ss : List Pass)
     → All (λ s. Ordered s × Narrower near (pass_neighbours z s)) ss → (p : List ℕ)
     → Fine near p (run (pass_neighbours z) ss p)
 unfolding run_effect
-run_fine near z [] none p = fine-refl near p
+run_fine near z [] none p = fine_refl near p
 run_fine near z (s ∷ ss) (more o a) p =
     let q = passed (pass_neighbours z s) s p in
-    fine-trans near p q _
+    fine_trans near p q _
     (record {
-      size = length-passed (pass_neighbours z s) s p;
+      size = length_passed (pass_neighbours z s) s p;
       keeps = passed_keeps near (pass_neighbours z s) o.1 (pass_sym z s) s p o.0;
     })
     (run_fine near z ss a q)

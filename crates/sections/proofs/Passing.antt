@@ -26,20 +26,20 @@ use Rattle.planes.proofs.Lists.{map_same, beyond_refl}
 use Rattle.components.specs.Regions.{region}
 use Rattle.rows.specs.Stretches.{None}
 use Rattle.components.specs.Floods.{Flooded, region_values, Gauged}
-use Rattle.components.proofs.Regions.{region-below, region-self}
-use Rattle.components.proofs.Whole.{plane-region}
+use Rattle.components.proofs.Regions.{region_below, region_self}
+use Rattle.components.proofs.Whole.{plane_region}
 use Rattle.histograms.specs.declared.Measures.{Measures}
 use Rattle.histograms.specs.Histograms.{Component, Alike, Measured, Tally, Gathered}
 use Rattle.histograms.specs.Histograms as histograms
-use Rattle.histograms.proofs.Components.{component-of, alike_of}
+use Rattle.histograms.proofs.Components.{component_of, alike_of}
 use Rattle.histograms.proofs.Measured.{measured_alike, tally_alike}
 use Rattle.model.specs.declared.Pass.{Pass}
 use Rattle.model.specs.Neighbourhoods.{pass_neighbours}
 use Rattle.model.proofs.Neighbourhoods.{pass_sym}
 use Rattle.model.specs.Passes.{within, inside, component_values, sufficient, changes, kept_back, retone, new_tone, passed}
 use Rattle.model.specs.Passes.{counted, component_count, pass_count}
-use Rattle.model.proofs.Components.{in-tone, out-tone, still-tone}
-use Rattle.model.proofs.Order.{in-of, length-passed, passed-at}
+use Rattle.model.proofs.Components.{in_tone, out_tone, still_tone}
+use Rattle.model.proofs.Order.{in-of, length_passed, passed_at}
 use Rattle.painting.specs.Painting.{number, On, Clear, Listed}
 use Rattle.sections.specs.Sections.{gone, Coded, Section, Treated, Treats}
 use Rattle.retoning.specs.Retoning.{inert, leaves, one_if, Done}
@@ -47,9 +47,9 @@ use Rattle.painting.specs.declared.Next.{Next}
 use Rattle.retoning.specs.declared.Treatment.{Treatment}
 use Rattle.retoning.proofs.Inert.{inert_still, inert_leaves, inert_kept}
 use Rattle.painting.proofs.Painting.{clear_both}
-use Rattle.sections.proofs.Regions.{region-values, same-region, counted-leads}
-use Rattle.sections.proofs.Sweep.{Sweeping, sweep_begin, none-leads, ahead, sweep-end, beyond}
-use Rattle.sections.proofs.Sweep.{had, mine-is, mine-left, mine-coded, it-leads, take-it}
+use Rattle.sections.proofs.Regions.{region_values_lem, same_region, counted_leads}
+use Rattle.sections.proofs.Sweep.{Sweeping, sweep_begin, none_leads, ahead, sweep_end, beyond}
+use Rattle.sections.proofs.Sweep.{had, mine_is, mine_left, mine_coded, it_leads, take_it}
 
 -- what the treatment requires, over any symmetric neighbour relation
 pub record Treatable (near : Near) (n code : ℕ) (s : Pass) (t : Next) (plane marks : List ℕ) : Type 0 where
@@ -138,8 +138,8 @@ module _ {near : Near} {n code : ℕ} {s : Pass} {t : Next} {plane₀ marks₀ q
   few-led f = omega (arith, count_le (Led f) (from 0 low), length_from 0 low)
 
   -- no more components than pixels passed
-  pub size-le : (q.retoned ≤ low) × ((q.kept ≤ low) × (q.left ≤ low))
-  size-le = (
+  pub size_le : (q.retoned ≤ low) × ((q.kept ≤ low) × (q.left ≤ low))
+  size_le = (
     omega (arith, W.retones, few-led (changes s)),
     (omega (arith, W.keeps, few-led (kept_back s)), omega (arith, W.lefts, few-led (leaves s))),
   )
@@ -162,8 +162,8 @@ module _ {near : Near} {n code : ℕ} {s : Pass} {t : Next} {plane₀ marks₀ q
     where
       over : (g : List ℕ → Bool) → count (Led g) (from 0 low) ≡ count (Led g) (from 0 to)
       over g = sym (count_over (Led g) low to h (λ p l r.
-          counted-leads near D.symm n code s plane₀ marks₀ D.whole D.coded g p (omega arith)
-          ∙ ap (◌&& g (component_values near s plane₀ p)) (none-leads D.symm real W.swept to k f p l r)))
+          counted_leads near D.symm n code s plane₀ marks₀ D.whole D.coded g p (omega arith)
+          ∙ ap (◌&& g (component_values near s plane₀ p)) (none_leads D.symm real W.swept to k f p l r)))
 
   -- the component of the next pixel that has the code
   module _ (h : low < n) (e : at marks low ≡ code) {marks' queue' : List ℕ} {k : ℕ}
@@ -176,20 +176,20 @@ module _ {near : Near} {n code : ℕ} {s : Pass} {t : Next} {plane₀ marks₀ q
     S = region near n marks code low
 
     mine : (x : ℕ) → S x ≡ true → Mine x ≡ true
-    mine x d = sym (mine-is D.symm real W.swept h e x) ∙ d
+    mine x d = sym (mine_is D.symm real W.swept h e x) ∙ d
 
     below : (x : ℕ) → S x ≡ true → x < n
-    below x d = region-below near n code marks low x d
+    below x d = region_below near n code marks low x d
 
     -- its pixels have their first values
     old_value : (x : ℕ) → S x ≡ true → at plane x ≡ at plane₀ x
     old_value x d =
-        let left : W.taken x ≡ false = mine-left D.symm real W.swept h e x (mine x d) in
+        let left : W.taken x ≡ false = mine_left D.symm real W.swept h e x (mine x d) in
         W.plane_are x (below x d) ∙ ap (λ (t : Bool). cond t (new_tone near s plane₀ x) (at plane₀ x)) left
 
     -- which are in the section
     old-within : (x : ℕ) → S x ≡ true → within s (at plane₀ x) ≡ true
-    old-within x d = D.coded.coded x (below x d) (mine-coded D.symm real W.swept h e x (mine x d))
+    old-within x d = D.coded.coded x (below x d) (mine_coded D.symm real W.swept h e x (mine x d))
 
     abbrev E : Enumerates queue' k n S
     E = F.enumerates
@@ -199,8 +199,8 @@ module _ {near : Near} {n code : ℕ} {s : Pass} {t : Next} {plane₀ marks₀ q
 
     -- what retoning requires
     pub component : Component plane queue' k s.a s.b
-    component = component-of E plane (omega (arith, D.whole, W.size_is)) D.order
-        (let r = E.every low h (region-self near n code marks low h) in omega (arith, r.below))
+    component = component_of E plane (omega (arith, D.whole, W.size_is)) D.order
+        (let r = E.every low h (region_self near n code marks low h) in omega (arith, r.below))
         (omega (arith, size_few, D.few))
         (λ x l d. subst (λ (v : ℕ). (s.a ≤ v) × (v ≤ s.b)) (sym (old_value x d)) (in-of s _ (old-within x d)))
 
@@ -213,8 +213,8 @@ module _ {near : Near} {n code : ℕ} {s : Pass} {t : Next} {plane₀ marks₀ q
     the_values : map (at plane) (keep S (from 0 n)) ≡ vs
     the_values =
         map_same S (at plane) (at plane₀) 0 n (λ x _ _ d. old_value x d)
-        ∙ ap (map (at plane₀)) (keep_same S Mine 0 n (λ x _ _. mine-is D.symm real W.swept h e x))
-        ∙ region-values near D.symm n code s plane₀ marks₀ D.whole D.coded low h low-coded
+        ∙ ap (map (at plane₀)) (keep_same S Mine 0 n (λ x _ _. mine_is D.symm real W.swept h e x))
+        ∙ region_values_lem near D.symm n code s plane₀ marks₀ D.whole D.coded low h low-coded
 
     -- the queue has the values that the model gives the component
     pub alike : Alike vs (histograms.values plane queue' k)
@@ -230,15 +230,15 @@ module _ {near : Near} {n code : ℕ} {s : Pass} {t : Next} {plane₀ marks₀ q
     -- it is treated
     module _ {plane' marks'' : List ℕ} {r : Treatment} (R : Done s t vs plane marks' queue' plane' marks'' k r) where
       same-vs : (p : ℕ) → p < n → Mine p ≡ true → vs ≡ component_values near s plane₀ p
-      same-vs p l d = same-region near D.symm n code s plane₀ marks₀ D.whole D.coded low p h l low-coded d
+      same-vs p l d = same_region near D.symm n code s plane₀ marks₀ D.whole D.coded low p h l low-coded d
 
       new-value : (p : ℕ) → p < n → Mine p ≡ true → at plane' p ≡ new_tone near s plane₀ p
       new-value p l d =
-          let c : S p ≡ true = mine-is D.symm real W.swept h e p ∙ d in
+          let c : S p ≡ true = mine_is D.symm real W.swept h e p ∙ d in
           let i = E.every p l c in
           subst (λ (x : ℕ). at plane' x ≡ retone s vs (at plane x)) i.holds (R.toned.drawn i.index i.below)
           ∙ ap₂ (λ (ws : List ℕ) (v : ℕ). retone s ws v) (same-vs p l d) (old_value p c)
-          ∙ sym (in-tone near s plane₀ p (old-within p c))
+          ∙ sym (in_tone near s plane₀ p (old-within p c))
 
       -- a pixel of another component is not listed
       unlisted : (p : ℕ) → Mine p ≡ false → (i : ℕ) → i < k → at queue' i ≡ p → ⊥
@@ -257,8 +257,8 @@ module _ {near : Near} {n code : ℕ} {s : Pass} {t : Next} {plane₀ marks₀ q
           → k + x ≡ count (Led f) (from 0 (low + 1))
       one_more f {k} {x} is one =
           let t : Led f low ≡ f vs =
-          counted-leads near D.symm n code s plane₀ marks₀ D.whole D.coded f low h
-          ∙ ap (◌&& f vs) (it-leads D.symm real W.swept h e) in
+          counted_leads near D.symm n code s plane₀ marks₀ D.whole D.coded f low h
+          ∙ ap (◌&& f vs) (it_leads D.symm real W.swept h e) in
           let c : one_if (Led f low) ≡ x = ap one_if t ∙ sym one in
           let sum : k + x ≡ count (Led f) (from 0 (suc low)) = omega (arith, c, is, count_upto (Led f) low) in
           sum ∙ ap (λ (z : ℕ). count (Led f) (from 0 z)) (sym (add-one low))
@@ -266,7 +266,7 @@ module _ {near : Near} {n code : ℕ} {s : Pass} {t : Next} {plane₀ marks₀ q
       new-marks : (p : ℕ) → at marks'' p ≡ cond (Mine p) (later near s t plane₀ p) (at marks p)
       new-marks p = elim (decide (Mine p)) [
         | inl d ↦
-            let c : S p ≡ true = mine-is D.symm real W.swept h e p ∙ d in
+            let c : S p ≡ true = mine_is D.symm real W.swept h e p ∙ d in
             let l = below p c in
             let i = E.every p l c in
             let gone : at marks' p ≡ 0 = F.marks_are p ∙ ap (λ (u : Bool). cond u 0 (at marks p)) c in
@@ -278,7 +278,7 @@ module _ {near : Near} {n code : ℕ} {s : Pass} {t : Next} {plane₀ marks₀ q
         | inr d ↦
             R.stays p (unlisted p d)
             ∙ F.marks_are p
-            ∙ ap (λ (u : Bool). cond u 0 (at marks p)) (mine-is D.symm real W.swept h e p ∙ d)
+            ∙ ap (λ (u : Bool). cond u 0 (at marks p)) (mine_is D.symm real W.swept h e p ∙ d)
             ∙ sym (ap (λ (u : Bool). cond u (later near s t plane₀ p) (at marks p)) d)
       ]
 
@@ -296,8 +296,8 @@ module _ {near : Near} {n code : ℕ} {s : Pass} {t : Next} {plane₀ marks₀ q
       its-sides : (side : Bool) → Clear side r.low r.high → (p : ℕ) → Mine p ≡ true
           → inert s (component_values near s plane₀ p) ≡ false → On t side (new_tone near s plane₀ p) → ⊥
       its-sides side c p d f o =
-          let l : p < n = region-below near n code marks₀ low p d in
-          let i = E.every p l (mine-is D.symm real W.swept h e p ∙ d) in
+          let l : p < n = region_below near n code marks₀ low p d in
+          let i = E.every p l (mine_is D.symm real W.swept h e p ∙ d) in
           let at_p : at plane' (at queue' i.index) ≡ new_tone near s plane₀ p =
           ap (at plane') i.holds ∙ new-value p l d in
           R.none side c (ap (inert s) (same-vs p l d) ∙ f) i.index i.below
@@ -313,10 +313,10 @@ module _ {near : Near} {n code : ℕ} {s : Pass} {t : Next} {plane₀ marks₀ q
             | inr d ↦ W.none side both.0 p (sym (ap (W.taken p ||◌) d ∙ or-false (W.taken p)) ∙ g) f o
           ]
 
-      pub take-one : Passing near n code s t plane₀ marks₀ queue₀ plane' marks'' queue' (low + 1) (together q r)
-      take-one = record {
+      pub take_one : Passing near n code s t plane₀ marks₀ queue₀ plane' marks'' queue' (low + 1) (together q r)
+      take_one = record {
         taken = λ p. W.taken p || Mine p;
-        swept = take-it D.symm real W.swept h e new-marks;
+        swept = take_it D.symm real W.swept h e new-marks;
         plane_are = planes;
         retones = one_more (changes s) W.retones R.retones;
         keeps = one_more (kept_back s) W.keeps R.keeps;
@@ -333,13 +333,13 @@ module _ {near : Near} {n code : ℕ} {s : Pass} {t : Next} {plane₀ marks₀ q
   -- all components are done
   module _ (end : n ≤ low) where
     last : (p : ℕ) → p < n → W.taken p ≡ eqb (at marks₀ p) code
-    last p h = sweep-end D.symm real W.swept end p h
+    last p h = sweep_end D.symm real W.swept end p h
 
     -- a pixel that has not the code stays as it is
     other-tone : (p : ℕ) → p < n → (at marks₀ p ≡ code → ⊥) → new_tone near s plane₀ p ≡ at plane₀ p
     other-tone p h f = elim (decide (within s (at plane₀ p))) [
-      | inl d ↦ still-tone near s plane₀ p (inert_still s (component_values near s plane₀ p) (D.coded.others p h d f))
-      | inr d ↦ out-tone near s plane₀ p d
+      | inl d ↦ still_tone near s plane₀ p (inert_still s (component_values near s plane₀ p) (D.coded.others p h d f))
+      | inr d ↦ out_tone near s plane₀ p d
     ]
 
     plane-at : (p : ℕ) → p < n → at plane p ≡ new_tone near s plane₀ p
@@ -390,9 +390,9 @@ module _ {near : Near} {n code : ℕ} {s : Pass} {t : Next} {plane₀ marks₀ q
         → Treated near n code s t plane₀ marks₀ queue₀ plane marks queue r
     unfolding gone
     treated r retoned kept left = record {
-      plane_is = ext_get_or 0 plane (passed near s plane₀) (W.size_is ∙ sym (length-passed near s plane₀))
+      plane_is = ext_get_or 0 plane (passed near s plane₀) (W.size_is ∙ sym (length_passed near s plane₀))
           (λ i h. let l : i < n = omega (arith, D.whole, W.size_is) in
-          plane-at i l ∙ sym (passed-at near s plane₀ i (omega (arith, D.whole))));
+          plane-at i l ∙ sym (passed_at near s plane₀ i (omega (arith, D.whole))));
       retoned_is = retoned ∙ W.retones ∙ all-retoned;
       kept_is = ap (◌+ gone near n code s plane₀ marks₀) (kept ∙ W.keeps)
           ∙ all-counted (kept_back s) (sufficient s) (inert_kept s);
@@ -409,9 +409,9 @@ module _ {near : Near} {n code : ℕ} {s : Pass} {t : Next} {plane₀ marks₀ q
       queue_rest = W.queue_rest;
     }
 
-    pub pass-end : (r : Treatment) → r.retoned ≡ q.retoned → r.kept ≡ q.kept → r.left ≡ q.left
+    pub pass_end : (r : Treatment) → r.retoned ≡ q.retoned → r.kept ≡ q.kept → r.left ≡ q.left
         → r.low ≡ q.low → r.high ≡ q.high → Treats near n code s t plane₀ marks₀ queue₀ plane marks queue r
-    pass-end r retoned kept left l g = record {
+    pass_end r retoned kept left l g = record {
       treated = treated r retoned kept left;
       none = λ side c p h e f o. W.none side (sym (ap₂ (λ (x y : Bool). cond side x y) l g) ∙ c) p
           (last p h ∙ eq-eqb _ _ e) f (subst (On t side) (plane-at p h) o);
@@ -455,15 +455,15 @@ module _ {near : Near} {n code : ℕ} {s : Pass} {t : Next} {plane marks queue m
   abbrev begun : Passing near n code s t plane marks queue plane marks queue 0 untold
   begun = pass_begin near n code s t plane marks queue
 
-  pub one-component : {plane' marks'' : List ℕ} {r : Treatment}
+  pub one_component : {plane' marks'' : List ℕ} {r : Treatment}
       → Done s t (component_values near s plane 0) plane marks' queue' plane' marks'' k r
       → Treats near n code s t plane marks queue plane' marks'' queue' r
-  one-component {marks'' = marks''} {r} R =
+  one_component {marks'' = marks''} {r} R =
       let none : None marks'' code 1 n = λ p _ l d.
       real D begun p (sym (new-marks D begun h e F R p
       ∙ ap (λ (u : Bool). cond u (later near s t plane p) (at marks p)) (all p l)) ∙ d) in
-      let W = go_on D (take-one D begun h e F R) n (omega arith) (omega arith) none in
-      pass-end D W (omega arith) r (omega arith) (omega arith) (omega arith) refl refl
+      let W = go_on D (take_one D begun h e F R) n (omega arith) (omega arith) none in
+      pass_end D W (omega arith) r (omega arith) (omega arith) (omega arith) refl refl
 
 -- its component has all its pixels
 pub whole_size : {near : Near} {n code : ℕ} {s : Pass} {plane marks : List ℕ} → Symmetric near → length plane ≡ n
@@ -472,8 +472,8 @@ pub whole_size : {near : Near} {n code : ℕ} {s : Pass} {plane marks : List ℕ
     → length (component_values near s plane p) ≡ n
 whole_size {near} {n} {code} {s} {plane} {marks} symm whole K some e all p h =
     let Mine : ℕ → Bool = region near n marks code 0 in
-    ap length (sym (same-region near symm n code s plane marks whole K 0 p some h e (all p h))
-    ∙ sym (region-values near symm n code s plane marks whole K 0 some e))
+    ap length (sym (same_region near symm n code s plane marks whole K 0 p some h e (all p h))
+    ∙ sym (region_values_lem near symm n code s plane marks whole K 0 some e))
     ∙ length-map (keep Mine (from 0 n)) (at plane)
     ∙ count_same Mine (λ x. true) n all
     ∙ count_all (from 0 n)
@@ -484,13 +484,13 @@ module _ {near : Near} {n code : ℕ} {s : Pass} {t : Next} {plane marks queue m
     (D : Treatable near n code s t plane marks) (h : 0 < n) (e : at marks 0 ≡ code)
     (F : Flooded near n code 0 marks queue marks' queue' c.size)
     (is : histograms.values plane queue' c.size ≡ plane) where
-  pub plane-alike : Alike (component_values near s plane 0) plane
-  plane-alike = subst (Alike (component_values near s plane 0)) is
+  pub plane_alike : Alike (component_values near s plane 0) plane
+  plane_alike = subst (Alike (component_values near s plane 0)) is
       (alike D (pass_begin near n code s t plane marks queue) h e F)
 
-  pub plane-gathered : {counts : List ℕ} → Measured plane c → Tally plane counts
+  pub plane_gathered : {counts : List ℕ} → Measured plane c → Tally plane counts
       → Gathered plane queue' counts c s.a s.b
-  plane-gathered {counts} M T = record {
+  plane_gathered {counts} M T = record {
     component = component D (pass_begin near n code s t plane marks queue) h e F;
     measured = subst (λ (vs : List ℕ). Measured vs c) (sym is) M;
     tally = subst (λ (vs : List ℕ). Tally vs counts) (sym is) T;
@@ -531,4 +531,4 @@ pub whole_plane : (z : Shape) (s : Pass) (code : ℕ) (marks : List ℕ) → 1 �
     → ((p : ℕ) → p < pixels z → at marks p ≡ code) → (p : ℕ) → p < pixels z
     → region (pass_neighbours z s) (pixels z) marks code 0 p ≡ true
 unfolding pass_neighbours
-whole_plane z s = plane-region z s.neighbours
+whole_plane z s = plane_region z s.neighbours

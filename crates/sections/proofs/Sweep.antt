@@ -19,8 +19,8 @@ use Rattle.planes.proofs.Counts.{every_true, every_false}
 use Rattle.rows.specs.Codes.{alike}
 use Rattle.components.specs.Regions.{region, leads}
 use Rattle.rows.specs.Stretches.{None}
-use Rattle.components.proofs.Regions.{region-below, region-linked, region-self, region-chain, region-coded}
-use Rattle.components.proofs.Regions.{region-sym, region-whole, region-stays, along, was, is}
+use Rattle.components.proofs.Regions.{region_below, region_linked, region_self, region_chain, region_coded}
+use Rattle.components.proofs.Regions.{region_sym, region_whole, region_stays, along, was, is}
 
 -- a pixel before `low` that has p in its component
 pub record Earlier (near : Near) (n code : ℕ) (marks : List ℕ) (low p : ℕ) : Type 0 where
@@ -84,7 +84,7 @@ module _ {near : Near} {n code : ℕ} {marks₀ marks : List ℕ} {gone : ℕ �
       let Link : Near = alike near marks₀ code in
       let hq : q < n = omega arith in
       let l : linked Link n q p ≡ true =
-      sym (region-linked near n code marks₀ q p k) ∙ region-sym near n code marks₀ symm q p hq k ∙ e in
+      sym (region_linked near n code marks₀ q p k) ∙ region_sym near n code marks₀ symm q p hq k ∙ e in
       let f : every (λ j. not (linked Link n j p)) (from 0 p) ≡ false =
       every_false (λ j. not (linked Link n j p)) 0 p q (omega arith) (omega arith) (ap not l) in
       ap (eqb (at marks₀ p) code &&◌) f ∙ and-false (eqb (at marks₀ p) code)
@@ -94,12 +94,12 @@ module _ {near : Near} {n code : ℕ} {marks₀ marks : List ℕ} {gone : ℕ �
   uncoded p f = ap (◌&& first n (alike near marks₀ code) p) (ne_eqb (at marks₀ p) code f)
 
   -- the pixels that the search passes lead none
-  pub none-leads : (to : ℕ) → to ≤ n → None marks code low to → (p : ℕ) → low ≤ p → p < to
+  pub none_leads : (to : ℕ) → to ≤ n → None marks code low to → (p : ℕ) → low ≤ p → p < to
       → leads near n marks₀ code p ≡ false
-  none-leads to k f p h l = elim (eq_or_not (at marks₀ p) code) [
+  none_leads to k f p h l = elim (eq_or_not (at marks₀ p) code) [
     | inl e ↦
         let r = W.earlier p (is-gone p e (f p h l)) in
-        let back = region-sym near n code marks₀ symm p r.pixel (omega arith) r.below ∙ r.leads_to in
+        let back = region_sym near n code marks₀ symm p r.pixel (omega arith) r.below ∙ r.leads_to in
         leads-not p r.pixel (omega (arith, r.before)) (omega arith) back
     | inr e ↦ uncoded p e
   ]
@@ -123,30 +123,30 @@ module _ {near : Near} {n code : ℕ} {marks₀ marks : List ℕ} {gone : ℕ �
     Mine = region near n marks₀ code low
 
     -- its component is what it was, and none of it is gone
-    pub mine-is : (x : ℕ) → region near n marks code low x ≡ Mine x
-    mine-is x = region-stays near n code marks₀ marks gone other real W.marks_are W.whole low x h e
+    pub mine_is : (x : ℕ) → region near n marks code low x ≡ Mine x
+    mine_is x = region_stays near n code marks₀ marks gone other real W.marks_are W.whole low x h e
 
-    pub mine-left : (x : ℕ) → Mine x ≡ true → gone x ≡ false
-    mine-left x d =
-        let chain = region-chain near n code marks₀ low x h d in
+    pub mine_left : (x : ℕ) → Mine x ≡ true → gone x ≡ false
+    mine_left x d =
+        let chain = region_chain near n code marks₀ low x h d in
         sym (along near n code marks₀ gone W.whole h chain).1 ∙ had.0
 
-    pub mine-coded : (x : ℕ) → Mine x ≡ true → at marks₀ x ≡ code
-    mine-coded x d = region-coded near n code marks₀ low x h had.1 d
+    pub mine_coded : (x : ℕ) → Mine x ≡ true → at marks₀ x ≡ code
+    mine_coded x d = region_coded near n code marks₀ low x h had.1 d
 
     -- the next pixel that has the code leads its component
     not-mine : (j : ℕ) → j < low → not (Mine j) ≡ true
     not-mine j l = go (Mine j) refl
       where
         go : (t : Bool) → Mine j ≡ t → not t ≡ true
-        go true d = absurd (true≢false (sym (W.passed j l (mine-coded j d)) ∙ mine-left j d))
+        go true d = absurd (true≢false (sym (W.passed j l (mine_coded j d)) ∙ mine_left j d))
         go false d = refl
 
-    pub it-leads : leads near n marks₀ code low ≡ true
+    pub it_leads : leads near n marks₀ code low ≡ true
     unfolding leads first
-    it-leads = and_intro (eq-eqb _ _ had.1) (every_true (λ j. not (linked (alike near marks₀ code) n j low)) 0 low
+    it_leads = and_intro (eq-eqb _ _ had.1) (every_true (λ j. not (linked (alike near marks₀ code) n j low)) 0 low
         (λ j _ l. let l'' : j < low = omega arith in let hj : j < n = omega arith in
-        ap not (sym (region-linked near n code marks₀ j low h) ∙ region-sym near n code marks₀ symm j low hj h)
+        ap not (sym (region_linked near n code marks₀ j low h) ∙ region_sym near n code marks₀ symm j low hj h)
         ∙ not-mine j l''))
 
     or-cond : (s t : Bool) (o x : ℕ) → cond t o (cond s o x) ≡ cond (s || t) o x
@@ -156,20 +156,20 @@ module _ {near : Near} {n code : ℕ} {marks₀ marks : List ℕ} {gone : ℕ �
     or-cond false false o x = refl
 
     -- its component is flooded, and gets its other marks
-    pub take-it : {marks' : List ℕ} → ((p : ℕ) → at marks' p ≡ cond (Mine p) (other p) (at marks p))
+    pub take_it : {marks' : List ℕ} → ((p : ℕ) → at marks' p ≡ cond (Mine p) (other p) (at marks p))
         → Sweeping near n code marks₀ marks' (λ p. gone p || Mine p) other (low + 1)
-    take-it F = record {
+    take_it F = record {
       order = omega arith;
       marks_are = λ p. F p
           ∙ ap (cond (Mine p) (other p)) (W.marks_are p)
           ∙ or-cond (gone p) (Mine p) (other p) (at marks₀ p);
-      whole = λ u v hu hv a. ap₂ ◌||◌ (W.whole u v hu hv a) (region-whole near n code marks₀ symm low u v hu hv a);
+      whole = λ u v hu hv a. ap₂ ◌||◌ (W.whole u v hu hv a) (region_whole near n code marks₀ symm low u v hu hv a);
       inside = λ p d. elim (or_cases (gone p) (Mine p) d) [
         | inl g ↦ W.inside p g
-        | inr g ↦ (region-below near n code marks₀ low p g, region-coded near n code marks₀ low p h had.1 g)
+        | inr g ↦ (region_below near n code marks₀ low p g, region_coded near n code marks₀ low p h had.1 g)
       ];
       passed = λ p l a. let l' : p ≤ low = omega arith in elim (eq-or-lt_of_le l') [
-        | inl q ↦ or_inr (gone p) (Mine p) (ap Mine q ∙ region-self near n code marks₀ low h)
+        | inl q ↦ or_inr (gone p) (Mine p) (ap Mine q ∙ region_self near n code marks₀ low h)
         | inr q ↦ or_inl (gone p) (Mine p) (W.passed p q a)
       ];
       earlier = λ p d. elim (or_cases (gone p) (Mine p) d) [
@@ -179,8 +179,8 @@ module _ {near : Near} {n code : ℕ} {marks₀ marks : List ℕ} {gone : ℕ �
     }
 
   -- at the end those that had the code are gone
-  pub sweep-end : n ≤ low → (p : ℕ) → p < n → gone p ≡ eqb (at marks₀ p) code
-  sweep-end k p h =
+  pub sweep_end : n ≤ low → (p : ℕ) → p < n → gone p ≡ eqb (at marks₀ p) code
+  sweep_end k p h =
       same_test (gone p) (eqb (at marks₀ p) code)
       (λ d. eq-eqb _ _ (W.inside p d).1)
       (λ d. W.passed p (omega arith) (eqb-true _ _ d))

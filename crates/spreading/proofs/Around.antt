@@ -16,58 +16,58 @@ use Rattle.planes.specs.Neighbours.{four, eight}
 use Rattle.planes.specs.Shapes.{pixels, neighbours, Narrower}
 use Rattle.planes.specs.declared.Shape.{Shape}
 use Rattle.planes.proofs.Tests.{less_or_not}
-use Rattle.planes.proofs.Neighbours.{down-of, right_of, up_of, four_sym, sides}
+use Rattle.planes.proofs.Neighbours.{down_of, right_of, up_of, four_sym, sides}
 use Rattle.planes.proofs.Eight.{NextTo, Across, four_eight, around, across}
 use Rattle.rows.specs.Rows.{in_row, row_end}
 use Rattle.rows.specs.Runs.{Taken}
-use Rattle.rows.proofs.Rows.{row-bounds, in-row, in-row-next, in-row-sym}
-use Rattle.rows.proofs.Taken.{taken-room, taken-was}
+use Rattle.rows.proofs.Rows.{row_bounds, in_row_lem, in_row_next, in_row_sym}
+use Rattle.rows.proofs.Taken.{taken_room, taken_was}
 use Rattle.spreading.specs.Spreads.{Left, Right, column, Clear, Reaches, Spread, ColumnReached, Reachable}
 use Rattle.spreading.specs.Spreads.{Spreadable, Begun, RunBegun, SpreadOn}
-use Rattle.spreading.proofs.Spreading.{none_yet, row_ends, next-column}
-use Rattle.spreading.proofs.Columns.{column-below, column-above, column-cases}
+use Rattle.spreading.proofs.Spreading.{none_yet, row_ends, next_column}
+use Rattle.spreading.proofs.Columns.{column_below, column_above, column_cases}
 
 -- ## Neighbours in a row, and in a column, are among the four and the eight
 
 module _ (w : ℕ) (wide : 1 ≤ w) where
   right_is : (p : ℕ) → (p + 1) / w ≡ p / w → four w p (p + 1) ≡ true
   right_is p e =
-      let bounds = row-bounds w (p + 1) wide in
+      let bounds = row_bounds w (p + 1) wide in
       let same = ap (◌* w) e in
       right_of w p wide (omega (arith, div-add-mod' p w))
 
   row-four : Narrower (in_row w) (four w)
   row-four p q e =
-      let row = (in-row w p q e).0 in
-      elim (in-row w p q e).1 [
+      let row = (in_row_lem w p q e).0 in
+      elim (in_row_lem w p q e).1 [
         | inl d ↦ subst (λ (x : ℕ). four w p x ≡ true) d (right_is p (ap (◌/ w) d ∙ row))
         | inr d ↦ four_sym w p q ∙ subst (λ (x : ℕ). four w q x ≡ true) d (right_is q (ap (◌/ w) d ∙ sym row))
       ]
 
   column-four : Narrower (column w) (four w)
-  column-four p q e = elim (column-cases w p q e) [
-    | inl d ↦ rw d (down-of w p wide)
+  column-four p q e = elim (column_cases w p q e) [
+    | inl d ↦ rw d (down_of w p wide)
     | inr d ↦ up_of w p q wide d
   ]
 
-  pub row-eight : Narrower (in_row w) (eight w)
-  row-eight p q e = four_eight w p q (row-four p q e)
+  pub row_eight : Narrower (in_row w) (eight w)
+  row_eight p q e = four_eight w p q (row-four p q e)
 
   -- the pixels next to p in its row are neighbours in it
   next-in-row : (p q : ℕ) → NextTo w (p % w) p q → in_row w p q ≡ true
   next-in-row p q (inl e) =
       let d = e.0 in
       let h = e.1 in
-      in-row-next w (p / w) p q (row-bounds w p wide).0 (omega (arith, div-add-mod' p w)) d
+      in_row_next w (p / w) p q (row_bounds w p wide).0 (omega (arith, div-add-mod' p w)) d
   next-in-row p q (inr e) =
       let d = e.0 in
       let h = e.1 in
-      in-row-sym w p q
-      ∙ in-row-next w (p / w) q p (omega (arith, div-add-mod' p w)) (row-bounds w p wide).1 (sym d)
+      in_row_sym w p q
+      ∙ in_row_next w (p / w) q p (omega (arith, div-add-mod' p w)) (row_bounds w p wide).1 (sym d)
 
   -- what is in the column of the pixel itself, or of one next to it in its row, is one of the eight
   across-eight : (p s q : ℕ) → (s ≡ p) ⊎ NextTo w (p % w) p s → column w s q ≡ true → eight w p q ≡ true
-  across-eight p s q l e = across w p wide q (record { middle = s; line = l; beyond = column-cases w s q e })
+  across-eight p s q l e = across w p wide q (record { middle = s; line = l; beyond = column_cases w s q e })
 
 -- the shape's own neighbours
 pub row_neighbours : (z : Shape) → 1 ≤ z.w → Narrower (in_row z.w) (neighbours z)
@@ -84,21 +84,21 @@ neighbour_cases : (z : Shape) → 1 ≤ z.w → (p q : ℕ) → neighbours z p q
 unfolding neighbours
 neighbour_cases z wide p q e = elim (sides z.w p wide q e) [
   | inl f ↦ inl (next-in-row z.w wide p q f)
-  | inr (inl f) ↦ inr (column-below z.w p q f)
-  | inr (inr f) ↦ inr (column-above z.w p q f)
+  | inr (inl f) ↦ inr (column_below z.w p q f)
+  | inr (inr f) ↦ inr (column_above z.w p q f)
 ]
 
 -- ## The pixels beside p in its row
 
 module _ (w p : ℕ) (wide : 1 ≤ w) where
-  pub left-line : {l : ℕ} → Left (p / w * w) p l → (l ≡ p) ⊎ NextTo w (p % w) p l
-  left-line f = elim (less_or_not (p / w * w) p) [
+  pub left_line : {l : ℕ} → Left (p / w * w) p l → (l ≡ p) ⊎ NextTo w (p % w) p l
+  left_line f = elim (less_or_not (p / w * w) p) [
     | inl h ↦ inr (inr (f.1 h, omega (arith, div-add-mod' p w)))
     | inr h ↦ inl (f.0 h)
   ]
 
-  pub right-line : {r : ℕ} → Right (row_end w p) p r → (r ≡ p) ⊎ NextTo w (p % w) p r
-  right-line f = elim (less_or_not (p + 1) (row_end w p)) [
+  pub right_line : {r : ℕ} → Right (row_end w p) p r → (r ≡ p) ⊎ NextTo w (p % w) p r
+  right_line f = elim (less_or_not (p + 1) (row_end w p)) [
     | inl h ↦ inr (inl (f.1 h, omega (arith, div-add-mod' p w)))
     | inr h ↦ inl (f.0 h)
   ]
@@ -119,24 +119,24 @@ one_left {row} {p} L M = elim (less_or_not row p) [
 module _ {marks queue : List ℕ} {z : Shape} {inverse code p tail : ℕ}
     (S : Spreadable marks queue z inverse code p tail) where
   -- pixels were taken meanwhile
-  pub still-spreadable : {P : ℕ → Type 0} {tail' : ℕ} {marks' queue' : List ℕ}
+  pub still_spreadable : {P : ℕ → Type 0} {tail' : ℕ} {marks' queue' : List ℕ}
       → Taken P (pixels z) code marks queue tail marks' queue' tail' → Spreadable marks' queue' z inverse code p tail'
-  still-spreadable T =
-      let was = taken-was S.reachable.room T in
+  still_spreadable T =
+      let was = taken_was S.reachable.room T in
       record {
         reachable = record {
           size = S.reachable.size;
           inverse_is = S.reachable.inverse_is;
           inside = S.reachable.inside;
           off = λ e. S.reachable.off (was p e);
-          room = taken-room S.reachable.room T;
+          room = taken_room S.reachable.room T;
         };
         shut = λ x e d. S.shut x e (was x d);
       }
 
   -- a pixel that is p or next to it in its row has not the code
-  pub beside-reachable : {s : ℕ} → (s ≡ p) ⊎ NextTo z.w (p % z.w) p s → Reachable marks queue z inverse code s tail
-  beside-reachable {s} l = record {
+  pub beside_reachable : {s : ℕ} → (s ≡ p) ⊎ NextTo z.w (p % z.w) p s → Reachable marks queue z inverse code s tail
+  beside_reachable {s} l = record {
     size = S.reachable.size;
     inverse_is = S.reachable.inverse_is;
     inside = inside l;
@@ -167,14 +167,14 @@ module _ {marks queue : List ℕ} {z : Shape} {inverse code p tail : ℕ}
 
   -- ## By four neighbours
 
-  pub spread-four : {tail' : ℕ} {marks' queue' : List ℕ} → ColumnReached w n code p marks queue tail marks' queue' tail'
+  pub spread_four : {tail' : ℕ} {marks' queue' : List ℕ} → ColumnReached w n code p marks queue tail marks' queue' tail'
       → Spread (neighbours z) (neighbours z) w n code p marks queue tail marks' queue' tail'
-  spread-four C =
-      let reaches = next-column (row_neighbours z wide) S.reachable none_yet (column_neighbours z wide p) C in
+  spread_four C =
+      let reaches = next_column (row_neighbours z wide) S.reachable none_yet (column_neighbours z wide p) C in
       record {
         reaches = reaches;
         closed = λ q h e d. elim (neighbour_cases z wide p q e) [
-          | inl f ↦ S.shut q f (taken-was S.reachable.room reaches.taken q d)
+          | inl f ↦ S.shut q f (taken_was S.reachable.room reaches.taken q d)
           | inr f ↦ C.closed q h f d
         ];
       }
@@ -188,23 +188,23 @@ module _ {marks queue : List ℕ} {z : Shape} {inverse code p tail : ℕ}
       (C : ColumnReached w n code s marks₁ queue₁ tail₁ marks₂ queue₂ tail₂) where
     more-reaches : Reaches (eight w) (eight w) w n code p marks queue tail marks₂ queue₂ tail₂
     more-reaches =
-        next-column (row-eight w wide) S.reachable K (λ x. across-eight w wide p s x line) C
+        next_column (row_eight w wide) S.reachable K (λ x. across-eight w wide p s x line) C
 
     -- what was clear stays so
     still-clear : (q : ℕ) → Clear w n code marks₁ q → Clear w n code marks₂ q
-    still-clear q f x h e d = f x h e (taken-was (taken-room S.reachable.room K.taken) C.reaches.taken x d)
+    still-clear q f x h e d = f x h e (taken_was (taken_room S.reachable.room K.taken) C.reaches.taken x d)
 
   -- p was begun already
-  pub begun-before : Begun w n code marks p → RunBegun w n code p marks queue tail marks queue tail
-  begun-before B = record { reaches = none_yet; begun = B }
+  pub begun_before : Begun w n code marks p → RunBegun w n code p marks queue tail marks queue tail
+  begun_before B = record { reaches = none_yet; begun = B }
 
   -- the columns of the pixel left of p and of p itself were reached
-  pub run-begun : {l tail₁ tail₂ : ℕ} {marks₁ queue₁ marks₂ queue₂ : List ℕ} → Left (p / w * w) p l
+  pub run_begun : {l tail₁ tail₂ : ℕ} {marks₁ queue₁ marks₂ queue₂ : List ℕ} → Left (p / w * w) p l
       → ColumnReached w n code l marks queue tail marks₁ queue₁ tail₁
       → ColumnReached w n code p marks₁ queue₁ tail₁ marks₂ queue₂ tail₂
       → RunBegun w n code p marks queue tail marks₂ queue₂ tail₂
-  run-begun {l} {marks₂ = marks₂} L C D =
-      let first = more-reaches none_yet (left-line w p wide L) C in
+  run_begun {l} {marks₂ = marks₂} L C D =
+      let first = more-reaches none_yet (left_line w p wide L) C in
       record {
         reaches = more-reaches first (inl refl) D;
         begun = record {
@@ -219,7 +219,7 @@ module _ {marks queue : List ℕ} {z : Shape} {inverse code p tail : ℕ}
       (B : RunBegun w n code p marks queue tail marks₁ queue₁ tail₁) (R : Right (row_end w p) p r)
       (C : ColumnReached w n code r marks₁ queue₁ tail₁ marks₂ queue₂ tail₂) where
     line : (r ≡ p) ⊎ NextTo w (p % w) p r
-    line = right-line w p wide R
+    line = right_line w p wide R
 
     all-reaches : Reaches (eight w) (eight w) w n code p marks queue tail marks₂ queue₂ tail₂
     all-reaches = more-reaches B.reaches line C
@@ -240,8 +240,8 @@ module _ {marks queue : List ℕ} {z : Shape} {inverse code p tail : ℕ}
 
     across-column : (q : ℕ) (a : Across w (p % w) p q) → column w a.middle q ≡ true
     across-column q a = elim a.beyond [
-      | inl f ↦ column-below w a.middle q f
-      | inr f ↦ column-above w a.middle q f
+      | inl f ↦ column_below w a.middle q f
+      | inr f ↦ column_above w a.middle q f
     ]
 
     -- the pixel left of r is p, or that left of p
@@ -260,12 +260,12 @@ module _ {marks queue : List ℕ} {z : Shape} {inverse code p tail : ℕ}
             let x : r ≡ p / w * w + (p % w + 1) = omega (arith, div-add-mod' p w) in
             ap (◌/ w) x ∙ digits_div (p / w) (omega (arith, div-add-mod' p w))
 
-    pub spread-on : SpreadOn w n code p marks queue tail marks₂ queue₂ (record { tail = tail₂; reached = r })
-    spread-on = record {
+    pub spread_on : SpreadOn w n code p marks queue tail marks₂ queue₂ (record { tail = tail₂; reached = r })
+    spread_on = record {
       spread = record {
         reaches = all-reaches;
         closed = λ q h e d. elim (around w p wide q e) [
-          | inl f ↦ S.shut q (next-in-row w wide p q f) (taken-was S.reachable.room all-reaches.taken q d)
+          | inl f ↦ S.shut q (next-in-row w wide p q f) (taken_was S.reachable.room all-reaches.taken q d)
           | inr a ↦ line_clear a.middle a.line q h (across-column q a) d
         ];
       };

@@ -17,9 +17,9 @@ use Rattle.planes.proofs.Tests.{less_or_not}
 use Rattle.rows.specs.Rows.{in_row, row_end, Width}
 use Rattle.rows.specs.Codes.{Joined, Shut}
 use Rattle.rows.specs.Runs.{Room, Taken, none, Reached}
-use Rattle.rows.proofs.Rows.{row-end-le, width_of}
+use Rattle.rows.proofs.Rows.{row_end_le, width_of}
 use Rattle.rows.proofs.Codes.{alike_on}
-use Rattle.rows.proofs.Taken.{room-less, taken-kept, taken-room, taken-was, taken-map, taken-join}
+use Rattle.rows.proofs.Taken.{room_less, taken_kept, taken_room, taken_was, taken_map, taken_join}
 use Rattle.spreading.specs.Spreads.{column, JoinedBeyond, Reaches, ColumnReached, Reachable}
 
 -- q is next to p, or p itself
@@ -38,11 +38,11 @@ further : {beside near : Near} {w n code p tail tail' tail'' : ℕ} {marks queue
     → ((k : ℕ) → tail' ≤ k → k < tail'' → Shut (in_row w) code marks'' (at queue'' k))
     → Reaches beside near w n code p marks queue tail marks'' queue'' tail''
 further {w = w} {tail' = tail'} R K more rows = record {
-  taken = taken-join K.taken more;
+  taken = taken_join K.taken more;
   rows = λ k a b x. elim (less_or_not k tail') [
     | inl h ↦
-        let same = (taken-kept more).1 k h in
-        let was = taken-was (taken-room R K.taken) more in
+        let same = (taken_kept more).1 k h in
+        let was = taken_was (taken_room R K.taken) more in
         λ e d. K.rows k a h x (subst (λ (y : ℕ). in_row w y x ≡ true) same e) (was x d)
     | inr h ↦ rows k h b x
   ];
@@ -50,17 +50,17 @@ further {w = w} {tail' = tail'} R K more rows = record {
 
 -- a row ends within the plane
 pub row_ends : (z : Shape) → SizedShape z → (q : ℕ) → q < pixels z → row_end z.w q ≤ pixels z
-row_ends z size q h = row-end-le z.w (pixels z) q size.wide (mul-mod_right z.w z.h) h
+row_ends z size q h = row_end_le z.w (pixels z) q size.wide (mul-mod_right z.w z.h) h
 
 module _ {beside near : Near} {z : Shape} {inverse code p tail : ℕ} {marks queue : List ℕ}
     (rows-near : Narrower (in_row z.w) near) (P : Reachable marks queue z inverse code p tail) where
   -- what `reach` requires
-  pub may-reach : {q tail' : ℕ} {marks' queue' : List ℕ}
+  pub may_reach : {q tail' : ℕ} {marks' queue' : List ℕ}
       → Reaches beside near z.w (pixels z) code p marks queue tail marks' queue' tail'
       → Side beside (pixels z) p q → Width z.w inverse × Room marks' queue' (row_end z.w q) code tail'
-  may-reach {q} K S = (
+  may_reach {q} K S = (
     width_of P.size P.inverse_is,
-    room-less (taken-room P.room K.taken) (row_end z.w q) (row_ends z P.size q S.below),
+    room_less (taken_room P.room K.taken) (row_end z.w q) (row_ends z P.size q S.below),
   )
 
   -- ## A pixel was reached
@@ -70,7 +70,7 @@ module _ {beside near : Near} {z : Shape} {inverse code p tail : ℕ} {marks que
       (S : Side beside (pixels z) p q)
       (T : Reached z.w code q marks' queue' tail' marks'' queue'' tail'') where
     was : (x : ℕ) → at marks' x ≡ code → at marks x ≡ code
-    was = taken-was P.room K.taken
+    was = taken_was P.room K.taken
 
     nearby : at marks' q ≡ code → beside p q ≡ true
     nearby e = elim S.at_side [
@@ -94,13 +94,13 @@ module _ {beside near : Near} {z : Shape} {inverse code p tail : ℕ} {marks que
 
     now-taken : Taken (JoinedBeyond beside near (pixels z) marks code p) (pixels z) code marks' queue' tail'
         marks'' queue'' tail''
-    now-taken = taken-map (row_ends z P.size q S.below) beyond T.taken
+    now-taken = taken_map (row_ends z P.size q S.below) beyond T.taken
 
-    pub now-was : (x : ℕ) → at marks'' x ≡ code → at marks' x ≡ code
-    now-was = taken-was (taken-room P.room K.taken) now-taken
+    pub now_was : (x : ℕ) → at marks'' x ≡ code → at marks' x ≡ code
+    now_was = taken_was (taken_room P.room K.taken) now-taken
 
-    pub next-reach : Reaches beside near z.w (pixels z) code p marks queue tail marks'' queue'' tail''
-    next-reach = further P.room K now-taken T.rows
+    pub next_reach : Reaches beside near z.w (pixels z) code p marks queue tail marks'' queue'' tail''
+    next_reach = further P.room K now-taken T.rows
 
 -- ## The pixels above and below a pixel s were reached
 
@@ -111,7 +111,7 @@ module _ {near : Near} {z : Shape} {inverse code p tail : ℕ} {marks queue : Li
     (beyond : (x : ℕ) → column z.w s x ≡ true → near p x ≡ true)
     (C : ColumnReached z.w (pixels z) code s marks' queue' tail' marks'' queue'' tail'') where
   had : (x : ℕ) → at marks' x ≡ code → at marks x ≡ code
-  had = taken-was P.room K.taken
+  had = taken_was P.room K.taken
 
   -- what was reached from s is beyond p
   from-p : (x : ℕ) → JoinedBeyond (column z.w) (in_row z.w) (pixels z) marks' code s x
@@ -129,7 +129,7 @@ module _ {near : Near} {z : Shape} {inverse code p tail : ℕ} {marks queue : Li
 
   more-taken : Taken (JoinedBeyond near near (pixels z) marks code p) (pixels z) code marks' queue' tail'
       marks'' queue'' tail''
-  more-taken = taken-map (omega arith) from-p C.reaches.taken
+  more-taken = taken_map (omega arith) from-p C.reaches.taken
 
-  pub next-column : Reaches near near z.w (pixels z) code p marks queue tail marks'' queue'' tail''
-  next-column = further P.room K more-taken C.reaches.rows
+  pub next_column : Reaches near near z.w (pixels z) code p marks queue tail marks'' queue'' tail''
+  next_column = further P.room K more-taken C.reaches.rows

@@ -12,8 +12,8 @@ module _ (output : List ℕ) (at : ℕ) where
   head-length : (u : List ℕ) → at ≤ length output → length (take at output ++ u) ≡ at + length u
   head-length u h = length-append (take at output) u ∙ ap (λ (n : ℕ). n + length u) (length-take-le at output h)
 
-  pub length-placed : (u : List ℕ) → at + length u ≤ length output → length (placed output at u) ≡ length output
-  length-placed u h =
+  pub length_placed : (u : List ℕ) → at + length u ≤ length output → length (placed output at u) ≡ length output
+  length_placed u h =
       let whole = length-append (take at output ++ u) (drop (at + length u) output) in
       let head = head-length u (omega arith) in
       let rest = length-drop (at + length u) output in
@@ -24,9 +24,9 @@ module _ (output : List ℕ) (at : ℕ) where
       let seam = append_snoc (take at output) b (drop (suc at) output) in
       set_split output at b h ∙ rw (add-one at) (sym seam)
 
-  pub placed-more : (u v : List ℕ) → at + (length u + length v) ≤ length output
+  pub placed_more : (u v : List ℕ) → at + (length u + length v) ≤ length output
       → placed (placed output at u) (at + length u) v ≡ placed output at (u ++ v)
-  placed-more u v h =
+  placed_more u v h =
       let head = take at output ++ u in
       let tail = drop (at + length u) output in
       let counted : length head ≡ at + length u = head-length u (omega arith) in
@@ -46,9 +46,9 @@ put_more {output} {output'} {output''} {at} {r} {s} {u} {v} p q h =
     let second : s ≡ r + length v = q.next in
     record {
       next = omega (arith, length-append u v);
-      leaves = q.leaves ∙ rw (p.leaves, first) (placed-more output at u v h);
+      leaves = q.leaves ∙ rw (p.leaves, first) (placed_more output at u v h);
     }
 
 pub put_length : {output output' : List ℕ} {at r : ℕ} {u : List ℕ} → Put output at u r output'
     → at + length u ≤ length output → length output' ≡ length output
-put_length {output} {output'} {at} {r} {u} p h = ap length p.leaves ∙ length-placed output at u h
+put_length {output} {output'} {at} {r} {u} p h = ap length p.leaves ∙ length_placed output at u h

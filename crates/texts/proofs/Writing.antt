@@ -1,8 +1,8 @@
 -- What writing some bytes answers and leaves. Assumes nothing.
 --
---   wrote-refused, wrote-accepted   the contract, from a refusal and from bytes put into the output
---   wrote_none, wrote-size          where a length is answered nothing is refused, and it is that of the bytes
---   wrote-bytes, wrote-beyond       the first bytes are these, and those beyond them are as they were
+--   wrote_refused, wrote_accepted   the contract, from a refusal and from bytes put into the output
+--   wrote_none, wrote_size          where a length is answered nothing is refused, and it is that of the bytes
+--   wrote_bytes, wrote_beyond       the first bytes are these, and those beyond them are as they were
 use Prim.Native.Nat.{ℕ, zero, suc}
 use mathlib.Core.Path.{◌≡◌, refl, sym, ap, ◌∙◌}
 use mathlib.Core.List.{List, [], ◌∷◌, ◌++◌}
@@ -17,14 +17,14 @@ use Rattle.texts.specs.Writing.{written_reply, WritingOutcome}
 use Rattle.texts.specs.declared.Written.TheVariants.{Refused, Length}
 
 module _ (number : ℕ) (bytes output : List ℕ) where
-  pub wrote-refused : (k : ℕ) → k ≡ number → (k ≡ 0 → ⊥)
+  pub wrote_refused : (k : ℕ) → k ≡ number → (k ≡ 0 → ⊥)
       → WritingOutcome number bytes output (written_reply (Refused k)) output
-  wrote-refused zero e some = absurd (some refl)
-  wrote-refused (suc k) e some = record { answer = rw (← e); output_is = rw (← e) }
+  wrote_refused zero e some = absurd (some refl)
+  wrote_refused (suc k) e some = record { answer = rw (← e); output_is = rw (← e) }
 
-  pub wrote-accepted : (r : ℕ) (output' : List ℕ) → number ≡ 0 → Put output 0 bytes r output'
+  pub wrote_accepted : (r : ℕ) (output' : List ℕ) → number ≡ 0 → Put output 0 bytes r output'
       → WritingOutcome number bytes output (written_reply (Length r)) output'
-  wrote-accepted r output' e p =
+  wrote_accepted r output' e p =
       let size = length bytes in
       let whole : r ≡ size = p.next ∙ zero-add size in
       record {
@@ -42,14 +42,14 @@ module _ {number : ℕ} {bytes output : List ℕ} {size : ℕ} {output' : List �
   pub wrote_none : number ≡ 0
   wrote_none = told.0
 
-  pub wrote-size : size ≡ length bytes
-  wrote-size = told.1
+  pub wrote_size : size ≡ length bytes
+  wrote_size = told.1
 
   left : output' ≡ bytes ++ drop size output
   left = wrote.output_is ∙ rw (told.0, told.1)
 
-  pub wrote-bytes : take size output' ≡ bytes
-  wrote-bytes = ap (take size) left ∙ take_at bytes (drop size output) size (sym wrote-size)
+  pub wrote_bytes : take size output' ≡ bytes
+  wrote_bytes = ap (take size) left ∙ take_at bytes (drop size output) size (sym wrote_size)
 
-  pub wrote-beyond : drop size output' ≡ drop size output
-  wrote-beyond = ap (drop size) left ∙ drop_at bytes (drop size output) size (sym wrote-size)
+  pub wrote_beyond : drop size output' ≡ drop size output
+  wrote_beyond = ap (drop size) left ∙ drop_at bytes (drop size output) size (sym wrote_size)

@@ -21,11 +21,11 @@ module _ (n : RuleNumbers) where
   unfolding malformed
   large l = simp (lt-ltb 2 n.code l, lt-ltb 1 n.code (omega arith))
 
-  pub form-before : (n.code ≡ 2 → ⊥) → malformed n ≡ malformed_before n
-  form-before other = ⊎_elim small (λ l. large (omega (arith, other))) (less_or_not n.code 2)
+  pub form_before : (n.code ≡ 2 → ⊥) → malformed n ≡ malformed_before n
+  form_before other = ⊎_elim small (λ l. large (omega (arith, other))) (less_or_not n.code 2)
 
-  pub rule-before : (n.code ≡ 2 → ⊥) → malformed n ≡ false → rule_of n ≡ rule_before n
-  rule-before other e =
+  pub rule_before_lem : (n.code ≡ 2 → ⊥) → malformed n ≡ false → rule_of n ≡ rule_before n
+  rule_before_lem other e =
       let known = (formed n e).known in
       ⊎_elim
       (λ (zero : n.code ≡ 0). simp (eq-eqb n.code 0 zero))
@@ -35,5 +35,5 @@ module _ (n : RuleNumbers) where
       (eq_or_not n.code 0)
 
   -- the code 2 was refused
-  pub two-refused : n.code ≡ 2 → malformed_before n ≡ true
-  two-refused e = simp (lt-ltb 1 n.code (omega (arith, e)))
+  pub two_refused : n.code ≡ 2 → malformed_before n ≡ true
+  two_refused e = simp (lt-ltb 1 n.code (omega (arith, e)))

@@ -22,7 +22,7 @@ use Rattle.histograms.proofs.Values.{in-inside, inside_all, inside_sum, greatest
 use Rattle.histograms.proofs.Scaled.{rounded_cancel}
 use Rattle.plain.proofs.Ends.{plain_greatest, plain_end}
 use Rattle.limited.proofs.Ends.{limited_end, unclipped}
-use Rattle.affine.proofs.Ends.{affine-end}
+use Rattle.affine.proofs.Ends.{affine_end}
 
 -- ## A clip of 1,000 thousandths
 
@@ -60,4 +60,4 @@ pub tone_end : (r : Rule) (a b : ℕ) (vs : List ℕ) → a ≤ b → 1 ≤ leng
 unfolding tone kept
 tone_end (Plain low high) a b vs ab some s toned = plain_end a b vs ab some s
 tone_end (Limited k) a b vs ab some s toned = limited_end k a b vs ab some
-tone_end (Affine segments smin smax) a b vs ab some s toned = affine-end (slopes_of segments smin smax) a b vs ab toned
+tone_end (Affine segments smin smax) a b vs ab some s toned = affine_end (slopes_of segments smin smax) a b vs ab toned

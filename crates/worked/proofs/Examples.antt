@@ -49,7 +49,7 @@ use Rattle.listformat.specs.declared.Edition.TheVariants.{First, Second}
 use Rattle.listformat.specs.Format.{other, record_start, edition_of, pass_at, passes_of, misnamed, miscounted, head_refusal}
 use Rattle.listformat.specs.Format.{encode_fields, encode_pass, encode_passes, encode, Storable}
 use Rattle.listchecks.specs.Refusals.{record_refusal, record_refusals, list_refusal, passes_refusal, places_refusal}
-use Rattle.listchecks.proofs.Refusals.{encoded-refusal}
+use Rattle.listchecks.proofs.Refusals.{encoded_refusal}
 use Rattle.conversion.proofs.Editions.{stored, encoded_converts}
 use Rattle.conversion.specs.Conversion.{converted, convert_refusal}
 use Rattle.texts.specs.Ascii.{is_digit, decimal}
@@ -167,7 +167,7 @@ many count number few is =
     let fit = times_fit (from 0 count) in
     record {
       in_memory = is;
-      in_file = λ e. encoded-refusal e (times_e count) told (stored e (times_e count) fit) ∙ is;
+      in_file = λ e. encoded_refusal e (times_e count) told (stored e (times_e count) fit) ∙ is;
       to_convert = λ e. encoded_converts (times_e count) told fit e 16391
           ∙ ap₂ (λ (k n : ℕ). k ▷ output_refusal 16391 (record_start (other e) n)) is (times_length count)
           ∙ ▷_last number (output_refusal 16391 (record_start (other e) count)) (room count few e);

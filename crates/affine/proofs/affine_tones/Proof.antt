@@ -10,7 +10,7 @@ use Rattle.histograms.proofs.Tables.{ruled_kept, ruled_toned}
 use Rattle.points.specs.Points.{Cumulative}
 use Rattle.affine.specs.Affine.{affine_kept}
 use Rattle.points.proofs.Points.{cumulative}
-use Rattle.affine.proofs.Tables.{drawn_whole, not_kept, kept_same, affine-tabled}
+use Rattle.affine.proofs.Tables.{drawn_whole, not_kept, kept_same, affine_tabled}
 use borrow.Author.Rules.{rules}
 use native.Mathlib.Omega.{arith}
 use Rattle.affine.proofs.affine_tones.Statement.{statement}
@@ -85,7 +85,7 @@ returns-2 c =
     let filled = c.fill-lines.ensures in
     let y = test.before.top-height.ensures.0 in (
       ruled_toned (tested test) c.before.before.before.if1.false
-          (affine-tabled (start s).args.s (start s).pre.range s.sum-up.ensures y filled),
+          (affine_tabled (start s).args.s (start s).pre.range s.sum-up.ensures y filled),
       record { counts_rest = s.sum-up.ensures.rest; table_rest = refilled_outside filled },
     )
 

@@ -11,9 +11,9 @@ use Rattle.histograms.proofs.Stores.{refilled_none, refilled_more}
 use Rattle.points.specs.declared.Point.{Point}
 use Rattle.points.specs.Points.{start, points, Reached}
 use Rattle.affine.specs.Affine.{joined}
-use Rattle.points.proofs.Points.{reached-first, reached-end}
-use Rattle.points.proofs.Ahead.{Ahead, ahead-first, end-top, Next, next_of}
-use Rattle.affine.proofs.Lines.{Onward, onward-first, onward-next, onward-line, end-tone, filled_next}
+use Rattle.points.proofs.Points.{reached_first, reached_end}
+use Rattle.points.proofs.Ahead.{Ahead, ahead_first, end_top, Next, next_of}
+use Rattle.affine.proofs.Lines.{Onward, onward_first, onward_next, onward_line, end_tone, filled_next}
 use borrow.Author.Rules.{rules}
 use native.Mathlib.Omega.{arith}
 use Rattle.affine.proofs.fill_lines.Statement.{statement}
@@ -41,10 +41,10 @@ loop-holds c =
     let s = c.before.before.before in
     let a = s.args in
     let range = s.requires.0.0.1.range in
-    let ahead = ahead-first a.s a.a a.b (at a.sums.now) a.c.size in
-    let onward = onward-first a.s a.a a.b a.y (at a.sums.now) a.c.size in
+    let ahead = ahead_first a.s a.a a.b (at a.sums.now) a.c.size in
+    let onward = onward_first a.s a.a a.b a.y (at a.sums.now) a.c.size in
     let none : max a.c.least a.a ≡ a.c.least = omega (arith, range.from) in (
-      (omega arith, (reached-first a.s s.requires.0.0.1, (ahead, onward))),
+      (omega arith, (reached_first a.s s.requires.0.0.1, (ahead, onward))),
       rw none (refilled_none _),
     )
 
@@ -100,8 +100,8 @@ loop-again c =
     let inv = n.before.before.loop.invariant in
     let is = n.next-point.ensures in
     let onward = inv.0.1.1.1 in
-    let further = onward-next a.s a.a a.b a.y (at a.sums.now) a.c.size i _ _ is onward q.after in
-    let line = onward-line a.s a.a a.b a.y (at a.sums.now) a.c.size i _ _ is onward (omega arith) in
+    let further = onward_next a.s a.a a.b a.y (at a.sums.now) a.c.size i _ _ is onward q.after in
+    let line = onward_line a.s a.a a.b a.y (at a.sums.now) a.c.size i _ _ is onward (omega arith) in
     let from = c.before.before.before.later.ensures in
     let filled = rw from at c.before.before.fill-line.ensures in
     ((omega arith, (q.reached, (q.ahead, further))), filled_next inv.1 filled q.after line)
@@ -129,16 +129,16 @@ returns c =
     let sums : ℕ → ℕ = at a.sums.now in
     let ahead = subst (λ (i : ℕ). Ahead a.s a.a a.b sums a.c.size i p) all inv.0.1.1.0 in
     let onward = subst (λ (i : ℕ). Onward a.s a.a a.b a.y sums a.c.size i p) all inv.0.1.1.1 in
-    let end = reached-end a.s pre.0.0.1 pre.1.0.0 reached in
+    let end = reached_end a.s pre.0.0.1 pre.1.0.0 reached in
     let range = pre.0.0.1.range in
     let up_to : max a.c.least p.place ≡ a.c.greatest = omega (arith, end, range.order) in
     let last : p.height ≡ a.y =
-    ap (λ (q : Point). q.height) (end-top a.s a.a a.b (at a.sums.now) a.c.size p ahead)
+    ap (λ (q : Point). q.height) (end_top a.s a.a a.b (at a.sums.now) a.c.size p ahead)
     ∙ sym pre.1.1 in
     let tone : a.b ≡ joined a.a a.b a.y (start a.a) _ a.c.greatest =
     sym (scaled_all a.a a.b a.y (omega (arith, range.from, range.order, range.to)) pre.1.0.1.0)
     ∙ sym (ap (λ (h : ℕ). scaled a.a a.b h a.y) last)
-    ∙ end-tone a.s a.a a.b a.y (at a.sums.now) a.c.size p onward a.c.greatest (omega arith) in
+    ∙ end_tone a.s a.a a.b a.y (at a.sums.now) a.c.size p onward a.c.greatest (omega arith) in
     refilled_more (rw up_to at inv.1) range.order pre.0.1 tone
 
 pub fill-lines-spec : {M : Type 1} → statement M

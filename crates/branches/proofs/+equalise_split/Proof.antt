@@ -9,16 +9,16 @@ use borrow.Fn.Kinds.{In}
 use borrow.Fn.PlainCycle.{Measures, is, falls, and}
 use Rattle.model.specs.declared.Counts.{Counts}
 use Rattle.model.specs.Outcomes.{sums}
-use Rattle.levels.proofs.Numbers.{numbered-order, numbered-some, numbered_many, halves-order, halves-room, next_not}
-use Rattle.levels.proofs.Numbers.{low-numbered, high-numbered, half-some, twice}
+use Rattle.levels.proofs.Numbers.{numbered_order, numbered_some, numbered_many, halves_order, halves_room, next_not}
+use Rattle.levels.proofs.Numbers.{low_numbered, high_numbered, half_some, twice}
 use Rattle.levels.proofs.deeper.Reads as deeper
 use Rattle.levels.proofs.next_of.Reads as next_of
 use Rattle.levels.proofs.below.Reads as below
 use Rattle.model.proofs.plus.Reads as plus
 use Rattle.sections.proofs.treat_section.Reads as treat-section
 use Rattle.branches.proofs.counts_of.Reads as Counts-of
-use Rattle.branches.proofs.Halves.{due_section, apart-leaf, apart-node, next-halves, next-gone}
-use Rattle.branches.proofs.Halves.{due-low, due-high, gone-high, apart-both}
+use Rattle.branches.proofs.Halves.{due_section, apart_leaf, apart_node, next_halves, next_gone}
+use Rattle.branches.proofs.Halves.{due_low, due_high, gone_high, apart_both}
 use Rattle.branches.proofs.Branches.{still_ready, small, told_few, branch_few, halves_few, leaf, node, halves}
 use Rattle.branches.specs.Branches.{Equalised, Halved}
 use Rattle.branches.proofs.equalise.Reads as equalise
@@ -113,7 +113,7 @@ module _ (t : ℕ) where
   equalise-deeper-requires : equalise-lts.Need-deeper-requires (calls t) (equalise-at t) equalise.Post
   equalise-deeper-requires c κs =
       let pre = c.before.before.before.requires.1 in
-      (numbered-order pre.1.numbered, pre.0.last)
+      (numbered_order pre.1.numbered, pre.0.last)
 
   equalise-next-of-requires : equalise-lts.Need-next-of-requires (calls t) (equalise-at t) equalise.Post
   equalise-next-of-requires c κs =
@@ -130,7 +130,7 @@ module _ (t : ℕ) where
   equalise-below-requires : equalise-lts.Need-below-requires (calls t) (equalise-at t) equalise.Post
   equalise-below-requires c κs =
       let pre = (entry c.before.before.before.before.before.before).pre.1 in
-      (numbered-order pre.1.numbered, pre.0.last)
+      (numbered_order pre.1.numbered, pre.0.last)
 
   equalise-counts-of-requires : equalise-lts.Need-counts-of-requires (calls t) (equalise-at t) equalise.Post
   equalise-counts-of-requires c κs =
@@ -154,7 +154,7 @@ module _ (t : ℕ) where
         (
           still_ready ready (omega (arith, v.treat-section)) (omega (arith, v.treat-section))
               (omega (arith, v.treat-section)),
-          next-halves s.args.shape s.args.settings ready.lent.whole v.treat-section.ensures
+          next_halves s.args.shape s.args.settings ready.lent.whole v.treat-section.ensures
               due.coded due.marks_are X.middle (X.halves e) (le_refl _) refl refl
               due.d (D.yes e due.d N.k N.wide) N,
         ),
@@ -206,10 +206,10 @@ module _ (t : ℕ) where
       let H = divided.split.ensures in
       let some = D.yes e due.d N.k N.wide in
       let many = numbered_many due.d N some in
-      let left = next-gone s.args.shape s.args.settings lent.whole v.treat-section.ensures due.coded
+      let left = next_gone s.args.shape s.args.settings lent.whole v.treat-section.ensures due.coded
       due.marks_are X.middle (X.halves e) (le_refl _) refl refl due.d some N in
       let E = node s.args.shape s.args.settings inner.before.before.below.ensures T D e H left
-      (apart-node (numbered-order N) lent.whole T N.real many due.marks_are (X.halves e) H.apart) in
+      (apart_node (numbered_order N) lent.whole T N.real many due.marks_are (X.halves e) H.apart) in
       subst (Equalised s.args.shape s.args.a s.args.b s.args.code s.args.span s.args.settings
       s.args.plane.now s.args.marks.now s.args.queue.now
       divided.split.new.0 divided.split.new.1.0 divided.split.new.1.1.0)
@@ -238,7 +238,7 @@ module _ (t : ℕ) where
       let X = v.before.before.before.before.next_of.ensures in
       let e = c.if1.false in
       let E = leaf s.args.shape s.args.settings c.before.before.below.ensures T D e
-      (apart-leaf (numbered-order N) lent.whole T N.real (numbered-some N) due.marks_are (X.none e)) in
+      (apart_leaf (numbered_order N) lent.whole T N.real (numbered_some N) due.marks_are (X.none e)) in
       subst (Equalised s.args.shape s.args.a s.args.b s.args.code s.args.span s.args.settings
       s.args.plane.now s.args.marks.now s.args.queue.now
       v.treat-section.last.0 v.treat-section.last.1.0 v.treat-section.last.1.1.0)
@@ -274,26 +274,26 @@ module _ (t : ℕ) where
   split-cast-mid c = omega arith
 
   split-sub-half : split-lts.Need-overflow-sub-half (split-calls t) (split_at t) split.Post
-  split-sub-half c = numbered-some c.before.before.before.requires.1.1.numbered
+  split-sub-half c = numbered_some c.before.before.before.requires.1.1.numbered
 
   split-add-equalise : split-lts.Need-overflow-add-equalise (split-calls t) (split_at t) split.Post
   split-add-equalise c =
-      omega (arith, halves-room c.before.before.before.before.before.before.requires.1.1.numbered)
+      omega (arith, halves_room c.before.before.before.before.before.before.requires.1.1.numbered)
 
   split-equalise-requires : split-lts.Need-equalise-requires (split-calls t) (split_at t) split.Post
   split-equalise-requires c κs =
       let s = c.before.before.before.before.before.before in
       let due = s.requires.1.1 in
-      (omega (arith, s.requires.0, halves-order due.numbered), (s.requires.1.0, due-low due))
+      (omega (arith, s.requires.0, halves_order due.numbered), (s.requires.1.0, due_low due))
 
   split-add-equalise-2 : split-lts.Need-overflow-add-equalise-2 (split-calls t) (split_at t) split.Post
-  split-add-equalise-2 c = omega (arith, halves-order (split-entry (lower-lent c)).pre.1.1.numbered)
+  split-add-equalise-2 c = omega (arith, halves_order (split-entry (lower-lent c)).pre.1.1.numbered)
 
   split-add-equalise-3 : split-lts.Need-overflow-add-equalise-3 (split-calls t) (split_at t) split.Post
-  split-add-equalise-3 c = omega (arith, halves-room (split-entry (lower-lent c)).pre.1.1.numbered)
+  split-add-equalise-3 c = omega (arith, halves_room (split-entry (lower-lent c)).pre.1.1.numbered)
 
   split-add-equalise-4 : split-lts.Need-overflow-add-equalise-4 (split-calls t) (split_at t) split.Post
-  split-add-equalise-4 c = omega (arith, halves-room (split-entry (lower-lent c)).pre.1.1.numbered)
+  split-add-equalise-4 c = omega (arith, halves_room (split-entry (lower-lent c)).pre.1.1.numbered)
 
   split-equalise-requires-2 : split-lts.Need-equalise-requires-2 (split-calls t) (split_at t) split.Post
   split-equalise-requires-2 c κs =
@@ -301,10 +301,10 @@ module _ (t : ℕ) where
       let s = split-entry v in
       let ready = s.pre.1.0 in
       let due = s.pre.1.1 in (
-        omega (arith, s.pre.0, halves-order due.numbered),
+        omega (arith, s.pre.0, halves_order due.numbered),
         (
           still_ready ready (omega (arith, v.equalise)) (omega (arith, v.equalise)) (omega (arith, v.equalise)),
-          due-high due ready.lent.whole (omega (arith, v.equalise)) v.equalise.ensures.apart,
+          due_high due ready.lent.whole (omega (arith, v.equalise)) v.equalise.ensures.apart,
         ),
       )
 
@@ -315,12 +315,12 @@ module _ (t : ℕ) where
       let s = split-entry lower in
       let lent = s.pre.1.0.lent in
       let N = s.pre.1.1.numbered in
-      let low = branch_few (low-numbered N) lent.whole lent.size.few lower.equalise.ensures in
-      let high = branch_few (high-numbered N) (omega (arith, lower.equalise, lent.whole)) lent.size.few
+      let low = branch_few (low_numbered N) lent.whole lent.size.few lower.equalise.ensures in
+      let high = branch_few (high_numbered N) (omega (arith, lower.equalise, lent.whole)) lent.size.few
       upper.equalise2.ensures in
       let spans : s.args.span * 1048576 ≤ 255 * 1048576 = omega (arith, N.fits, N.real) in (
-        omega (arith, low.0, high.0, half-some N, twice N),
-        omega (arith, low.1, high.1, half-some N, twice N),
+        omega (arith, low.0, high.0, half_some N, twice N),
+        omega (arith, low.1, high.1, half_some N, twice N),
       )
 
   split-same-length : split-lts.Need-same-length (split-calls t) (split_at t) split.Post
@@ -340,8 +340,8 @@ module _ (t : ℕ) where
       let low = v.equalise.ensures in
       let high = upper.equalise2.ensures in
       let whole = s.pre.1.0.lent.whole in
-      let H = halves low high (gone-high s.pre.1.1 whole (omega (arith, v.equalise)) low.apart)
-      (apart-both s.pre.1.1 whole (omega (arith, v.equalise)) low.apart high.apart) in
+      let H = halves low high (gone_high s.pre.1.1 whole (omega (arith, v.equalise)) low.apart)
+      (apart_both s.pre.1.1 whole (omega (arith, v.equalise)) low.apart high.apart) in
       subst (Halved s.args.shape s.args.a s.args.b s.args.code s.args.span s.args.settings
       s.args.plane.now s.args.marks.now s.args.queue.now
       upper.equalise2.new.0 upper.equalise2.new.1.0 upper.equalise2.new.1.1.0)

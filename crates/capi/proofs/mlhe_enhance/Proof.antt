@@ -9,7 +9,7 @@ use Rattle.tones.specs.Numbers.{rule_of, form_refusal}
 use Rattle.enhance.specs.Calls.{memory_refusal}
 use Rattle.crules.specs.Rules.{numbers_for, neighbours_for}
 use Rattle.cnumbers.proofs.Numbers.{returned}
-use Rattle.capi.proofs.Calls.{enhance-refused, enhance-short, enhance-made}
+use Rattle.capi.proofs.Calls.{enhance_refused, enhance_short, enhance_made}
 use borrow.Author.Rules.{rules}
 use Rattle.capi.proofs.mlhe_enhance.Statement.{statement}
 use Rattle.capi.proofs.mlhe_enhance.Tie as tie
@@ -57,7 +57,7 @@ returns : tie.Need-returns
 returns c =
     let tested = c.before.before in
     let args = (start tested).args in
-    enhance-refused args.w args.h args.last args.area args.rule.now
+    enhance_refused args.w args.h args.last args.area args.rule.now
     args.frame.now args.plane.now args.marks.now args.queue.now args.output.now args.counts.now
     (formed tested) c.before.if1.true
     (returned c.refused.type-inv c.refused.ensures)
@@ -77,7 +77,7 @@ returns-2 c =
     let ruled = few.before in
     let tested = ruled.before.before in
     let args = (start tested).args in
-    enhance-short args.w args.h args.last args.area args.rule.now
+    enhance_short args.w args.h args.last args.area args.rule.now
     args.frame.now args.plane.now args.marks.now args.queue.now args.output.now args.counts.now
     (sym (formed tested) ∙ ruled.before.if1.false) (rule_is ruled) (number_is ruled)
     few.if2.true c.before.settings-refusal.ensures
@@ -112,7 +112,7 @@ returns-3 c =
     let ruled = enough.before in
     let tested = ruled.before.before in
     let args = (start tested).args in
-    enhance-made args.w args.h args.last args.area args.rule.now
+    enhance_made args.w args.h args.last args.area args.rule.now
     args.frame.now args.plane.now args.marks.now args.queue.now args.output.now args.counts.now
     called.enhance.result (sym (formed tested) ∙ ruled.before.if1.false)
     enough.if2.false (rule_is ruled) (number_is ruled) called.enhance.ensures

@@ -8,7 +8,7 @@ use Rattle.tones.specs.declared.RuleNumbers.{RuleNumbers}
 use Rattle.tones.specs.Numbers.{rule_of, form_refusal}
 use Rattle.crules.specs.Rules.{numbers_for, neighbours_for}
 use Rattle.cnumbers.proofs.Numbers.{returned}
-use Rattle.capi.proofs.Calls.{pass-refused, pass-short, pass-made}
+use Rattle.capi.proofs.Calls.{pass_refused, pass_short, pass_made}
 use borrow.Author.Rules.{rules}
 use Rattle.capi.proofs.mlhe_pass.Statement.{statement}
 use Rattle.capi.proofs.mlhe_pass.Tie as tie
@@ -55,7 +55,7 @@ returns : tie.Need-returns
 returns c =
     let tested = c.before.before in
     let args = (start tested).args in
-    pass-refused args.w args.h args.a args.b args.area args.rule.now
+    pass_refused args.w args.h args.a args.b args.area args.rule.now
     args.plane.now args.marks.now args.queue.now args.counts.now
     (formed tested) c.before.if1.true (returned c.refused.type-inv c.refused.ensures)
 
@@ -74,7 +74,7 @@ returns-2 c =
     let ruled = few.before in
     let tested = ruled.before.before in
     let args = (start tested).args in
-    pass-short args.w args.h args.a args.b args.area args.rule.now
+    pass_short args.w args.h args.a args.b args.area args.rule.now
     args.plane.now args.marks.now args.queue.now args.counts.now
     (sym (formed tested) ∙ ruled.before.if1.false) (rule_is ruled) (number_is ruled) few.if2.true
     c.before.pass-refusal.ensures (returned c.short-counts.type-inv c.short-counts.ensures)
@@ -105,7 +105,7 @@ returns-3 c =
     let ruled = enough.before in
     let tested = ruled.before.before in
     let args = (start tested).args in
-    pass-made args.w args.h args.a args.b args.area args.rule.now
+    pass_made args.w args.h args.a args.b args.area args.rule.now
     args.plane.now args.marks.now args.queue.now args.counts.now called.pass.result
     (sym (formed tested) ∙ ruled.before.if1.false) enough.if2.false (rule_is ruled) (number_is ruled)
     called.pass.ensures (returned put.put-counts.type-inv put.put-counts.ensures.0) put.put-counts.ensures.1

@@ -1,6 +1,6 @@
 -- `capi::mlhe_run_list` meets its contract: refused with nothing changed, or as the call. Assumes nothing.
 use Rattle.cnumbers.proofs.Numbers.{returned}
-use Rattle.capi.proofs.Calls.{list-short, list-made}
+use Rattle.capi.proofs.Calls.{list_short, list_made}
 use borrow.Author.Rules.{rules}
 use Rattle.capi.proofs.mlhe_run_list.Statement.{statement}
 use Rattle.capi.proofs.mlhe_run_list.Tie as tie
@@ -15,7 +15,7 @@ returns : tie.Need-returns
 returns c =
     let few = c.before.before in
     let args = few.before.before.before.before.before.before.args in
-    list-short args.w args.h args.list.now args.plane.now args.marks.now args.queue.now
+    list_short args.w args.h args.list.now args.plane.now args.marks.now args.queue.now
     args.counts.now
     few.if1.true c.before.list-refusal.ensures (returned c.short-counts.type-inv c.short-counts.ensures)
 
@@ -43,7 +43,7 @@ returns-2 c =
     let called = c.before.before.before.before.before.before.before.before.before in
     let enough = called.before.before.before.before.before in
     let args = enough.before.before.before.before.before.before.args in
-    list-made args.w args.h args.list.now args.plane.now args.marks.now args.queue.now
+    list_made args.w args.h args.list.now args.plane.now args.marks.now args.queue.now
     args.counts.now
     called.run-list.result enough.if1.false called.run-list.ensures
     (returned put.put-counts.type-inv put.put-counts.ensures.0) put.put-counts.ensures.1

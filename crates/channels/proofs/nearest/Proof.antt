@@ -2,7 +2,7 @@
 -- Assumes nothing.
 use native.Mathlib.Omega.{arith}
 use borrow.Author.Rules.{rules}
-use Rattle.channels.proofs.Quotients.{product_le, rounded-by-inverse}
+use Rattle.channels.proofs.Quotients.{product_le, rounded_by_inverse}
 use Rattle.channels.proofs.nearest.Statement.{statement}
 use Rattle.channels.proofs.nearest.Tie as tie
 
@@ -28,7 +28,7 @@ cast-result-3 : tie.Need-overflow-cast-result-3
 cast-result-3 c = omega (arith, product_le c.requires)
 
 returns : tie.Need-returns
-returns c = rounded-by-inverse c.requires
+returns c = rounded_by_inverse c.requires
 
 pub nearest-spec : {M : Type 1} → statement M
 nearest-spec =

@@ -5,7 +5,7 @@ use native.Mathlib.Omega.{arith}
 use lib.ListN.{length}
 use borrow.Author.Rules.{rules}
 use Rattle.colours.specs.Calls.{recolour_refusal}
-use Rattle.colours.proofs.Calls.{recolour-accepted, recolour-refused, recolour-done}
+use Rattle.colours.proofs.Calls.{recolour_accepted, recolour_refused, recolour_done}
 use Rattle.colours.proofs.recolour.Statement.{statement}
 use Rattle.colours.proofs.recolour.Tie as tie
 
@@ -13,7 +13,7 @@ recolour-refusal-requires : tie.Need-recolour-refusal-requires
 recolour-refusal-requires c κs = search rules
 
 returns : tie.Need-returns
-returns c = recolour-refused _ _ _ _ _ _ c.if1.true c.before.recolour-refusal.ensures
+returns c = recolour_refused _ _ _ _ _ _ c.if1.true c.before.recolour-refusal.ensures
 
 -- after the test of the refusal none applies
 none : (c : tie.Else1) → (
@@ -36,7 +36,7 @@ recolour-frame-requires c κs =
     let frame = length args.frame.now in
     let plane = length args.plane.now in
     let output = length args.output.now in
-    let accepted = recolour-accepted args.w args.h frame plane output (none left) in
+    let accepted = recolour_accepted args.w args.h frame plane output (none left) in
     record {
       rule = c.before.before.before.before.rounded-thirds.ensures;
       inverted = c.before.before.before.inverses.ensures;
@@ -50,7 +50,7 @@ same_length c = search rules
 returns-2 : tie.Need-returns-2
 returns-2 c =
     let accepted = none c.before.before.before.before.before.before.before.before in
-    recolour-done _ _ _ _ _ accepted c.before.before.recolour-frame.ensures
+    recolour_done _ _ _ _ _ accepted c.before.before.recolour-frame.ensures
 
 pub recolour-spec : {M : Type 1} → statement M
 recolour-spec =

@@ -6,7 +6,7 @@ use mathlib.Core.List.{◌++◌}
 use native.Mathlib.Omega.{arith}
 use lib.ListN.{length, take, drop}
 use Rattle.colours.specs.Frames.{recolour}
-use Rattle.colours.proofs.Frames.{length-recolour}
+use Rattle.colours.proofs.Frames.{length_recolour}
 use Rattle.colours.proofs.Overwrite.{overwrite_pixel, overwrite_all}
 use Rattle.colours.proofs.recolour_frame.Statement.{statement}
 use Rattle.colours.proofs.recolour_frame.Tie as tie
@@ -43,7 +43,7 @@ loop-again c =
     let frame = args.frame.now in
     let plane = args.plane.now in
     let new = recolour frame plane in
-    let inside : 3 * turn.i + 2 < length new = omega (arith, length-recolour frame plane) in
+    let inside : 3 * turn.i + 2 < length new = omega (arith, length_recolour frame plane) in
     let before = turn.invariant.1.1.1 in
     let stored = c.before.before.recolour-pixel.ensures in
     let after = overwrite_pixel new args.output.now turn.i inside (omega arith) before stored in
@@ -60,7 +60,7 @@ returns c =
     let frame = args.frame.now in
     let new = recolour frame args.plane.now in
     let all : 3 * end.i ≡ length frame = omega arith in
-    let whole = length-recolour frame args.plane.now in
+    let whole = length_recolour frame args.plane.now in
     overwrite_all new args.output.now (length frame) whole (rw all at end.invariant.1.1.1)
 
 pub recolour-frame-spec : {M : Type 1} → statement M

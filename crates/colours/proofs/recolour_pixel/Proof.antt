@@ -7,7 +7,7 @@ use lib.ListN.{length, length-set}
 use borrow.Author.Rules.{rules}
 use Rattle.channels.specs.declared.Pixel.{Pixel}
 use Rattle.colours.specs.Frames.{pixel_intensity, greatest_channel}
-use Rattle.colours.proofs.Frames.{recolour-at}
+use Rattle.colours.proofs.Frames.{recolour_at}
 use Rattle.colours.proofs.recolour_pixel.Statement.{statement}
 use Rattle.colours.proofs.recolour_pixel.Tie as tie
 
@@ -62,9 +62,9 @@ returns c =
     let i = s.args.i in
     let inside : 3 * i + 2 < length frame = omega (arith, s.requires.0.channels, s.requires.1) in
     let new = c.recoloured.ensures in
-    let red = sym (recolour-at frame plane i (3 * i) (omega arith) (omega arith)) in
-    let green = sym (recolour-at frame plane i (3 * i + 1) (omega arith) (omega arith)) in
-    let blue = sym (recolour-at frame plane i (3 * i + 2) (omega arith) inside) in
+    let red = sym (recolour_at frame plane i (3 * i) (omega arith) (omega arith)) in
+    let green = sym (recolour_at frame plane i (3 * i + 1) (omega arith) (omega arith)) in
+    let blue = sym (recolour_at frame plane i (3 * i + 2) (omega arith) inside) in
     rw (
       ap (λ (x : Pixel). x.red) new ∙ red,
       ap (λ (x : Pixel). x.green) new ∙ green,

@@ -10,10 +10,10 @@ use Rattle.planes.specs.Lists.{at}
 use Rattle.planes.specs.Neighbours.{eight}
 use Rattle.planes.specs.Shapes.{pixels}
 use Rattle.spreading.specs.Spreads.{Begun}
-use Rattle.spreading.proofs.Around.{row-eight}
-use Rattle.components.proofs.Flooding.{may-begin, flood-begin}
-use Rattle.components.proofs.Turns.{FloodingTo, Going, going_none, head-inside, head-room, head-offset}
-use Rattle.components.proofs.Turns.{head-fits, spreadable, may-see, going_on, flooded}
+use Rattle.spreading.proofs.Around.{row_eight}
+use Rattle.components.proofs.Flooding.{may_begin, flood_begin}
+use Rattle.components.proofs.Turns.{FloodingTo, Going, going_none, head_inside, head_room, head_offset}
+use Rattle.components.proofs.Turns.{head_fits, spreadable, may_see, going_on, flooded}
 use Rattle.components.proofs.flood_eight.Statement.{statement}
 use Rattle.components.proofs.flood_eight.Tie as tie
 
@@ -38,7 +38,7 @@ flooding : (l : tie.At-loop invariant-loop decreases-loop) → (
 flooding l =
     let first = l.before.before.before.before.before.before in
     let F = (entry l).requires.0 in
-    l.loop.invariant.0.flooding _ _ (flood-begin F (row-eight _ F.size.wide) first.reach.ensures)
+    l.loop.invariant.0.flooding _ _ (flood_begin F (row_eight _ F.size.wide) first.reach.ensures)
 
 -- values are bytes
 byte : (l : tie.At-loop invariant-loop decreases-loop)
@@ -53,7 +53,7 @@ shared-slice-read-v c =
     omega (arith, s.requires.0.inside, s.requires.1.0)
 
 reach-requires : tie.Need-reach-requires invariant-loop decreases-loop
-reach-requires c κs = may-begin c.before.before.before.before.before.before.requires.0
+reach-requires c κs = may_begin c.before.before.before.before.before.before.requires.0
 
 pixels-requires : tie.Need-pixels-requires invariant-loop decreases-loop
 pixels-requires c κs = search rules
@@ -66,13 +66,13 @@ loop-holds c =
     )
 
 mul-p : tie.Need-overflow-mul-p invariant-loop decreases-loop
-mul-p c = head-offset (flooding c.before.before.before) c.if1.true
+mul-p c = head_offset (flooding c.before.before.before) c.if1.true
 
 slice-read-p : tie.Need-slice-read-p invariant-loop decreases-loop
-slice-read-p c = let i = c.before in head-room (flooding i.before.before.before) i.if1.true
+slice-read-p c = let i = c.before in head_room (flooding i.before.before.before) i.if1.true
 
 cast-p : tie.Need-overflow-cast-p invariant-loop decreases-loop
-cast-p c = let i = c.before in head-fits (flooding i.before.before.before) i.if1.true
+cast-p c = let i = c.before in head_fits (flooding i.before.before.before) i.if1.true
 
 spread-requires : tie.Need-spread-requires invariant-loop decreases-loop
 spread-requires c κs =
@@ -82,20 +82,20 @@ spread-requires c κs =
     let a = (entry l).args in (
       spreadable (entry l).requires.0 (flooding l) due,
       λ e. subst (Begun a.shape.w (pixels a.shape) a.code l.loop.marks) (sym e)
-          (l.loop.invariant.1 (omega (arith, head-inside (flooding l) due))),
+          (l.loop.invariant.1 (omega (arith, head_inside (flooding l) due))),
     )
 
 see-requires : tie.Need-see-requires invariant-loop decreases-loop
 see-requires c κs =
     let i = c.before.before.before.before.before.before.before.before.before in
     let l = i.before.before.before in
-    may-see (flooding l) i.if1.true (entry l).args.plane.now l.loop.counts _ _ (entry l).requires.1.0
+    may_see (flooding l) i.if1.true (entry l).args.plane.now l.loop.counts _ _ (entry l).requires.1.0
     l.loop.invariant.0.gauging
 
 loop-less : tie.Need-loop-smaller invariant-loop decreases-loop
 loop-less c =
     let i = c.before.before.before.before.before.before.before.before.before.before in
-    omega (arith, head-room (flooding i.before.before.before) i.if1.true, c.see.ensures.size)
+    omega (arith, head_room (flooding i.before.before.before) i.if1.true, c.see.ensures.size)
 
 loop-again : tie.Need-loop-preserved invariant-loop decreases-loop
 loop-again c =
@@ -103,7 +103,7 @@ loop-again c =
     let i = on.before.before.before.before in
     let l = i.before.before.before in
     let due = i.if1.true in (
-      going_on l.loop.invariant.0 due (head-room (flooding l) due) (byte l) on.spread.ensures.spread
+      going_on l.loop.invariant.0 due (head_room (flooding l) due) (byte l) on.spread.ensures.spread
           c.see.ensures (omega arith) (omega arith),
       λ h. on.spread.ensures.begun,
     )

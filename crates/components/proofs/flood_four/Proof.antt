@@ -7,10 +7,10 @@ use borrow.Author.Rules.{rules}
 use lib.ListN.{length}
 use Rattle.planes.specs.Lists.{at}
 use Rattle.planes.specs.Shapes.{neighbours}
-use Rattle.spreading.proofs.Around.{row_neighbours, spread-four}
-use Rattle.components.proofs.Flooding.{may-begin, flood-begin}
-use Rattle.components.proofs.Turns.{FloodingTo, Going, going_none, head-room, head-offset, head-fits}
-use Rattle.components.proofs.Turns.{spreadable, may-see, going_on, flooded}
+use Rattle.spreading.proofs.Around.{row_neighbours, spread_four}
+use Rattle.components.proofs.Flooding.{may_begin, flood_begin}
+use Rattle.components.proofs.Turns.{FloodingTo, Going, going_none, head_room, head_offset, head_fits}
+use Rattle.components.proofs.Turns.{spreadable, may_see, going_on, flooded}
 use Rattle.components.proofs.flood_four.Statement.{statement}
 use Rattle.components.proofs.flood_four.Tie as tie
 
@@ -34,7 +34,7 @@ flooding l =
     let first = l.before.before.before.before.before in
     let F = (entry l).requires.0 in
     let rows = row_neighbours (entry l).args.shape F.size.wide in
-    l.loop.invariant.flooding _ _ (flood-begin F rows first.reach.ensures)
+    l.loop.invariant.flooding _ _ (flood_begin F rows first.reach.ensures)
 
 -- values are bytes
 byte : (l : tie.At-loop invariant-loop decreases-loop)
@@ -49,7 +49,7 @@ shared-slice-read-v c =
     omega (arith, s.requires.0.inside, s.requires.1.0)
 
 reach-requires : tie.Need-reach-requires invariant-loop decreases-loop
-reach-requires c κs = may-begin c.before.before.before.before.before.before.requires.0
+reach-requires c κs = may_begin c.before.before.before.before.before.before.requires.0
 
 loop-holds : tie.Need-loop-init invariant-loop decreases-loop
 loop-holds c =
@@ -57,13 +57,13 @@ loop-holds c =
     going_none _ s.args.shape s.args.code s.args.start s.args.plane.now _ _ _ s.requires.1.1
 
 mul-p : tie.Need-overflow-mul-p invariant-loop decreases-loop
-mul-p c = head-offset (flooding c.before.before) c.if1.true
+mul-p c = head_offset (flooding c.before.before) c.if1.true
 
 slice-read-p : tie.Need-slice-read-p invariant-loop decreases-loop
-slice-read-p c = let i = c.before in head-room (flooding i.before.before) i.if1.true
+slice-read-p c = let i = c.before in head_room (flooding i.before.before) i.if1.true
 
 cast-p : tie.Need-overflow-cast-p invariant-loop decreases-loop
-cast-p c = let i = c.before in head-fits (flooding i.before.before) i.if1.true
+cast-p c = let i = c.before in head_fits (flooding i.before.before) i.if1.true
 
 reach-column-requires : tie.Need-reach-column-requires invariant-loop decreases-loop
 reach-column-requires c κs =
@@ -75,13 +75,13 @@ see-requires : tie.Need-see-requires invariant-loop decreases-loop
 see-requires c κs =
     let i = c.before.before.before.before.before.before.before.before.before in
     let l = i.before.before in
-    may-see (flooding l) i.if1.true (entry l).args.plane.now l.loop.counts _ _ (entry l).requires.1.0
+    may_see (flooding l) i.if1.true (entry l).args.plane.now l.loop.counts _ _ (entry l).requires.1.0
     l.loop.invariant.gauging
 
 loop-less : tie.Need-loop-smaller invariant-loop decreases-loop
 loop-less c =
     let i = c.before.before.before.before.before.before.before.before.before.before in
-    omega (arith, head-room (flooding i.before.before) i.if1.true, c.see.ensures.size)
+    omega (arith, head_room (flooding i.before.before) i.if1.true, c.see.ensures.size)
 
 loop-again : tie.Need-loop-preserved invariant-loop decreases-loop
 loop-again c =
@@ -89,8 +89,8 @@ loop-again c =
     let i = column.before.before.before.before in
     let l = i.before.before in
     let due = i.if1.true in
-    let spread = spread-four (spreadable (entry l).requires.0 (flooding l) due) column.reach-column.ensures in
-    going_on l.loop.invariant due (head-room (flooding l) due) (byte l) spread c.see.ensures
+    let spread = spread_four (spreadable (entry l).requires.0 (flooding l) due) column.reach-column.ensures in
+    going_on l.loop.invariant due (head_room (flooding l) due) (byte l) spread c.see.ensures
     (omega arith) (omega arith)
 
 same_length : tie.Need-same-length invariant-loop decreases-loop

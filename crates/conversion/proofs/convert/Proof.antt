@@ -1,7 +1,7 @@
 -- `conversion::convert` meets its contract: a refusal leaves the output alone, and else the list is put from its
 -- beginning on. Assumes nothing.
 use mathlib.Core.Path.{sym, ◌∙◌}
-use Rattle.texts.proofs.Writing.{wrote-refused, wrote-accepted}
+use Rattle.texts.proofs.Writing.{wrote_refused, wrote_accepted}
 use borrow.Author.Rules.{rules}
 use Rattle.conversion.proofs.convert.Statement.{statement}
 use Rattle.conversion.proofs.convert.Tie as tie
@@ -13,7 +13,7 @@ returns : tie.Need-returns
 returns c =
     let tested = c.before in
     let args = tested.before.before.before.args in
-    wrote-refused _ _ args.output.now tested.convert-refusal.result tested.convert-refusal.ensures
+    wrote_refused _ _ args.output.now tested.convert-refusal.result tested.convert-refusal.ensures
     c.if1.true
 
 put-converted-requires : tie.Need-put-converted-requires
@@ -28,7 +28,7 @@ returns-2 c =
     let tested = putting.before.before.before in
     let args = tested.before.before.before.args in
     let accepted = sym tested.convert-refusal.ensures ∙ putting.before.before.if1.false in
-    wrote-accepted _ _ args.output.now putting.put-converted.result putting.put-converted.new.0 accepted
+    wrote_accepted _ _ args.output.now putting.put-converted.result putting.put-converted.new.0 accepted
     putting.put-converted.ensures
 
 pub convert-spec : {M : Type 1} → statement M

@@ -3,7 +3,7 @@ use mathlib.Core.Path.{sym, ap, ◌∙◌}
 use native.Mathlib.Omega.{arith}
 use Rattle.listformat.specs.Format.{other}
 use Rattle.listformat.proofs.Format.{headed, headed_long}
-use Rattle.conversion.proofs.Refusals.{refused-head, refused-record, refused-short, refused_none}
+use Rattle.conversion.proofs.Refusals.{refused_head, refused_record, refused_short, refused_none}
 use borrow.Author.Rules.{rules}
 use Rattle.conversion.proofs.convert_refusal.Statement.{statement}
 use Rattle.conversion.proofs.convert_refusal.Tie as tie
@@ -14,7 +14,7 @@ head-refusal-requires c κs = search rules
 returns : tie.Need-returns
 returns c =
     let args = c.before.before.before.args in
-    refused-head args.list.now args.output c.before.head-refusal.ensures c.if1.true
+    refused_head args.list.now args.output c.before.head-refusal.ensures c.if1.true
 
 edition-of-requires : tie.Need-edition-of-requires
 edition-of-requires c κs = headed_long _ (sym c.before.head-refusal.ensures ∙ c.if1.false)
@@ -34,7 +34,7 @@ returns-2 c =
     let args = tested.before.before.before.args in
     let head = sym tested.before.head-refusal.ensures ∙ tested.if1.false in
     let edition = walked.before.other.ensures ∙ ap other walked.before.before.edition-of.ensures in
-    refused-record args.list.now args.output head edition walked.records-refusal.ensures c.if2.true
+    refused_record args.list.now args.output head edition walked.records-refusal.ensures c.if2.true
 
 count-of-requires : tie.Need-count-of-requires
 count-of-requires c κs =
@@ -55,7 +55,7 @@ returns-3 c =
     let args = tested.before.before.before.args in
     let head = sym tested.before.head-refusal.ensures ∙ tested.if1.false in
     let edition = walked.before.other.ensures ∙ ap other walked.before.before.edition-of.ensures in
-    refused-short args.list.now args.output head edition walked.records-refusal.ensures
+    refused_short args.list.now args.output head edition walked.records-refusal.ensures
     started.before.before.if2.false started.record-start.ensures started.before.count_of.ensures
     c.if3.true
 

@@ -10,8 +10,8 @@ use Rattle.texts.specs.Placing.{Put}
 use Rattle.listformat.specs.declared.Edition.{Edition}
 use Rattle.listformat.specs.Format.{other, count_of, encode_head, Bytes}
 use Rattle.listformat.proofs.Format.{headed, headed_long}
-use Rattle.conversion.proofs.Refusals.{length-converted, Convertible, convertible, head_sound}
-use Rattle.conversion.proofs.Putting.{Putting, putting-none, putting-all, put_same, turn-asks, turn-puts}
+use Rattle.conversion.proofs.Refusals.{length_converted, Convertible, convertible, head_sound}
+use Rattle.conversion.proofs.Putting.{Putting, putting_none, putting_all, put_same, turn_asks, turn_puts}
 use Rattle.conversion.proofs.put_converted.Statement.{statement}
 use Rattle.conversion.proofs.put_converted.Tie as tie
 
@@ -32,7 +32,7 @@ begun c =
     let list = start.args.list.now in
     let named = c.before.before.before.before.edition-of.ensures in
     let turned = c.before.before.before.other.ensures ∙ ap other named in
-    putting-none
+    putting_none
     (subst (λ (e : Edition). Put start.args.output.now 0 (encode_head e (count_of list))
     c.put-head.result c.put-head.new.0) turned c.put-head.ensures)
 
@@ -50,7 +50,7 @@ put-head-requires c κs =
     let start = c.before.before.before.before.before.before in
     let list = start.args.list.now in
     let fine = convertible list (length start.args.output.now) start.requires in
-    (omega (arith, fine.room, length-converted list), headed_long list (head_sound list fine))
+    (omega (arith, fine.room, length_converted list), headed_long list (head_sound list fine))
 
 loop-holds : tie.Need-loop-init invariant-loop decreases-loop
 loop-holds c = λ lent fine p. p
@@ -76,7 +76,7 @@ put-record-requires c κs =
     let turned = calls.before.before.before.other.ensures in
     let due : loop.loop.j < count_of list =
     omega (arith, started.before.loop-test.true, calls.before.before.count_of.ensures) in
-    turn-asks fine named turned started.record-start.ensures due (loop.loop.invariant lent fine (begun calls))
+    turn_asks fine named turned started.record-start.ensures due (loop.loop.invariant lent fine (begun calls))
 
 add-j : tie.Need-overflow-add-j invariant-loop decreases-loop
 add-j c =
@@ -103,7 +103,7 @@ loop-again c = λ lent fine p.
     omega (arith, started.before.loop-test.true, calls.before.before.count_of.ensures) in
     let known = calls.before.before.before.before.before.shared-slice-known in
     let bytes : Bytes list = record { each = λ i. omega (arith, known.given i) } in
-    turn-puts fine named turned started.record-start.ensures due (loop.loop.invariant lent fine p) bytes
+    turn_puts fine named turned started.record-start.ensures due (loop.loop.invariant lent fine p) bytes
     c.before.before.put_record.ensures
 
 same_length : tie.Need-same-length invariant-loop decreases-loop
@@ -123,7 +123,7 @@ returns c =
     let fine = convertible list (length start.args.output.now) start.requires in
     let over : count_of list ≤ loop.loop.j =
     omega (arith, c.loop-test.false, calls.before.before.count_of.ensures) in
-    putting-all (loop.loop.invariant start.args.output.now fine (begun calls)) over
+    putting_all (loop.loop.invariant start.args.output.now fine (begun calls)) over
 
 pub put-converted-spec : {M : Type 1} → statement M
 put-converted-spec =

@@ -4,7 +4,7 @@ use mathlib.Core.Path.{sym, ◌∙◌}
 use borrow.Author.Rules.{rules}
 use Rattle.netpbm.proofs.Frames.{accepted_iff}
 use Rattle.netpbm.proofs.Replies.{read_back}
-use Rattle.frames.proofs.Program.{long-emitted, read-emitted}
+use Rattle.frames.proofs.Program.{long_emitted, read_emitted}
 use Rattle.frames.proofs.program_output.Statement.{statement}
 use Rattle.frames.proofs.program_output.Tie as tie
 
@@ -12,7 +12,7 @@ put-refusal-requires : tie.Need-put-refusal-requires
 put-refusal-requires c κs = search rules
 
 returns : tie.Need-returns
-returns c = long-emitted _ c.before.before.if1.true c.put-refusal.ensures
+returns c = long_emitted _ c.before.before.if1.true c.put-refusal.ensures
 
 read-within-requires : tie.Need-read-within-requires
 read-within-requires c κs = search rules
@@ -38,14 +38,14 @@ returns-2 c =
     let case = c.before.before.before in
     let reading = case.before.before in
     let answer = sym (read_back _ _ reading.read-within.result reading.read-within.ensures) in
-    read-emitted _ reading.before.if1.false (answer ∙ case.header.given.1) c.put-refusal2.ensures
+    read_emitted _ reading.before.if1.false (answer ∙ case.header.given.1) c.put-refusal2.ensures
 
 returns-3 : tie.Need-returns-3
 returns-3 c =
     let case = c.before.before.before in
     let reading = case.before.before in
     let answer = sym (read_back _ _ reading.read-within.result reading.read-within.ensures) in
-    read-emitted _ reading.before.if1.false (answer ∙ case.header2.given.1) c.put-enhanced.ensures
+    read_emitted _ reading.before.if1.false (answer ∙ case.header2.given.1) c.put-enhanced.ensures
 
 pub program-output-spec : {M : Type 1} → statement M
 program-output-spec =

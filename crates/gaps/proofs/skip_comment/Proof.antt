@@ -5,7 +5,7 @@ use mathlib.Core.Path.{sym, ◌∙◌}
 use native.Mathlib.Omega.{arith}
 use borrow.Author.Rules.{rules}
 use lib.ListN.{length}
-use Rattle.gaps.proofs.Skipping.{Within, within_begins, within_more, within-ends, within-unended}
+use Rattle.gaps.proofs.Skipping.{Within, within_begins, within_more, within_ends, within_unended}
 use Rattle.gaps.proofs.skip_comment.Statement.{statement}
 use Rattle.gaps.proofs.skip_comment.Tie as tie
 
@@ -30,7 +30,7 @@ ends-comment-requires c κs = search rules
 returns : tie.Need-returns invariant-loop decreases-loop
 returns c =
     let in-loop = c.before.before.before in
-    within-ends in-loop.before.loop.invariant in-loop.loop-test.true
+    within_ends in-loop.before.loop.invariant in-loop.loop-test.true
     (sym c.before.ends-comment.ensures ∙ c.if1.true)
 
 loop-less : tie.Need-loop-smaller invariant-loop decreases-loop
@@ -43,7 +43,7 @@ loop-again c =
     (sym c.before.ends-comment.ensures ∙ c.if1.false)
 
 returns-2 : tie.Need-returns-2 invariant-loop decreases-loop
-returns-2 c = within-unended c.before.loop.invariant c.loop-test.false
+returns-2 c = within_unended c.before.loop.invariant c.loop-test.false
 
 pub skip-comment-spec : {M : Type 1} → statement M
 skip-comment-spec =

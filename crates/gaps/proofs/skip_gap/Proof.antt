@@ -10,9 +10,9 @@ use lib.ListN.{length}
 use Rattle.planes.specs.Lists.{at}
 use Rattle.gaps.specs.Bytes.{move_for}
 use Rattle.gaps.specs.declared.Move.TheVariants.{Comment}
-use Rattle.gaps.proofs.Skipping.{AfterComment, comment-lost, comment-passed}
-use Rattle.gaps.proofs.Skipping.{Skipping, skipping_begins, skipping-white, skipping-comment, skipping-unended}
-use Rattle.gaps.proofs.Skipping.{skipping-take, skipping-stop, skipping-ends}
+use Rattle.gaps.proofs.Skipping.{AfterComment, comment_lost, comment_passed}
+use Rattle.gaps.proofs.Skipping.{Skipping, skipping_begins, skipping_white, skipping_comment, skipping_unended}
+use Rattle.gaps.proofs.Skipping.{skipping_take, skipping_stop, skipping_ends}
 use Rattle.gaps.proofs.skip_gap.Statement.{statement}
 use Rattle.gaps.proofs.skip_gap.Tie as tie
 
@@ -44,7 +44,7 @@ loop-again : tie.Need-loop-preserved invariant-loop decreases-loop
 loop-again c =
     let sorting = c.before.before in
     let in-loop = sorting.before.before in
-    skipping-white in-loop.before.loop.invariant in-loop.loop-test.true
+    skipping_white in-loop.before.loop.invariant in-loop.loop-test.true
     (sym sorting.sorted.ensures ∙ c.enum_told.given.1)
 
 enum-told-2 : tie.Need-enum-told-2 invariant-loop decreases-loop
@@ -73,7 +73,7 @@ passed : (c : tie.After-after invariant-loop decreases-loop)
 passed c =
     let opening = sign_of c in
     let inside = (in-loop-of opening).loop-test.taken in
-    comment-passed (bytes opening) (sign opening + 1) c.after.given.0.0
+    comment_passed (bytes opening) (sign opening + 1) c.after.given.0.0
     (sym c.before.before.skip-comment.ensures ∙ c.after.given.1) (omega arith)
 
 add-skip-comment : tie.Need-overflow-add-skip-comment invariant-loop decreases-loop
@@ -92,9 +92,9 @@ returns : tie.Need-returns invariant-loop decreases-loop
 returns c =
     let opening = c.before.before.before in
     let in-loop = in-loop-of opening in
-    let lost = comment-lost (bytes opening) (sign opening + 1)
+    let lost = comment_lost (bytes opening) (sign opening + 1)
     (sym c.before.before.skip-comment.ensures ∙ c.enum-told3.given.1) in
-    skipping-unended in-loop.before.loop.inv in-loop.loop-test.taken (move-is opening) lost
+    skipping_unended in-loop.before.loop.inv in-loop.loop-test.taken (move-is opening) lost
 
 loop-less-2 : tie.Need-loop-smaller-2 invariant-loop decreases-loop
 loop-less-2 c =
@@ -106,7 +106,7 @@ loop-again-2 : tie.Need-loop-preserved-2 invariant-loop decreases-loop
 loop-again-2 c =
     let opening = sign_of c.before in
     let in-loop = in-loop-of opening in
-    skipping-comment in-loop.before.loop.inv c.before.after.given.0.0 in-loop.loop-test.taken
+    skipping_comment in-loop.before.loop.inv c.before.after.given.0.0 in-loop.loop-test.taken
     (move-is opening) (passed c.before)
 
 enum-told-4 : tie.Need-enum-told-4 invariant-loop decreases-loop
@@ -116,7 +116,7 @@ returns-2 : tie.Need-returns-2 invariant-loop decreases-loop
 returns-2 c =
     let sorting = c.before.before in
     let in-loop = sorting.before.before in
-    skipping-take in-loop.before.loop.invariant c.enum-told4.given.0.0 in-loop.loop-test.true
+    skipping_take in-loop.before.loop.invariant c.enum-told4.given.0.0 in-loop.loop-test.true
     (sym sorting.sorted.ensures ∙ c.enum-told4.given.1)
 
 enum-told-5 : tie.Need-enum-told-5 invariant-loop decreases-loop
@@ -126,11 +126,11 @@ returns-3 : tie.Need-returns-3 invariant-loop decreases-loop
 returns-3 c =
     let sorting = c.before.before in
     let in-loop = sorting.before.before in
-    skipping-stop in-loop.before.loop.invariant in-loop.loop-test.true
+    skipping_stop in-loop.before.loop.invariant in-loop.loop-test.true
     (sym sorting.sorted.ensures ∙ c.enum-told5.given.1)
 
 returns-4 : tie.Need-returns-4 invariant-loop decreases-loop
-returns-4 c = skipping-ends c.before.loop.invariant c.loop-test.false
+returns-4 c = skipping_ends c.before.loop.invariant c.loop-test.false
 
 pub skip-gap-spec : {M : Type 1} → statement M
 skip-gap-spec =

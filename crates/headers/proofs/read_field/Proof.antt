@@ -9,9 +9,9 @@ use Rattle.gaps.specs.Parsers.{parsed}
 use Rattle.gaps.specs.Gaps.{pieces, gap}
 use Rattle.gaps.specs.Cursors.{gap_end_at}
 use Rattle.gaps.specs.declared.GapEnd.TheVariants.{At}
-use Rattle.gaps.proofs.Cursors.{gap-unended, gap-absent, gap-present}
+use Rattle.gaps.proofs.Cursors.{gap_unended, gap_absent, gap_present}
 use Rattle.headers.specs.Cursors.{number_at}
-use Rattle.headers.proofs.Grammar.{field-absent, field-present}
+use Rattle.headers.proofs.Grammar.{field_absent, field_present}
 use Rattle.headers.proofs.read_field.Statement.{statement}
 use Rattle.headers.proofs.read_field.Tie as tie
 
@@ -45,22 +45,22 @@ gap_is : (c : tie.Else1)
     × (place c.before.before ≤ length (bytes c.before.before))
 gap_is c =
     let after = c.before.before in
-    gap-present (bytes after) (start after).args.from (place after) (start after).requires (gap_ends after) c.if1.false
+    gap_present (bytes after) (start after).args.from (place after) (start after).requires (gap_ends after) c.if1.false
 
 returns : tie.Need-returns
 returns c =
     let skipping = c.before.before in
     let args = skipping.before.before.args in
     let all = args.bytes.now in
-    let lost = gap-unended all args.from (sym skipping.skip-gap.ensures ∙ c.enum_told.given.1) in
-    rw (field-absent gap (drop args.from all) lost)
+    let lost = gap_unended all args.from (sym skipping.skip-gap.ensures ∙ c.enum_told.given.1) in
+    rw (field_absent gap (drop args.from all) lost)
 
 returns-2 : tie.Need-returns-2
 returns-2 c =
     let after = c.before.before in
     let from = (start after).args.from in
-    let lost = gap-absent (bytes after) from (place after) (start after).requires (gap_ends after) c.if1.true in
-    rw (field-absent gap (drop from (bytes after)) lost)
+    let lost = gap_absent (bytes after) from (place after) (start after).requires (gap_ends after) c.if1.true in
+    rw (field_absent gap (drop from (bytes after)) lost)
 
 read-number-requires : tie.Need-read-number-requires
 read-number-requires c κs = (gap_is c).1
@@ -69,7 +69,7 @@ returns-3 : tie.Need-returns-3
 returns-3 c =
     let after = c.before.before.before in
     let rest = drop (place after) (bytes after) in
-    let field_is = field-present gap (drop (start after).args.from (bytes after)) rest (gap_is c.before).0 in
+    let field_is = field_present gap (drop (start after).args.from (bytes after)) rest (gap_is c.before).0 in
     c.read_number.ensures ∙ sym (ap (number_at (length (bytes after))) field_is)
 
 pub read-field-spec : {M : Type 1} → statement M

@@ -14,9 +14,9 @@ use Rattle.headers.specs.Grammar.{mark, field, header_with, header}
 use Rattle.gaps.specs.Gaps.{gap}
 use Rattle.gaps.specs.Cursors.{succeeded}
 use Rattle.headers.specs.declared.Fields.TheVariants.{Whole}
-use Rattle.gaps.proofs.Parsers.{not_passed, one-within, one-rest}
+use Rattle.gaps.proofs.Parsers.{not_passed, one_within, one_rest}
 use Rattle.headers.proofs.Grammar.{mark_rest}
-use Rattle.headers.proofs.Cursors.{field-lost, field-read}
+use Rattle.headers.proofs.Cursors.{field_lost, field_read}
 use Rattle.headers.proofs.read_header.Statement.{statement}
 use Rattle.headers.proofs.read_header.Tie as tie
 
@@ -66,15 +66,15 @@ abbrev Field : List ℕ → ℕ → ℕ → ℕ → Type 0
 Field bytes from v n = (field gap (drop from bytes) ≡ parsed v (drop n bytes)) × (n ≤ length bytes)
 
 w_is : (c : tie.After-w) → Field (bytes₁ c) 2 c.w.given.0.0 (place₁ c)
-w_is c = field-read (bytes₁ c) 2 _ _ (sym c.before.before.read-field.ensures ∙ c.w.given.1)
+w_is c = field_read (bytes₁ c) 2 _ _ (sym c.before.before.read-field.ensures ∙ c.w.given.1)
 
 h_is : (c : tie.After-h) → Field (bytes₂ c) (place₁ (w-of c)) c.h.given.0.0 (place₂ c)
 h_is c =
-    field-read (bytes₂ c) (place₁ (w-of c)) _ _ (sym c.before.before.read-field2.ensures ∙ c.h.given.1)
+    field_read (bytes₂ c) (place₁ (w-of c)) _ _ (sym c.before.before.read-field2.ensures ∙ c.h.given.1)
 
 maxval_is : (c : tie.After-maxval) → Field (bytes₃ c) (place₂ (h-of c)) c.maxval.given.0.0 (place₃ c)
 maxval_is c =
-    field-read (bytes₃ c) (place₂ (h-of c)) _ _ (sym c.before.before.read-field3.ensures ∙ c.maxval.given.1)
+    field_read (bytes₃ c) (place₂ (h-of c)) _ _ (sym c.before.before.read-field3.ensures ∙ c.maxval.given.1)
 
 separator_is : (c : tie.Else2) → succeeded (one_byte is_white (drop (place₃ (maxval-of c)) (bytes₃ (maxval-of c)))) ≡ true
 separator_is c = sym c.before.separated.ensures ∙ not-false c.before.separated.result c.if2.false
@@ -103,7 +103,7 @@ unfolding header header_with
 returns-2 c =
     let reading = c.before.before in
     let after_mark = reading.before in
-    let lost = field-lost (bytes₀ after_mark) 2 (sym reading.read-field.ensures ∙ c.enum_told.given.1) in
+    let lost = field_lost (bytes₀ after_mark) 2 (sym reading.read-field.ensures ∙ c.enum_told.given.1) in
     rw ((marked-is after_mark).0, lost)
 
 read-field-requires-2 : tie.Need-read-field-requires-2
@@ -122,7 +122,7 @@ returns-3 c =
     let after-w = reading.before.before in
     let after_mark = mark_of after-w in
     let answer = sym reading.read-field2.ensures ∙ c.enum-told2.given.1 in
-    let lost = field-lost (bytes₁ after-w) (place₁ after-w) answer in
+    let lost = field_lost (bytes₁ after-w) (place₁ after-w) answer in
     rw ((marked-is after_mark).0, (w_is after-w).0, lost)
 
 read-field-requires-3 : tie.Need-read-field-requires-3
@@ -142,7 +142,7 @@ returns-4 c =
     let after-w = w-of after-h in
     let after_mark = mark_of after-w in
     let answer = sym reading.read-field3.ensures ∙ c.enum-told3.given.1 in
-    let lost = field-lost (bytes₂ after-h) (place₂ after-h) answer in
+    let lost = field_lost (bytes₂ after-h) (place₂ after-h) answer in
     rw ((marked-is after_mark).0, (w_is after-w).0, (h_is after-h).0, lost)
 
 separated-requires : tie.Need-separated-requires
@@ -164,7 +164,7 @@ add-t13 : tie.Need-overflow-add-t13
 add-t13 c =
     let after_maxval = maxval-of c in
     let after_mark = mark_of (w-of (h-of after_maxval)) in
-    let within = one-within is_white (bytes₃ after_maxval) (place₃ after_maxval) (separator_is c) in
+    let within = one_within is_white (bytes₃ after_maxval) (place₃ after_maxval) (separator_is c) in
     omega (arith, after_mark.before.before.before.good)
 
 returns-6 : tie.Need-returns-6
@@ -176,9 +176,9 @@ returns-6 c =
     let after_mark = mark_of after-w in
     let bytes = bytes₃ after_maxval in
     let i = place₃ after_maxval in
-    let within = one-within is_white bytes i (separator_is c) in
+    let within = one_within is_white bytes i (separator_is c) in
     let place : i + 1 ≡ length bytes - length (drop (i + 1) bytes) = rw length-drop (omega arith) in
-    let separator = one-rest is_white bytes i (separator_is c) in
+    let separator = one_rest is_white bytes i (separator_is c) in
     rw ((marked-is after_mark).0, (w_is after-w).0, (h_is after-h).0, (maxval_is after_maxval).0, separator)
     (ap (Whole after-w.w.given.0.0 after-h.h.given.0.0 after_maxval.maxval.given.0.0) place)
 

@@ -14,8 +14,8 @@ use Rattle.headers.specs.Grammar.{numeral}
 use Rattle.headers.specs.Cursors.{ended_number, number_at}
 use Rattle.gaps.proofs.Bytes.{white_not_digit, sign_not_digit, Taken, taken, skipped, opened, stopped}
 use Rattle.gaps.proofs.Parsers.{none_here, none_end}
-use Rattle.headers.proofs.Numbers.{Reading, reading_begins, reading-more, reading-ends}
-use Rattle.headers.proofs.Numbers.{reading_small, reading-long}
+use Rattle.headers.proofs.Numbers.{Reading, reading_begins, reading_more, reading_ends}
+use Rattle.headers.proofs.Numbers.{reading_small, reading_long}
 use Rattle.headers.proofs.read_number.Statement.{statement}
 use Rattle.headers.proofs.read_number.Tie as tie
 
@@ -60,13 +60,13 @@ ends : (c : tie.In-loop invariant-loop decreases-loop) → is_digit (at (bytes c
     ≡ number_at (length (bytes c.before)) (numeral (drop c.before.before.before.args.from (bytes c.before)))
 ends c e =
     let head = c.before in
-    reading-ends head.loop.invariant (none_here is_digit (bytes head) head.loop.at c.loop-test.true e)
+    reading_ends head.loop.invariant (none_here is_digit (bytes head) head.loop.at c.loop-test.true e)
 
 returns : tie.Need-returns invariant-loop decreases-loop
 returns c =
     let met = c.before.before in
     let in-loop = met.before.before.before.before in
-    reading-long in-loop.before.loop.invariant in-loop.loop-test.true (a-digit met).digit_is c.if1.true
+    reading_long in-loop.before.loop.invariant in-loop.loop-test.true (a-digit met).digit_is c.if1.true
 
 mul-value : tie.Need-overflow-mul-value invariant-loop decreases-loop
 mul-value c = omega (arith, small c.before.before)
@@ -91,7 +91,7 @@ loop-again c =
     let met = c.before.before in
     let in-loop = met.before.before.before.before in
     let within = in-loop.loop-test.true in
-    reading-more in-loop.before.loop.invariant met.next.given.0.0 within (a-digit met) c.if1.false
+    reading_more in-loop.before.loop.invariant met.next.given.0.0 within (a-digit met) c.if1.false
 
 enum_told : tie.Need-enum-told invariant-loop decreases-loop
 enum_told c = search rules
@@ -139,7 +139,7 @@ returns-5 : tie.Need-returns-5 invariant-loop decreases-loop
 returns-5 c =
     let head = c.before.before in
     let none = none_end is_digit (bytes head) head.loop.at c.before.loop-test.false in
-    c.ended4.ensures ∙ reading-ends head.loop.invariant none
+    c.ended4.ensures ∙ reading_ends head.loop.invariant none
 
 pub read-number-spec : {M : Type 1} → statement M
 read-number-spec =

@@ -5,7 +5,7 @@ use borrow.Author.Rules.{rules}
 use Rattle.planes.specs.Lists.{at}
 use Rattle.gaps.specs.Bytes.{is_white}
 use Rattle.gaps.proofs.Bytes.{digit_not_white, taken, skipped, opened, stopped}
-use Rattle.gaps.proofs.Parsers.{one-here, one_end}
+use Rattle.gaps.proofs.Parsers.{one_here, one_end}
 use Rattle.headers.proofs.separated.Statement.{statement}
 use Rattle.headers.proofs.separated.Tie as tie
 
@@ -37,7 +37,7 @@ returns-2 c =
     let i = inside.before.before.args.at in
     let byte = at bytes i in
     let test = skipped byte (sym c.before.before.sorted.ensures ∙ c.enum_told.given.1) in
-    sym (one-here is_white bytes i inside.if1.false ∙ test)
+    sym (one_here is_white bytes i inside.if1.false ∙ test)
 
 returns-3 : tie.Need-returns-3
 returns-3 c =
@@ -47,7 +47,7 @@ returns-3 c =
     let byte = at bytes i in
     let move = sym c.before.before.sorted.ensures ∙ c.enum-told2.given.1 in
     let test = digit_not_white byte (taken byte c.enum-told2.given.0.0 move).digit_is in
-    sym (one-here is_white bytes i inside.if1.false ∙ test)
+    sym (one_here is_white bytes i inside.if1.false ∙ test)
 
 returns-4 : tie.Need-returns-4
 returns-4 c =
@@ -56,7 +56,7 @@ returns-4 c =
     let i = inside.before.before.args.at in
     let byte = at bytes i in
     let test = (opened byte (sym c.before.before.sorted.ensures ∙ c.enum-told3.given.1)).0 in
-    sym (one-here is_white bytes i inside.if1.false ∙ test)
+    sym (one_here is_white bytes i inside.if1.false ∙ test)
 
 returns-5 : tie.Need-returns-5
 returns-5 c =
@@ -64,8 +64,8 @@ returns-5 c =
     let bytes = inside.before.before.args.bytes.now in
     let i = inside.before.before.args.at in
     let byte = at bytes i in
-    let test = (stopped byte (sym c.before.before.sorted.ensures ∙ c.enum-told4.given.1)).no-white in
-    sym (one-here is_white bytes i inside.if1.false ∙ test)
+    let test = (stopped byte (sym c.before.before.sorted.ensures ∙ c.enum-told4.given.1)).no_white in
+    sym (one_here is_white bytes i inside.if1.false ∙ test)
 
 pub separated-spec : {M : Type 1} → statement M
 separated-spec =

@@ -1,7 +1,7 @@
 -- `levels::below` meets its contract: the level of the section against the last. Assumes nothing.
 use native.Mathlib.Omega.{arith}
 use borrow.Author.Rules.{rules}
-use Rattle.levels.proofs.Widths.{below-some, below_none}
+use Rattle.levels.proofs.Widths.{below_some, below_none}
 use Rattle.levels.proofs.below.Statement.{statement}
 use Rattle.levels.proofs.below.Tie as tie
 
@@ -21,7 +21,7 @@ sub-result : tie.Need-overflow-sub-result
 sub-result c = omega arith
 
 returns : tie.Need-returns
-returns c = below-some (omega arith) (omega arith) c.before.level.ensures (omega (arith, c.if1.true))
+returns c = below_some (omega arith) (omega arith) c.before.level.ensures (omega (arith, c.if1.true))
 
 returns-2 : tie.Need-returns-2
 returns-2 c = below_none (omega arith) (omega arith) c.before.level.ensures (omega (arith, c.if1.false))

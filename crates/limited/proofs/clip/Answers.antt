@@ -39,7 +39,7 @@ clipped : (c : After-lesser) →
     c.lesser.result ≡ clipped_at a.most a.counts.now c.loop-v.v
 clipped c =
     let most = c.args.most in
-    c.lesser.ensures ∙ ap (λ n. min (1000 * n) most) (old c)
+    c.lesser.ensures ∙ ap (λ n. min (1000 * n) most) (c.loop-v.invariant.1.1.old _ (λ _ g. omega arith))
 
 pub overflow_cast-counts-in-loop-v : goal.overflow_cast-counts-in-loop-v
 overflow_cast-counts-in-loop-v c =

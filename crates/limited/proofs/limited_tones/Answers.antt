@@ -2,25 +2,25 @@
 -- or at all values of [least, greatest]. Assumes nothing.
 use Rattle.limited.proofs.Stores.{filled_all}
 use Rattle.histograms.proofs.Stores.{refilled_outside}
-use Rattle.histograms.proofs.Histograms.{gathered-range, gathered-own, gathered-counted}
+use Rattle.histograms.proofs.Histograms.{gathered_range, gathered_own, gathered_counted}
 use Rattle.limited.proofs.Histograms.{clipped_rise, limited_tables}
 use borrow.Author.Rules.{rules}
 use native.Mathlib.Omega.{arith}
 use Rattle.limited.proofs.limited_tones.Goals as goal
 
 pub sum_clipped-requires : goal.sum_clipped-requires
-sum_clipped-requires c = gathered-counted (gathered-own c.requires)
+sum_clipped-requires c = gathered_counted (gathered_own c.requires)
 
 pub overflow_sub-d : goal.overflow_sub-d
-overflow_sub-d c = let range = gathered-range c.requires in omega arith
+overflow_sub-d c = let range = gathered_range c.requires in omega arith
 
 pub fill_listed-requires : goal.fill_listed-requires
 fill_listed-requires c =
     let clipped = c in
     let g = clipped.requires in
-    let range = gathered-range g in
-    let rising = clipped_rise (gathered-counted g) clipped.sum_clipped.ensures in
-    ((gathered-own g).component, (rising, omega arith))
+    let range = gathered_range g in
+    let rising = clipped_rise (gathered_counted g) clipped.sum_clipped.ensures in
+    ((gathered_own g).component, (rising, omega arith))
 
 pub returns-then-c-d : goal.returns-then-c-d
 returns-then-c-d c =
@@ -37,8 +37,8 @@ pub fill_limited-requires : goal.fill_limited-requires
 fill_limited-requires c =
     let clipped = c in
     let g = clipped.requires in
-    let range = gathered-range g in
-    (clipped_rise (gathered-counted g) clipped.sum_clipped.ensures, omega arith)
+    let range = gathered_range g in
+    (clipped_rise (gathered_counted g) clipped.sum_clipped.ensures, omega arith)
 
 pub returns : goal.returns
 returns c =
@@ -47,6 +47,6 @@ returns c =
     let sums = clipped.sum_clipped.ensures in
     let filled = c.fill_limited.ensures in
     record {
-      tones = limited_tables g sums (filled_all (gathered-own g).component filled);
+      tones = limited_tables g sums (filled_all (gathered_own g).component filled);
       confined = record { counts_rest = sums.rest; table_rest = refilled_outside filled };
     }

@@ -11,9 +11,9 @@ use Rattle.planes.proofs.Refusals.{▷_left, ▷_right}
 use Rattle.listformat.specs.Format.{count_of}
 use Rattle.listformat.proofs.Format.{headed, headed_long}
 use Rattle.listchecks.specs.Refusals.{record_refusals, places_refusal}
-use Rattle.listchecks.proofs.First.{Clear, clear_none, clear-more, clear-stop, clear-all, Seen, seen_none}
+use Rattle.listchecks.proofs.First.{Clear, clear_none, clear_more, clear_stop, clear_all, Seen, seen_none}
 use Rattle.listchecks.proofs.First.{seen_more, seen_all}
-use Rattle.listchecks.proofs.Refusals.{records-length, record-told, places, places-length, place-told}
+use Rattle.listchecks.proofs.Refusals.{records_length, record_told, places, places_length, place_told}
 use Rattle.listchecks.proofs.records_refusal.Statement.{statement}
 use Rattle.listchecks.proofs.records_refusal.Tie as tie
 
@@ -42,9 +42,9 @@ returns c =
     let loop = read.before.before.loop in
     let list = read.before.before.before.before.before.args.list.now in
     let due : loop.j < count_of list = omega (arith, loop.invariant.1.1, read.before.loop-test.true) in
-    let told = c.before.record-refusal.ensures ∙ record-told list read.record-at.ensures due in
+    let told = c.before.record-refusal.ensures ∙ record_told list read.record-at.ensures due in
     let some = c.if1.true in
-    let first = clear-stop loop.invariant.0 (omega (arith, records-length list)) (λ z. some (told ∙ z)) in
+    let first = clear_stop loop.invariant.0 (omega (arith, records_length list)) (λ z. some (told ∙ z)) in
     told ∙ first ∙ sym (▷_left _ _ (λ z. some (told ∙ first ∙ z)))
 
 place-refusal-requires : tie.Need-place-refusal-requires invariant-loop decreases-loop
@@ -71,15 +71,15 @@ loop-again c =
     let list = args.list.now in
     let due : loop.j < count_of list = omega (arith, loop.invariant.1.1, read.before.loop-test.true) in
     let none =
-    sym (record-told list read.record-at.ensures due) ∙ sym checked.record-refusal.ensures
+    sym (record_told list read.record-at.ensures due) ∙ sym checked.record-refusal.ensures
     ∙ c.before.before.if1.false in
     let places-due : loop.j < length (places args.edition list) =
-    omega (arith, places-length args.edition list) in
+    omega (arith, places_length args.edition list) in
     let place =
     c.first_of.ensures
     ∙ ap (loop.place ▷◌)
-    (c.before.place-refusal.ensures ∙ place-told args.edition list read.record-at.ensures due) in (
-      clear-more loop.invariant.0 (omega (arith, records-length list)) none,
+    (c.before.place-refusal.ensures ∙ place_told args.edition list read.record-at.ensures due) in (
+      clear_more loop.invariant.0 (omega (arith, records_length list)) none,
       (
         subst (Seen (places args.edition list) (loop.j + 1)) (sym place) (seen_more loop.invariant.1.0 places-due),
         loop.invariant.1.1,
@@ -93,8 +93,8 @@ returns-2 c =
     let args = c.before.before.before.before.args in
     let list = args.list.now in
     let over : count_of list ≤ loop.j = omega (arith, loop.invariant.1.1, c.loop-test.false) in
-    let none = clear-all loop.invariant.0 (omega (arith, records-length list)) in
-    let all = seen_all loop.invariant.1.0 (omega (arith, places-length args.edition list)) in
+    let none = clear_all loop.invariant.0 (omega (arith, records_length list)) in
+    let all = seen_all loop.invariant.1.0 (omega (arith, places_length args.edition list)) in
     all ∙ sym (▷_right _ _ (sym none))
 
 pub records-refusal-spec : {M : Type 1} → statement M

@@ -2,7 +2,7 @@
 -- nothing.
 use mathlib.Core.Path.{sym, ap, ◌∙◌}
 use Rattle.tones.specs.Numbers.{form_refusal}
-use Rattle.listformat.proofs.Format.{form-set, form-unset}
+use Rattle.listformat.proofs.Format.{form_set, form_unset}
 use borrow.Author.Rules.{rules}
 use Rattle.listformat.proofs.form_refusal.Statement.{statement}
 use Rattle.listformat.proofs.form_refusal.Tie as tie
@@ -13,7 +13,7 @@ is-zero-set-requires c κs = search rules
 returns : tie.Need-returns
 returns c =
     let args = c.before.before.before.args in
-    form-set args.edition args.list.now args.i (sym c.before.is-zero-set.ensures ∙ c.if1.true)
+    form_set args.edition args.list.now args.i (sym c.before.is-zero-set.ensures ∙ c.if1.true)
 
 numbers-at-requires : tie.Need-numbers-at-requires
 numbers-at-requires c κs = search rules
@@ -27,7 +27,7 @@ returns-2 c =
     let args = tested.before.before.before.args in
     let unset = sym tested.before.is-zero-set.ensures ∙ tested.if1.false in
     c.form-refusal.ensures ∙ ap form_refusal c.before.numbers-at.ensures
-    ∙ form-unset args.edition args.list.now args.i unset
+    ∙ form_unset args.edition args.list.now args.i unset
 
 pub form-refusal-spec : {M : Type 1} → statement M
 form-refusal-spec =

@@ -9,7 +9,7 @@ use Rattle.planes.specs.Replies.{replied}
 use Rattle.planes.proofs.Replies.{replied_none, replied_refused}
 use Rattle.gaps.specs.Parsers.{parsed}
 use Rattle.headers.specs.Grammar.{header}
-use Rattle.headers.proofs.Cursors.{header-lost, header_read}
+use Rattle.headers.proofs.Cursors.{header_lost, header_read}
 use Rattle.netpbm.specs.Reading.{read_reply}
 use Rattle.netpbm.proofs.Answers.{reply-headed}
 use Rattle.netpbm.proofs.read_within.Statement.{statement}
@@ -51,7 +51,7 @@ unfolding read_reply
 returns c =
     let reading = c.before.before in
     let bytes = reading.before.before.args.bytes.now in
-    rw (header-lost bytes (sym reading.read-header.ensures ∙ c.enum_told.given.1))
+    rw (header_lost bytes (sym reading.read-header.ensures ∙ c.enum_told.given.1))
 
 sub-frame-refusal : tie.Need-overflow-sub-frame-refusal
 sub-frame-refusal c = (header_is c.before).1

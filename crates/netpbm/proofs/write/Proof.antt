@@ -6,7 +6,7 @@ use borrow.Author.Rules.{rules}
 use lib.ListN.{length}
 use Rattle.texts.proofs.Placing.{put_more}
 use Rattle.netpbm.specs.Writing.{write_refusal}
-use Rattle.texts.proofs.Writing.{wrote-refused, wrote-accepted}
+use Rattle.texts.proofs.Writing.{wrote_refused, wrote_accepted}
 use Rattle.netpbm.proofs.Writing.{Writable, writable}
 use Rattle.netpbm.proofs.write.Statement.{statement}
 use Rattle.netpbm.proofs.write.Tie as tie
@@ -31,7 +31,7 @@ write-refusal-requires c κs = search rules
 returns : tie.Need-returns
 returns c =
     let args = c.before.before.before.before.args in
-    wrote-refused _ _ args.output.now c.before.write-refusal.result c.before.write-refusal.ensures
+    wrote_refused _ _ args.output.now c.before.write-refusal.result c.before.write-refusal.ensures
     c.if1.true
 
 put-heading-requires : tie.Need-put-heading-requires
@@ -57,7 +57,7 @@ returns-2 c =
     let args = (start free).args in
     let room = (fine free).room in
     let whole = put_more heading.put-heading.ensures putting.put-bytes.ensures (omega arith) in
-    wrote-accepted _ _ args.output.now putting.put-bytes.result putting.put-bytes.new.0 (accepted free)
+    wrote_accepted _ _ args.output.now putting.put-bytes.result putting.put-bytes.new.0 (accepted free)
     whole
 
 pub write_spec : {M : Type 1} → statement M

@@ -59,7 +59,7 @@ use Rattle.model.specs.contracts.Answer as answer-type
 use Rattle.model.proofs.Answer.TheLaws as answer-laws
 use Rattle.model.specs.Outcomes.{answer_reply}
 use Rattle.passlists.specs.Outcomes.{PassesOutcome}
-use Rattle.passlists.proofs.Walks.Locals.{Blocks, curried, enters-all, frees_all}
+use Rattle.passlists.proofs.Walks.Locals.{Blocks, curried, enters_all, frees_all}
 use Rattle.passlists.proofs.Walks.Lent.{Loan, loan, ref, val}
 use Rattle.passlists.proofs.Walks.Told.{told}
 use Rattle.passlists.proofs.Walks.Three.{Long, Mines}
@@ -70,7 +70,7 @@ use Rattle.passlists.proofs.run_passes.Symbol as run-passes-def
 use Rattle.passlists.proofs.run_passes.Symbol.{name as #passlists·run-passes}
 use Rattle.passlists.proofs.run_passes.Met as run-passes-thm
 use Rattle.passarrays.specs.Arrays.{array_length}
-use Rattle.passarrays.proofs.Arrays.{Kept, lends-front, array_back}
+use Rattle.passarrays.proofs.Arrays.{Kept, lends_front, array_back}
 use Rattle.passarrays.specs.contracts.run_front.Key.{name as #passarrays·run-front}
 use Rattle.passarrays.specs.contracts.run_front as run-front
 use Rattle.passarrays.proofs.run_front.Statement as stated
@@ -244,7 +244,7 @@ module _ {M : Type 1} {𝓤 : Ura M} (𝓛 : Logic 𝓤) (mem : Memory → SProp
         move ! (1 ∷ 2 ∷ 0 ∷ []) $ use3 𝓛 (later (some (λ (δ : GName).
         ‵ ((ShrSlice (named 0) (ν ∷ []) R).own_val (passed δ) (slice_val (l, 0) k ∷ [])) ⊛ ‵ (flft (ν ∷ []) full_share)
         ⊛ ‵ (Kept R tt (ν ∷ []) full_share l ps array_length))))
-        (lends-front R tt (ν ∷ []) full_share l ps 𝓛 (named 0) copies array_length k full
+        (lends_front R tt (ν ∷ []) full_share l ps 𝓛 (named 0) copies array_length k full
         (subst (λ (m : ℕ). k ≤ m) (sym full) within) av (lit< tt, lit< tt))
         $ await ! tt $ pick ! (λ δ. split3 ! $ move ! (0 ∷ 2 ∷ 1 ∷ [])
         $ move ! (3 ∷ []) $ fsplit ! $ fsplit ! $ move ! (2 ∷ []) $ fsplit ! $ fsplit ! $ move ! (2 ∷ []) $ fsplit !
@@ -306,7 +306,7 @@ module _ {M : Type 1} {𝓤 : Ura M} (𝓛 : Logic 𝓤) (mem : Memory → SProp
   walk 𝓣 known =
       qed 𝓛 (raw Entered ∷ []) ∵
       use1 𝓛 (‵ Own ⊛ ‵ Ours) starts $ split ! $ enter ! 𝓣.C 𝓣.Λ code.function passing _
-      $ enters-all ! _ _ _ passing
+      $ enters_all ! _ _ _ passing
       (wt, ((tt, fk), ((tt, wp), ((tt, wn), ((tt, wq), (wz, tt))))))
       (λ l₀ l₁ l₂ l₃ l₄ l₅ l₆ l₇ l₈ l₉ l₁₀ l₁₁ l₁₂ l₁₃ l₁₄ l₁₅.
       -- the array is copied, and its first passes are lent

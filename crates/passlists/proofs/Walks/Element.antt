@@ -3,7 +3,7 @@
 --
 --   Shown S ys   what is held: what the `&[Pass]` owns at the list ys, and the token
 --   mach p       the machine value of a pass
---   reads-pass   the statement `_d = *_k`, where local k, at entry np of what follows, points to element i of ys, and
+--   reads_pass   the statement `_d = *_k`, where local k, at entry np of what follows, points to element i of ys, and
 --                local d is room, at entry nd
 use mathlib.Core.Path.{◌≡◌, refl, sym, subst}
 use Prim.Native.Nat.{ℕ, suc, ◌<◌, ◌*◌, ◌+◌, ◌^◌}
@@ -64,7 +64,7 @@ module _ {M : Type 1} {𝓤 : Ura M} {𝓛 : Logic 𝓤} {K : Type 0} {Γ : List
     {E : Env 𝓤 𝓛.H} {C : Calls 𝓤 𝓛.H} {Λ : Loops 𝓤 𝓛.H} {q : Post 𝓤 𝓛.H} where
   open 𝓛 use {H}
 
-  pub reads-pass : K → {rest : Body} {d k : ℕ} (S : Loan) (ys : List Pass) (i : ℕ) → i < length ys
+  pub reads_pass : K → {rest : Body} {d k : ℕ} (S : Loan) (ys : List Pass) (i : ℕ) → i < length ys
       → (np nd : ℕ) {lp ld : ℕ} → spot_of 𝓤 H E k ≡ (ty_ptr, lp, 0) → spot_of 𝓤 H E d ≡ (pass-laws.mir, ld, 0)
       → nth 𝓛 np Γ ≡ ‵ (fat full_share ty_ptr lp 0 (vptr S.b (i * pass_size + S.o)))
       → nth 𝓛 nd Γ ≡ ‵ (froom pass-laws.mir ld 0)
@@ -73,7 +73,7 @@ module _ {M : Type 1} {𝓤 : Ura M} {𝓛 : Logic 𝓤} {K : Type 0} {Γ : List
       (runs C Λ E rest q))
       → Seq K 𝓛 (‵ (Shown S ys) ∷ Γ)
       (runs C Λ E (seq (assign (place d []) (rv_opd (copy (place k (deref pass-laws.mir ∷ []))))) rest) q)
-  reads-pass t {rest} {d} {k} S ys i l np nd {lp} {ld} ek ed ep er next =
+  reads_pass t {rest} {d} {k} S ys i l np nd {lp} {ld} ek ed ep er next =
       fsplit t $ fsplit t $ move t (1 ∷ []) $ fsplit t $ move t (1 ∷ 3 ∷ [])
       $ looks_slice t tt R (Is R) (shows 𝓛 R) (LL.vals pass-type.the_type pass-laws.the_laws)
       (LL.tells pass-type.the_type pass-laws.the_laws) (LL.copy pass-type.the_type pass-laws.the_copy 𝓛)

@@ -4,9 +4,9 @@
 --
 --   stand ls bs vs Γ   the context in which the locals ls stand, in their order, before Γ: local i is entry 2 * i, at
 --                      the block bs_i, and holds vs_i, or nothing
---   envOf ls bs        the environment of those locals
+--   env_of ls bs        the environment of those locals
 --   rest               the second part of a sequence of statements
---   enters-all         a function's locals are allocated, and its arguments stored in those after the first
+--   enters_all         a function's locals are allocated, and its arguments stored in those after the first
 --   frees_all          they are freed, whatever they hold
 --   last               the head of the context goes to its end, behind the locals
 --   Ends               how a turn of a `while` ends: the loop begins again, or it is left and what follows it runs
@@ -67,9 +67,9 @@ module _ {M : Type 1} {𝓤 : Ura M} where
   stand (local τ h ∷ ls) bs (v ∷ vs) Γ = holds τ bs.0 v ∷ ‵ (fdies τ bs.0) ∷ stand ls bs.1 vs Γ
 
 module _ {M : Type 1} (𝓤 : Ura M) (H : Heap 𝓤) where
-  abbrev pub envOf : (ls : List Local) → Blocks ls → Env 𝓤 H
-  envOf [] bs = []
-  envOf (local τ h ∷ ls) bs = (τ, bs.0) ∷ envOf ls bs.1
+  abbrev pub env_of : (ls : List Local) → Blocks ls → Env 𝓤 H
+  env_of [] bs = []
+  env_of (local τ h ∷ ls) bs = (τ, bs.0) ∷ env_of ls bs.1
 
 -- the second part of a sequence
 abbrev pub rest : Body → Body
@@ -126,14 +126,14 @@ module _ {M : Type 1} {𝓤 : Ura M} {𝓛 : Logic 𝓤} {K : Type 0} where
   open 𝓛 use {H}
 
   allocs-by : K → (ls : List Local) {Γ : List (Item 𝓤)} {Kt : Env 𝓤 H → Goal 𝓤 H}
-      → ((bs : Blocks ls) → Seq K 𝓛 (stand ls bs [] Γ) (Kt (envOf 𝓤 H ls bs))) → Seq K 𝓛 Γ (allocs ls Kt)
+      → ((bs : Blocks ls) → Seq K 𝓛 (stand ls bs [] Γ) (Kt (env_of 𝓤 H ls bs))) → Seq K 𝓛 Γ (allocs ls Kt)
   allocs-by t [] k = alloc0 t $ k tt
   allocs-by t (local τ h ∷ ls) k =
       alloc1 t (λ b. allocs-by t ls (λ bs.
       by t (via 𝓤 _ (forth 𝓛 ls bs [] (‵ (froom τ b 0)) (‵ (fdies τ b)) _) (k (b, bs)).prf)))
 
   passes-by : K → (ls : List Local) (bs : Blocks ls) (vs : List Val) → Typed ls vs → (Γ : List (Item 𝓤)) (g : Goal 𝓤 H)
-      → Seq K 𝓛 (stand ls bs (map some vs) Γ) g → Seq K 𝓛 (stand ls bs [] Γ) (passes (envOf 𝓤 H ls bs) vs g)
+      → Seq K 𝓛 (stand ls bs (map some vs) Γ) g → Seq K 𝓛 (stand ls bs [] Γ) (passes (env_of 𝓤 H ls bs) vs g)
   passes-by t [] bs [] wt Γ g k = pass0 t $ k
   passes-by t [] bs (v ∷ vs) wt Γ g k = absurd wt
   passes-by t (local τ h ∷ ls) bs [] wt Γ g k = pass0 t $ k
@@ -144,28 +144,28 @@ module _ {M : Type 1} {𝓤 : Ura M} {𝓛 : Logic 𝓤} {K : Type 0} where
       (passes-by t ls bs.1 vs wt.1 _ g
       (by t (via 𝓤 _ (forth 𝓛 ls bs.1 (map some vs) cell dies Γ) k.prf))).prf)
 
-  pub enters-all : K → (τ : Ty) (h : Home) (ls : List Local) (vs : List Val) → Typed ls vs
+  pub enters_all : K → (τ : Ty) (h : Home) (ls : List Local) (vs : List Val) → Typed ls vs
       → {Γ : List (Item 𝓤)} {Kt : Env 𝓤 H → Goal 𝓤 H}
       → Each (local τ h ∷ ls) (λ bs.
-      Seq K 𝓛 (stand (local τ h ∷ ls) bs (none ∷ map some vs) Γ) (Kt (envOf 𝓤 H (local τ h ∷ ls) bs)))
+      Seq K 𝓛 (stand (local τ h ∷ ls) bs (none ∷ map some vs) Γ) (Kt (env_of 𝓤 H (local τ h ∷ ls) bs)))
       → Seq K 𝓛 Γ (allocs (local τ h ∷ ls) (λ E. params' E vs (Kt E)))
-  enters-all t τ h ls vs wt {Γ} {Kt} k = allocs-by t (local τ h ∷ ls) entered
+  enters_all t τ h ls vs wt {Γ} {Kt} k = allocs-by t (local τ h ∷ ls) entered
     where
       Entered : Blocks (local τ h ∷ ls) → Type 1
-      Entered bs = Seq K 𝓛 (stand (local τ h ∷ ls) bs (none ∷ map some vs) Γ) (Kt (envOf 𝓤 H (local τ h ∷ ls) bs))
+      Entered bs = Seq K 𝓛 (stand (local τ h ∷ ls) bs (none ∷ map some vs) Γ) (Kt (env_of 𝓤 H (local τ h ∷ ls) bs))
 
       entered : (bs : Blocks (local τ h ∷ ls)) → Seq K 𝓛 (stand (local τ h ∷ ls) bs [] Γ)
-          (params' (envOf 𝓤 H (local τ h ∷ ls) bs) vs (Kt (envOf 𝓤 H (local τ h ∷ ls) bs)))
+          (params' (env_of 𝓤 H (local τ h ∷ ls) bs) vs (Kt (env_of 𝓤 H (local τ h ∷ ls) bs)))
       entered bs =
           let room = ‵ (froom τ bs.0 0) in
           let dies = ‵ (fdies τ bs.0) in
           params1 t $ by t (via 𝓤 _ (behind 𝓛 ls bs.1 [] room dies Γ)
-          (passes-by t ls bs.1 vs wt (room ∷ dies ∷ Γ) (Kt (envOf 𝓤 H (local τ h ∷ ls) bs))
+          (passes-by t ls bs.1 vs wt (room ∷ dies ∷ Γ) (Kt (env_of 𝓤 H (local τ h ∷ ls) bs))
           (by t (via 𝓤 _ (forth 𝓛 ls bs.1 (map some vs) room dies Γ)
           (applied (local τ h ∷ ls) Entered k bs).prf))).prf)
 
   pub frees_all : K → (ls : List Local) (bs : Blocks ls) (vs : List (Option Val)) {Γ : List (Item 𝓤)} {g : Goal 𝓤 H}
-      → Step K 𝓛 Γ g (stand ls bs vs Γ) (frees (envOf 𝓤 H ls bs) g)
+      → Step K 𝓛 Γ g (stand ls bs vs Γ) (frees (env_of 𝓤 H ls bs) g)
   frees_all t [] bs vs = free0 t
   frees_all t (local τ h ∷ ls) bs [] = step (λ s. free1 t $ frees_all t ls bs.1 [] $ s)
   frees_all t (local τ h ∷ ls) bs (none ∷ vs) = step (λ s. free1 t $ frees_all t ls bs.1 vs $ s)

@@ -5,8 +5,8 @@
 --   Names         the lifetime of the call, and the three names
 --   Mines x       what is held of the three at the lists x, with their tokens
 --   Outs z x      what is kept of them while they are lent
---   lends-three   Mines x  ⊢ ⇛ ∃ z. (the token, and what the callee's three own) ∗ Outs z x
---   backs-three   the token ∗ what says the callee's last lists ∗ Outs z x  ⊢ ⇛ ⌜ they are as long ⌝ ∧ Mines y
+--   lends_three   Mines x  ⊢ ⇛ ∃ z. (the token, and what the callee's three own) ∗ Outs z x
+--   backs_three   the token ∗ what says the callee's last lists ∗ Outs z x  ⊢ ⇛ ⌜ they are as long ⌝ ∧ Mines y
 use mathlib.Core.Path.{◌≡◌}
 use Prim.Native.Nat.{ℕ}
 use mathlib.Core.List.{List, [], ◌∷◌}
@@ -69,9 +69,9 @@ module _ (R₁ R₂ R₃ : RattleType) where
     module _ {M : Type 1} {𝓤 : Ura M} (𝓛 : Logic 𝓤) (x : Lists) (long : Long x) where
       open 𝓛 use {H, A}
 
-      pub lends-three : ent 𝓤 (sem 𝓛 (Mines x))
+      pub lends_three : ent 𝓤 (sem 𝓛 (Mines x))
           (H.⇛ (ex 𝓤 (λ (z : Names). sep 𝓤 (mean 𝓛 (lent 𝓤 z x)) (sem 𝓛 (Outs z x)))))
-      lends-three =
+      lends_three =
           qed 𝓛 (‵ (Mines x) ∷ []) ∵ updating ! $ fsplit ! $ move ! (1 ∷ []) $ fsplit !
           $ lft_new ! tt (λ ν. move ! (3 ∷ [])
           $ use1 𝓛 (later (some (λ (δ : GName).
@@ -94,10 +94,10 @@ module _ (R₁ R₂ R₃ : RattleType) where
           $ move ! (3 ∷ 1 ∷ []) $ fjoin ! $ move ! (4 ∷ 0 ∷ []) $ fjoin ! $ move ! (4 ∷ 3 ∷ 2 ∷ 1 ∷ []) $ group ! 4
           $ frame ! $ done !))))
 
-      pub backs-three : (z : Names) (y : Lists) (F : Fml) → Room R₁ P.n → Room R₂ N.n → Room R₃ Q.n
+      pub backs_three : (z : Names) (y : Lists) (F : Fml) → Room R₁ P.n → Room R₂ N.n → Room R₃ Q.n
           → ent 𝓤 (sep 𝓤 (A.lft (z.0 ∷ []) full_share) (sep 𝓤 (sem 𝓛 (Last z x y F)) (sem 𝓛 (Outs z x))))
           (H.⇛ (guard 𝓤 (AsLong x y) (sem 𝓛 (Mines y))))
-      backs-three z y F rp rn rq =
+      backs_three z y F rp rn rq =
           qed 𝓛 (‵ (flft (z.0 ∷ []) full_share) ∷ ‵ (Last z x y F) ∷ ‵ (Outs z x) ∷ []) ∵ updating ! $ lft_end ! tt
           $ use1 𝓛 (‵ (fdead (z.0 ∷ [])) ⊛ ‵ (fdead (z.0 ∷ []))) (𝓛.lfts.dead_dup (z.0 ∷ [])) $ split !
           $ use1 𝓛 (‵ (fdead (z.0 ∷ [])) ⊛ ‵ (fdead (z.0 ∷ []))) (𝓛.lfts.dead_dup (z.0 ∷ [])) $ split !

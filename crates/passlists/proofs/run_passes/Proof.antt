@@ -75,13 +75,13 @@ use Rattle.passturns.specs.contracts.Progress as progress-type
 use Rattle.passturns.proofs.Progress.TheLaws as progress-laws
 use Rattle.listformat.proofs.Format.{no_pass}
 use Rattle.passlists.proofs.Turns.{Plan, Inv, μ, within, asks, begins}
-use Rattle.passlists.proofs.Plans.{memoryPlan, memory-turns, memory-ends}
-use Rattle.passlists.proofs.Walks.Locals.{Blocks, curried, stand, envOf, rest, enters-all, frees_all, last, Ends}
+use Rattle.passlists.proofs.Plans.{memory_plan, memory_turns, memory_ends}
+use Rattle.passlists.proofs.Walks.Locals.{Blocks, curried, stand, env_of, rest, enters_all, frees_all, last, Ends}
 use Rattle.passlists.proofs.Walks.Locals.{tests}
 use Rattle.passlists.proofs.Walks.Lent.{Loan, loan, ref, val}
 use Rattle.passlists.proofs.Walks.Told.{told}
-use Rattle.passlists.proofs.Walks.Three.{Names, AsLong, lent, lends-three, backs-three}
-use Rattle.passlists.proofs.Walks.Element.{R, mach, Shown, scaled, reads-pass}
+use Rattle.passlists.proofs.Walks.Three.{Names, AsLong, lent, lends_three, backs_three}
+use Rattle.passlists.proofs.Walks.Element.{R, mach, Shown, scaled, reads_pass}
 use Rattle.passlists.proofs.Walks.Entry.{RZ, mach_z, Three, Fit, Ours, Rest, starts, Tokens, Had, closes}
 use Rattle.passturns.specs.contracts.begin as begin
 use Rattle.passturns.proofs.begin.Symbol as begin-def
@@ -166,7 +166,7 @@ module _ {M : Type 1} {𝓤 : Ura M} (𝓛 : Logic 𝓤) (mem : Memory → SProp
   vals = (s ∷ [], (val P ∷ [], (val N ∷ [], (val Q ∷ [], (mach_z shape ∷ [], tt)))))
 
   abbrev plan : Plan shape x₀.0 x₀.1.0 x₀.1.1
-  plan = memoryPlan shape ys x₀.0 x₀.1.0 x₀.1.1
+  plan = memory_plan shape ys x₀.0 x₀.1.0 x₀.1.1
 
   abbrev bound : (walk_of 𝓛 run-passes.ended stayed (run-passes.clauses 𝓛 mem run)).Ghost
   bound = (((S.κ, (P.κ, (N.κ, (Q.κ, tt)))), (S.q, (P.q, (N.q, (Q.q, tt)))), tt, a, vals), tt)
@@ -333,7 +333,7 @@ module _ {M : Type 1} {𝓤 : Ura M} (𝓛 : Logic 𝓤) (mem : Memory → SProp
     goes-out l r is =
         qed 𝓛 (‵ (Ours P N Q t.x) ∷ []) ∵ updating !
         $ use1 𝓛 (later (some (λ (z : Names). asked z ⊛ ‵ (Rest P N Q z t.x))))
-        (lends-three u8 u8 u32 (named 1) (named 2) (named 3) P N Q 𝓛 t.x t.fit)
+        (lends_three u8 u8 u32 (named 1) (named 2) (named 3) P N Q 𝓛 t.x t.fit)
         $ await ! tt $ pick ! (λ z. split !
         $ use1 𝓛 (raw ((Turns 𝓛 mem run).pre (to-turn z))) (goes z l r is) $ at_once !
         $ show ! (λ (z' : Names).
@@ -367,7 +367,7 @@ module _ {M : Type 1} {𝓤 : Ura M} (𝓛 : Logic 𝓤) (mem : Memory → SProp
         $ await ! tt $ pick ! (λ r. learn ! (λ st. split3 ! $ move ! (1 ∷ [])
         $ facts ! RS (Is RS) (shows 𝓛 RS) r.0 (v ∷ []) (λ is. split ! $ move ! (0 ∷ 2 ∷ 3 ∷ [])
         $ use3 𝓛 (later (given (AsLong u8 u8 u32 t.x (lists r.1)) (‵ (Ours P N Q (lists r.1)))))
-        (backs-three u8 u8 u32 (named 1) (named 2) (named 3) P N Q 𝓛 t.x t.fit z (lists r.1)
+        (backs_three u8 u8 u32 (named 1) (named 2) (named 3) P N Q 𝓛 t.x t.fit z (lists r.1)
         (fsep ftrue (fsep ftrue (fsep ftrue (fsep ftrue ftrue)))) rp rm rq)
         $ await ! tt $ learn ! (λ e. at_once !
         $ show ! (λ (y : Progress × Three). guard 𝓤 (After v y) (sem 𝓛 (Ours P N Q y.1))) (r.0, lists r.1)
@@ -377,7 +377,7 @@ module _ {M : Type 1} {𝓤 : Ura M} (𝓛 : Logic 𝓤) (mem : Memory → SProp
   stepped : (t : Turn) → t.u.at < t.u.end → (v : Val) (y : Progress × Three)
       → After t (get_or ys t.u.at no_pass) v y → InvAt y.0 y.1 × (measure y.0 < measure t.u)
   stepped t l v y af =
-      memory-turns shape ys x₀.0 x₀.1.0 x₀.1.1 t.u _ _ _ t.inv l y.0 _ _ _ af.1.0
+      memory_turns shape ys x₀.0 x₀.1.0 x₀.1.1 t.u _ _ _ t.inv l y.0 _ _ _ af.1.0
 
   after : (t : Turn) → t.u.at < t.u.end → (v : Val) (y : Progress × Three)
       → After t (get_or ys t.u.at no_pass) v y → Turn
@@ -409,7 +409,7 @@ module _ {M : Type 1} {𝓤 : Ura M} (𝓛 : Logic 𝓤) (mem : Memory → SProp
     Λ = 𝓣.Λ
 
     abbrev En : Env 𝓤 H
-    En = envOf 𝓤 H (code.function).locals bs
+    En = env_of 𝓤 H (code.function).locals bs
 
     -- what the locals hold: the result, the five parameters, the state, and the temporaries
     abbrev held : Turn → List (Option Val)
@@ -454,7 +454,7 @@ module _ {M : Type 1} {𝓤 : Ura M} (𝓛 : Logic 𝓤) (mem : Memory → SProp
         $ assigns ! (bin ! (load ! (from ! (fld ! refl (stop !))) (look_in ! 2 (sub ! 0 refl (whole !))))
         (load ! (from ! (stop !)) (look ! 36 refl)) tt)
         (from ! (stop !)) (init ! 38 refl (tt, tt))
-        $ move ! (42 ∷ []) $ reads-pass ! S ys t.u.at (in_list less) 38 40 refl refl refl refl (λ is.
+        $ move ! (42 ∷ []) $ reads_pass ! S ys t.u.at (in_list less) 38 40 refl refl refl refl (λ is.
         -- [the passes; the locals; the three slices]
         move ! (43 ∷ [])
         $ use1 𝓛 (later (some (λ (z : Names).
@@ -508,7 +508,7 @@ module _ {M : Type 1} {𝓤 : Ura M} (𝓛 : Logic 𝓤) (mem : Memory → SProp
 
         outcome : T (not (ltb t.u.at t.u.end)) → Out (replied t.u.refusal (counts_so_far t.u)) t.x
         outcome over =
-            memory-ends shape ys x₀.0 x₀.1.0 x₀.1.1 t.u _ _ _ t.inv
+            memory_ends shape ys x₀.0 x₀.1.0 x₀.1.1 t.u _ _ _ t.inv
             (nltb→le t.u.at t.u.end over)
 
   walk : (𝓣 : Tables 𝓤 H) → Known 𝓛 mem run 𝓣.C
@@ -520,7 +520,7 @@ module _ {M : Type 1} {𝓤 : Ura M} (𝓛 : Logic 𝓤) (mem : Memory → SProp
       (S.q, (P.q, (N.q, (Q.q, tt)))) a vals) ∷ []) ∵
       use1 𝓛 (‵ (Shown S ys) ⊛ ‵ (Ours P N Q x₀)) (starts S P N Q ys x₀ shape 𝓛) $ split !
       $ enter ! 𝓣.C 𝓣.Λ code.function (s ∷ val P ∷ val N ∷ val Q ∷ mach_z shape ∷ []) _
-      $ enters-all ! _ _ _ (s ∷ val P ∷ val N ∷ val Q ∷ mach_z shape ∷ [])
+      $ enters_all ! _ _ _ (s ∷ val P ∷ val N ∷ val Q ∷ mach_z shape ∷ [])
       ((tt, ws), ((tt, wp), ((tt, wn), ((tt, wq), (wz, tt)))))
       (λ l₀ l₁ l₂ l₃ l₄ l₅ l₆ l₇ l₈ l₉ l₁₀ l₁₁ l₁₂ l₁₃ l₁₄ l₁₅ l₁₆ l₁₇ l₁₈ l₁₉ l₂₀.
       -- the lengths are read

@@ -6,7 +6,7 @@ use Rattle.planes.specs.Lists.{at}
 use Rattle.plain.specs.Plain.{kept_by}
 use Rattle.histograms.proofs.Sums.{term_le}
 use Rattle.histograms.proofs.Scaled.{scaled_below}
-use Rattle.plain.proofs.Histograms.{kept-by-ends}
+use Rattle.plain.proofs.Histograms.{kept_by_ends}
 use native.Mathlib.Omega.{arith}
 use borrow.Author.Rules.{rules}
 use Rattle.plain.proofs.plain_keeps.Goals as goal
@@ -41,4 +41,4 @@ returns c =
     let a = s.args in
     λ vs h. c.keeps.ensures
     ∙ ap (λ t. kept_by a.low a.high (a.c.greatest - a.c.least) (a.b - t)) c.scale-tone.ensures
-    ∙ kept-by-ends s.requires.range h a.low a.high
+    ∙ kept_by_ends s.requires.range h a.low a.high

@@ -2,6 +2,7 @@
 use Rattle.histograms.proofs.Stores.{refilled_outside}
 use Rattle.histograms.proofs.Histograms.{summed_rise}
 use Rattle.plain.proofs.Histograms.{plain_tabled}
+use Rattle.planes.specs.Lists.{at}
 use borrow.Author.Rules.{rules}
 use native.Mathlib.Omega.{arith}
 use Rattle.plain.proofs.plain_table.Goals as goal
@@ -10,7 +11,7 @@ pub fill_plain-requires : goal.fill_plain-requires
 fill_plain-requires c =
     let counted = c.requires in
     let summed = c.sum_up.ensures in
-    (summed_rise _ counted.range summed.entry (omega (arith, counted.whole)), omega arith)
+    (summed_rise (at c.args.counts.now) counted.range summed.entry (omega (arith, counted.whole)), omega arith)
 
 pub returns : goal.returns
 returns c =

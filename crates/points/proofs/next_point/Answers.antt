@@ -6,7 +6,7 @@ use native.Mathlib.Nat.{min-le_left, mul-le-mul}
 use Rattle.points.specs.declared.Point.{Point}
 use Rattle.points.specs.Points.{growth, First}
 use Rattle.points.proofs.Sizes.{three_few}
-use Rattle.points.proofs.Points.{sums-few, next-is}
+use Rattle.points.proofs.Points.{sums_few, next_is}
 use borrow.Author.Rules.{rules}
 use native.Mathlib.Omega.{arith}
 use Rattle.points.proofs.next_point.Goals as goal
@@ -26,7 +26,7 @@ find-place-requires c =
     let range = s.requires.0.1.range in
     let later = c.later-from.ensures in
     let reached = s.requires.1.1 in (
-      (s.requires.0.0, sums-few s.args.s s.requires.0.1),
+      (s.requires.0.0, sums_few s.args.s s.requires.0.1),
       (omega arith, (omega (arith, later, range.order, reached.to), omega arith)),
     )
 
@@ -82,4 +82,4 @@ returns c =
     let higher : ℕ → Point = λ g. record { place = f.find-place.result; height = a.p.height + g } in
     let growth-is : c.grown.result ≡ growth a.s d (100 * (a.b - a.a) * (a.i + 1) - a.p.height) =
     c.grown.ensures ∙ ap (growth a.s d) c.wanted-more.ensures in
-    ap higher growth-is ∙ sym (next-is a.s pre.0.1 a.i pre.1.0 a.p pre.1.1 (found (goal.at.returns c).After-find-place))
+    ap higher growth-is ∙ sym (next_is a.s pre.0.1 a.i pre.1.0 a.p pre.1.1 (found (goal.at.returns c).After-find-place))

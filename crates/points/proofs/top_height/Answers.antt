@@ -6,15 +6,15 @@ use Rattle.planes.specs.Lists.{at}
 use Rattle.points.specs.declared.Point.{Point}
 use Rattle.points.specs.Points.{Reached}
 use Rattle.points.proofs.Sizes.{three_few}
-use Rattle.points.proofs.Points.{reached-first}
-use Rattle.points.proofs.Ahead.{Ahead, ahead-first, end-top, next_of}
+use Rattle.points.proofs.Points.{reached_first}
+use Rattle.points.proofs.Ahead.{Ahead, ahead_first, end_top, next_of}
 use native.Mathlib.Omega.{arith}
 use Rattle.points.proofs.top_height.Goals as goal
 
 pub loop-i-init : goal.loop-i-init
 loop-i-init c =
     let s = c in
-    (omega arith, (reached-first s.args.s s.requires.1, ahead-first s.args.s s.args.a s.args.b _ _))
+    (omega arith, (reached_first s.args.s s.requires.1, ahead_first s.args.s s.args.a s.args.b _ _))
 
 pub next_point-q-requires : goal.next_point-q-requires
 next_point-q-requires c =
@@ -37,6 +37,6 @@ returns c =
     let ahead = subst (λ (i : ℕ). Ahead a.s a.a a.b (at a.sums.now) a.c.size i p) all inv.1.1 in
     let few = three_few {x = a.s.smax} {n = a.s.segments} {d = p.place - a.a} (omega arith) (omega arith)
     (omega (arith, inv.1.0.to)) in (
-      ap (λ (q : Point). q.height) (end-top a.s a.a a.b (at a.sums.now) a.c.size p ahead),
+      ap (λ (q : Point). q.height) (end_top a.s a.a a.b (at a.sums.now) a.c.size p ahead),
       omega (arith, inv.1.0.low, few),
     )

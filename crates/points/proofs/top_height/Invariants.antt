@@ -6,8 +6,8 @@ use Rattle.planes.specs.Lists.{at}
 use Rattle.points.specs.declared.Point.{Point}
 use Rattle.points.specs.Points.{Reached}
 use Rattle.points.proofs.Sizes.{three_few}
-use Rattle.points.proofs.Points.{reached-first}
-use Rattle.points.proofs.Ahead.{Ahead, ahead-first, end-top, next_of}
+use Rattle.points.proofs.Points.{reached_first}
+use Rattle.points.proofs.Ahead.{Ahead, ahead_first, end_top, next_of}
 use native.Mathlib.Omega.{arith}
 use Rattle.points.proofs.top_height.Given as goal
 

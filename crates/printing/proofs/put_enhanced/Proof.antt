@@ -4,7 +4,7 @@ use mathlib.Core.Path.{sym}
 use native.Mathlib.Omega.{arith}
 use borrow.Author.Rules.{rules}
 use lib.Seq.{length-take-le}
-use Rattle.printing.proofs.Enhancing.{raster_lent, recoloured, emitted-enhanced, never-refused}
+use Rattle.printing.proofs.Enhancing.{raster_lent, recoloured, emitted_enhanced, never_refused}
 use Rattle.printing.proofs.put_enhanced.Statement.{statement}
 use Rattle.printing.proofs.put_enhanced.Tie as tie
 
@@ -83,7 +83,7 @@ returns c =
       queued = omega arith;
       coloured = omega arith;
     }) in
-    emitted-enhanced s.pre _ writing.write.ensures c.before.written.given.1 enhanced
+    emitted_enhanced s.pre _ writing.write.ensures c.before.written.given.1 enhanced
 
 returns-2 : tie.Need-returns-2
 returns-2 c =
@@ -92,7 +92,7 @@ returns-2 c =
     let few = s.pre.sized.few in
     let refusal = c.enum_told.given.1 in
     absurd
-    (never-refused s.pre _ writing.write.ensures refusal (length-take-le _ _ (search rules)) (search rules))
+    (never_refused s.pre _ writing.write.ensures refusal (length-take-le _ _ (search rules)) (search rules))
 
 pub put-enhanced-spec : {M : Type 1} → statement M
 put-enhanced-spec =

@@ -17,11 +17,11 @@ use Rattle.sections.proofs.Marked.{marked_coded, marked_whole, marked_section}
 use Rattle.levels.specs.Levels.{Numbered}
 use Rattle.levels.specs.declared.Settings.{Settings}
 use Rattle.levels.proofs.Numbers.{numbered_many, root_numbered, next_not}
-use Rattle.branches.proofs.Halves.{next-halves, next-gone}
+use Rattle.branches.proofs.Halves.{next_halves, next_gone}
 use Rattle.branches.proofs.Branches.{still_ready, small, told_few, halves_few}
 use Rattle.branches.specs.Branches.{all_told}
 use Rattle.recursion.specs.Recursion.{levels_left, RecursionOutcome}
-use Rattle.recursion.proofs.Root.{root_marks, whole_pass, root-only, root-halves}
+use Rattle.recursion.proofs.Root.{root_marks, whole_pass, root_only, root_halves}
 use Rattle.recursion.proofs.run_levels.Statement.{statement}
 use Rattle.recursion.proofs.run_levels.Tie as tie
 
@@ -134,7 +134,7 @@ split-requires c κs =
     let N = numbered (counted m) in (
       still_ready s.pre (omega (arith, v.treat-plane)) (omega (arith, v.treat-plane, m.mark-section))
           (omega (arith, v.treat-plane)),
-      next-halves s.args.shape s.args.settings s.pre.lent.whole v.treat-plane.ensures
+      next_halves s.args.shape s.args.settings s.pre.lent.whole v.treat-plane.ensures
           (marked_coded M) (root_marks _ M) X.middle (X.halves e) s.pre.area refl refl
           _ ((counted m).deeper.ensures.yes e _ N.k N.wide) N,
     )
@@ -199,9 +199,9 @@ returns c =
     let ones = marked_whole refl refl M in
     let sizes = whole_size (pass_sym z whole) lent.whole (marked_coded M) pixel (ones 0 pixel)
     (whole_plane z whole 1 _ lent.size.wide ones) in
-    let left = next-gone z s.args.settings lent.whole v.treat-plane.ensures
+    let left = next_gone z s.args.settings lent.whole v.treat-plane.ensures
     (marked_coded M) (root_marks _ M) X.middle (X.halves e) s.pre.area refl refl _ some N in
-    let R = root-halves z s.args.settings M v.treat-plane.ensures.treated some s.pre.last lent.whole
+    let R = root_halves z s.args.settings M v.treat-plane.ensures.treated some s.pre.last lent.whole
     pixel sizes left divided.split.ensures in
     subst (RecursionOutcome z s.args.settings s.args.plane.now s.args.marks.now s.args.queue.now
     divided.split.new.0 divided.split.new.1.0 divided.split.new.1.1.0)
@@ -222,7 +222,7 @@ returns-2 c =
     let m = marked-in v in
     let s = start m in
     let N = numbered (counted m) in
-    let R = root-only s.args.shape s.args.settings (marking v) v.treat-plane.ensures.treated
+    let R = root_only s.args.shape s.args.settings (marking v) v.treat-plane.ensures.treated
     ((counted m).deeper.ensures.none c.if1.false _ N.k N.wide) in
     subst (RecursionOutcome s.args.shape s.args.settings s.args.plane.now s.args.marks.now
     s.args.queue.now v.treat-plane.last.0 v.treat-plane.last.1.0 v.treat-plane.last.1.1.0)

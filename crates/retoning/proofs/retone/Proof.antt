@@ -2,7 +2,7 @@
 use mathlib.Core.Path.{refl}
 use native.Mathlib.Omega.{arith}
 use borrow.Author.Rules.{rules}
-use Rattle.retoning.proofs.Steps.{done, lively_large, gathered-size}
+use Rattle.retoning.proofs.Steps.{done, lively_large, gathered_size}
 use Rattle.retoning.proofs.retone.Statement.{statement}
 use Rattle.retoning.proofs.retone.Tie as tie
 
@@ -36,7 +36,7 @@ returns c =
     let gathered = s.pre.0.0 in
     let lively = s.pre.1 in
     record {
-      done = λ vs A. done s.args.pass s.args.next A _ (gathered-size gathered A)
+      done = λ vs A. done s.args.pass s.args.next A _ (gathered_size gathered A)
           (omega (arith, lively_large _ _ lively, gathered.decreases.size)) lively
           (tabled.tone-table.ensures.tones vs A) painted.paint.ensures
           c.before.one-if.ensures c.one-unless.ensures refl;

@@ -5,7 +5,7 @@ use borrow.Author.Rules.{rules}
 use Rattle.histograms.specs.Histograms.{values}
 use Rattle.histograms.proofs.Stores.{outside_none}
 use Rattle.retoning.specs.Retoning.{inert}
-use Rattle.retoning.proofs.Steps.{left_alone, gathered-some, gathered-size}
+use Rattle.retoning.proofs.Steps.{left_alone, gathered_some, gathered_size}
 use Rattle.retoning.proofs.treat_found.Statement.{statement}
 use Rattle.retoning.proofs.treat_found.Tie as tie
 
@@ -19,7 +19,7 @@ told : (c : tie.After-is-inert) → (
     c.is-inert.result ≡ inert s.pass (values s.plane.now s.queue.now s.c.size))
 told c =
     let gathered = (start c).requires.0 in
-    c.is-inert.ensures _ (gathered-some gathered) gathered.decreases
+    c.is-inert.ensures _ (gathered_some gathered) gathered.decreases
 
 is-inert-requires : tie.Need-is-inert-requires
 is-inert-requires c κs = search rules
@@ -33,7 +33,7 @@ returns c =
     let s = start tested in
     let is-inert = sym (told tested) ∙ c.before.if1.true in
     record {
-      done = λ vs A. left_alone s.args.pass s.args.next A _ (gathered-size s.pre.0 A)
+      done = λ vs A. left_alone s.args.pass s.args.next A _ (gathered_size s.pre.0 A)
           c.left_alone.ensures is-inert;
       counts_rest = outside_none _;
     }

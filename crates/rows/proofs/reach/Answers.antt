@@ -4,15 +4,15 @@ use Prim.Native.Nat.{◌*◌}
 use mathlib.Core.Path.{ap}
 use native.Mathlib.Omega.{arith}
 use borrow.Author.Rules.{rules}
-use Rattle.rows.proofs.Rows.{row-bounds}
-use Rattle.rows.proofs.Taken.{room-less}
+use Rattle.rows.proofs.Rows.{row_bounds}
+use Rattle.rows.proofs.Taken.{room_less}
 use Rattle.rows.proofs.Runs.{not_reached, reached}
 use Rattle.rows.proofs.reach.Goals as goal
 
 pub bounds-marks-q : goal.bounds-marks-q
 bounds-marks-q c =
     let s = c in
-    omega (arith, (row-bounds s.args.w s.args.q s.requires.0.wide).1, s.requires.1.covered)
+    omega (arith, (row_bounds s.args.w s.args.q s.requires.0.wide).1, s.requires.1.covered)
 
 pub returns-then-marks-q : goal.returns-then-marks-q
 returns-then-marks-q c = not_reached c.if-marks-q.true
@@ -20,34 +20,34 @@ returns-then-marks-q c = not_reached c.if-marks-q.true
 pub row_of-requires : goal.row_of-requires
 row_of-requires c =
     let s = c in
-    (s.requires.0, omega (arith, (row-bounds s.args.w s.args.q s.requires.0.wide).1, s.requires.1.few))
+    (s.requires.0, omega (arith, (row_bounds s.args.w s.args.q s.requires.0.wide).1, s.requires.1.few))
 
 pub overflow_mul-row : goal.overflow_mul-row
 overflow_mul-row c =
     let s = c in
     let row = ap (◌* s.args.w) c.row_of.ensures in
-    omega (arith, (row-bounds s.args.w s.args.q s.requires.0.wide).0)
+    omega (arith, (row_bounds s.args.w s.args.q s.requires.0.wide).0)
 
 pub run_start-first-requires : goal.run_start-first-requires
 run_start-first-requires c =
     let s = c in
     let row = ap (◌* s.args.w) c.row_of.ensures in
-    let bounds = row-bounds s.args.w s.args.q s.requires.0.wide in
+    let bounds = row_bounds s.args.w s.args.q s.requires.0.wide in
     (omega arith, omega (arith, s.requires.1.covered))
 
 pub overflow_add-row : goal.overflow_add-row
 overflow_add-row c =
     let s = c in
     let row = ap (◌* s.args.w) c.row_of.ensures in
-    let bounds = row-bounds s.args.w s.args.q s.requires.0.wide in
+    let bounds = row_bounds s.args.w s.args.q s.requires.0.wide in
     omega (arith, s.requires.1.few)
 
 pub take_run-requires : goal.take_run-requires
 take_run-requires c =
     let s = c in
     let row = ap (◌* s.args.w) c.row_of.ensures in
-    let bounds = row-bounds s.args.w s.args.q s.requires.0.wide in
-    (omega (arith, c.run_start-first.ensures.upto), room-less s.requires.1 _ (omega arith))
+    let bounds = row_bounds s.args.w s.args.q s.requires.0.wide in
+    (omega (arith, c.run_start-first.ensures.upto), room_less s.requires.1 _ (omega arith))
 
 pub returns : goal.returns
 returns c =

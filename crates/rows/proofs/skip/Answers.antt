@@ -5,11 +5,11 @@ use mathlib.Core.Path.{refl}
 use native.Mathlib.Omega.{arith}
 use borrow.Author.Rules.{rules}
 use Rattle.rows.specs.Stretches.{Skipped}
-use Rattle.rows.proofs.Stretches.{skipped-none, skipped-more}
+use Rattle.rows.proofs.Stretches.{skipped_none, skipped_more}
 use Rattle.rows.proofs.skip.Goals as goal
 
 pub loop-p-init : goal.loop-p-init
-loop-p-init c = skipped-none _ _ _ _ refl
+loop-p-init c = skipped_none _ _ _ _ refl
 
 pub returns-then-marks-p-lt64 : goal.returns-then-marks-p-lt64
 returns-then-marks-p-lt64 c = c.loop-p.invariant
@@ -20,7 +20,7 @@ returns-then-holds c = c.loop-p.invariant
 pub loop-p-preserved : goal.loop-p-preserved
 loop-p-preserved c =
     let loop = c.loop-p in
-    skipped-more _ _ _ loop.invariant (omega arith) (c.holds.ensures.no c.if-holds.false)
+    skipped_more _ _ _ loop.invariant (omega arith) (c.holds.ensures.no c.if-holds.false)
 
 pub returns : goal.returns
 returns c = c.loop-p.invariant

@@ -5,7 +5,7 @@ use mathlib.Core.Path.{refl}
 use native.Mathlib.Omega.{arith}
 use borrow.Author.Rules.{rules}
 use Rattle.rows.specs.Stretches.{Skipped}
-use Rattle.rows.proofs.Stretches.{skipped-none, skipped-more}
+use Rattle.rows.proofs.Stretches.{skipped_none, skipped_more}
 use Rattle.rows.proofs.skip.Given as goal
 
 abbrev pub invariant-loop-p : goal.invariant-loop-p

@@ -7,8 +7,8 @@ use mathlib.Core.Logic.{⊎_elim}
 use native.Mathlib.Omega.{arith}
 use borrow.Author.Rules.{rules}
 use Rattle.rows.specs.Stretches.{Skipped}
-use Rattle.rows.proofs.Rows.{next_row, row_inside, past_rows, row-bounds, width_of}
-use Rattle.rows.proofs.Stretches.{skipped-none, skipped-one, skipped-more, skipped-less}
+use Rattle.rows.proofs.Rows.{next_row, row_inside, past_rows, row_bounds, width_of}
+use Rattle.rows.proofs.Stretches.{skipped_none, skipped_one, skipped_more, skipped_less}
 use Rattle.scans.proofs.next_pixel.Statement.{statement}
 use Rattle.scans.proofs.next_pixel.Tie as tie
 
@@ -37,20 +37,20 @@ mul-first : tie.Need-overflow-mul-first invariant-loop decreases-loop invariant-
 mul-first c =
     let s = c.before.before.before in
     let top = ap (◌* s.args.shape.w) c.row_of.ensures in
-    omega (arith, (row-bounds s.args.shape.w s.args.from s.requires.size.wide).0)
+    omega (arith, (row_bounds s.args.shape.w s.args.from s.requires.size.wide).0)
 
 sub-first : tie.Need-overflow-sub-first invariant-loop decreases-loop invariant-search decreases-search
 sub-first c =
     let s = c.before.before.before in
     let top = ap (◌* s.args.shape.w) c.row_of.ensures in
-    omega (arith, (row-bounds s.args.shape.w s.args.from s.requires.size.wide).0)
+    omega (arith, (row_bounds s.args.shape.w s.args.from s.requires.size.wide).0)
 
 search-holds : tie.Need-search-init invariant-loop decreases-loop invariant-search decreases-search
 search-holds c =
     let s = c.before.before.before in
     let top = ap (◌* s.args.shape.w) c.row_of.ensures in
-    let bounds = row-bounds s.args.shape.w s.args.from s.requires.size.wide in
-    (search rules, (omega arith, skipped-none _ _ _ _ (omega arith)))
+    let bounds = row_bounds s.args.shape.w s.args.from s.requires.size.wide in
+    (search rules, (omega arith, skipped_none _ _ _ _ (omega arith)))
 
 mul-row : tie.Need-overflow-mul-row invariant-loop decreases-loop invariant-search decreases-search
 mul-row c =
@@ -86,8 +86,8 @@ sub-x c = omega (arith, c.skip.ensures.past)
 loop-holds : tie.Need-loop-init invariant-loop decreases-loop invariant-search decreases-search
 loop-holds c =
     let row = c.before.before in
-    let passed = skipped-more _ _ _ row.search.invariant.1.1 c.skip.ensures.past c.skip.ensures.none in
-    (search rules, skipped-less _ _ _ _ (omega (arith, passed.past)) (omega (arith, c.skip.ensures.past)) passed)
+    let passed = skipped_more _ _ _ row.search.invariant.1.1 c.skip.ensures.past c.skip.ensures.none in
+    (search rules, skipped_less _ _ _ _ (omega (arith, passed.past)) (omega (arith, c.skip.ensures.past)) passed)
 
 add-p : tie.Need-overflow-add-p invariant-loop decreases-loop invariant-search decreases-search
 add-p c =
@@ -112,7 +112,7 @@ loop-less c = omega arith
 loop-again : tie.Need-loop-preserved invariant-loop decreases-loop invariant-search decreases-search
 loop-again c =
     let column = c.before.before.before in
-    (search rules, skipped-one _ _ _ _ (omega arith) column.loop.invariant.1 c.if1.false)
+    (search rules, skipped_one _ _ _ _ (omega arith) column.loop.invariant.1 c.if1.false)
 
 add-y : tie.Need-overflow-add-y invariant-loop decreases-loop invariant-search decreases-search
 add-y c = omega arith
@@ -126,7 +126,7 @@ search-again c =
     let s = row.before.before.before.before in
     let next = next_row row.search.y s.args.shape.w in
     let passed = row.search.invariant.1.1.past in
-    (search rules, (omega arith, skipped-less _ _ _ _ (omega arith) (omega arith) c.before.loop.invariant.1))
+    (search rules, (omega arith, skipped_less _ _ _ _ (omega arith) (omega arith) c.before.loop.invariant.1))
 
 returns : tie.Need-returns invariant-loop decreases-loop invariant-search decreases-search
 returns c =

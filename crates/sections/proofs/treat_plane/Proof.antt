@@ -9,12 +9,12 @@ use Rattle.planes.specs.Shapes.{pixels}
 use Rattle.histograms.specs.Histograms.{values}
 use Rattle.histograms.proofs.Measured.{blank}
 use Rattle.components.specs.Floods.{Flooded}
-use Rattle.components.proofs.Whole.{plane_flooded, values-plane}
+use Rattle.components.proofs.Whole.{plane_flooded, values_plane}
 use Rattle.model.specs.Neighbourhoods.{pass_neighbours}
 use Rattle.retoning.specs.Retoning.{inert}
 use Rattle.retoning.proofs.Steps.{left_alone}
-use Rattle.sections.proofs.Passing.{treatable, pass_begin, alike, listed, one-component}
-use Rattle.sections.proofs.Passing.{plane-alike, plane-gathered, by_pass, whole_plane}
+use Rattle.sections.proofs.Passing.{treatable, pass_begin, alike, listed, one_component}
+use Rattle.sections.proofs.Passing.{plane_alike, plane_gathered, by_pass, whole_plane}
 use Rattle.sections.proofs.treat_plane.Statement.{statement}
 use Rattle.sections.proofs.treat_plane.Tie as tie
 
@@ -59,7 +59,7 @@ values_are : (c : tie.After-take-plane) →
 values_are c =
     let lent = (start c).requires.0.lent in
     ap (values (start c).args.plane.now c.take-plane.new.1.1.0) (size c)
-    ∙ values-plane c.take-plane.ensures.0 lent.spare lent.whole
+    ∙ values_plane c.take-plane.ensures.0 lent.spare lent.whole
 
 -- the test is that of the plane
 told : (c : tie.After-is-inert) → c.is-inert.result ≡ inert (entry c).args.pass (entry c).args.plane.now
@@ -93,10 +93,10 @@ returns c =
     let d = treatable s.pre.0 in
     let h = some s in
     let F = flooded measured in
-    let A = plane-alike measured.take-plane.result d h (s.pre.1 0 h) F (values_are measured) in
+    let A = plane_alike measured.take-plane.result d h (s.pre.1 0 h) F (values_are measured) in
     let R = left_alone s.args.pass s.args.next A _ (A.size ∙ sym measured.take-plane.ensures.1.size)
     c.left_alone.ensures (sym (told tested) ∙ c.before.if1.true) in
-    one-component d h (s.pre.1 0 h)
+    one_component d h (s.pre.1 0 h)
     (whole_plane s.args.shape s.args.pass 1 _ s.pre.0.lent.size.wide s.pre.1) F R
 
 histogram-requires : tie.Need-histogram-requires
@@ -116,7 +116,7 @@ retone-requires c κs =
     let is = values_are measured in
     let lively = sym (told tested) ∙ counted.before.before.before.if1.false in (
       (
-        plane-gathered measured.take-plane.result d h (s.pre.1 0 h) F is measured.take-plane.ensures.1
+        plane_gathered measured.take-plane.result d h (s.pre.1 0 h) F is measured.take-plane.ensures.1
             counted.histogram.ensures,
         listed d (pass_begin _ _ _ _ _ _ _ _) h (s.pre.1 0 h) F s.pre.0.lent.covered,
       ),
@@ -141,7 +141,7 @@ returns-2 c =
     let h = some s in
     let F = flooded measured in
     let R = retoned.retone.ensures.done _ (alike d (pass_begin _ _ _ _ _ _ _ _) h (s.pre.1 0 h) F) in
-    one-component d h (s.pre.1 0 h)
+    one_component d h (s.pre.1 0 h)
     (whole_plane s.args.shape s.args.pass 1 _ s.pre.0.lent.size.wide s.pre.1) F R
 
 pub treat-plane-spec : {M : Type 1} → statement M

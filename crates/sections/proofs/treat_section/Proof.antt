@@ -10,7 +10,7 @@ use lib.ListN.{length}
 use Rattle.planes.specs.Shapes.{pixels}
 use Rattle.histograms.specs.Histograms.{Tally, Gathered}
 use Rattle.histograms.proofs.Measured.{blank, tally_byte, cleared}
-use Rattle.histograms.proofs.Histograms.{gathered-range}
+use Rattle.histograms.proofs.Histograms.{gathered_range}
 use Rattle.scans.specs.Search.{found_reply, FirstFrom, NextPixel}
 use Rattle.scans.specs.declared.Found.{Found}
 use Rattle.scans.specs.declared.Found.TheVariants.{At}
@@ -18,10 +18,10 @@ use Rattle.model.specs.Neighbourhoods.{pass_neighbours}
 use Rattle.model.specs.Passes.{component_values}
 use Rattle.retoning.specs.Retoning.{Done}
 use Rattle.retoning.specs.declared.Treatment.{Treatment}
-use Rattle.sections.proofs.Passing.{Treatable, Passing, treatable, pass_start, size-le, go_on, pass-end}
-use Rattle.retoning.proofs.Steps.{gathered-some}
+use Rattle.sections.proofs.Passing.{Treatable, Passing, treatable, pass_start, size_le, go_on, pass_end}
+use Rattle.retoning.proofs.Steps.{gathered_some}
 use Rattle.sections.proofs.Passing.{by_pass, gauged_by_pass, gathered}
-use Rattle.sections.proofs.Passing.{alike, listed, at_most_one, take-one}
+use Rattle.sections.proofs.Passing.{alike, listed, at_most_one, take_one}
 use Rattle.sections.proofs.treat_section.Statement.{statement}
 use Rattle.sections.proofs.treat_section.Tie as tie
 
@@ -172,7 +172,7 @@ counts-fit c =
     let f = next found in
     let F = by_pass (start l).args.shape (start l).args.pass flooded.flood.ensures.0 in
     let one = at_most_one (known l) (reached found) f.below f.has F (done treated) in
-    let sums = size-le (known l) (reached found) in (
+    let sums = size_le (known l) (reached found) in (
       omega (arith, one.0, sums.0, f.below, (start l).pre.lent.size.few),
       (
         omega (arith, one.1.0, sums.1.0, f.below, (start l).pre.lent.size.few),
@@ -248,8 +248,8 @@ clear-requires : tie.Need-clear-requires invariant-loop decreases-loop
 clear-requires c κs =
     let treated = c.before.before.before.before.before in
     let one = whole (treated-in treated) in
-    let range = gathered-range one in
-    let byte = tally_byte (gathered-some one) one.decreases one.tally in
+    let range = gathered_range one in
+    let byte = tally_byte (gathered_some one) one.decreases one.tally in
     (range.order, omega (arith, treated.treat-found.ensures.counts_rest.size, one.tally.size))
 
 add-retoned : tie.Need-overflow-add-retoned invariant-loop decreases-loop
@@ -287,7 +287,7 @@ loop-again c =
     let f = next found in
     let F = by_pass (start l).args.shape (start l).args.pass flooded.flood.ensures.0 in
     let one = whole flooded in (
-      take-one (known l) (reached found) f.below f.has F (done treated),
+      take_one (known l) (reached found) f.below f.has F (done treated),
       cleared one.decreases one.tally treated.treat-found.ensures.counts_rest emptied.clear.ensures,
     )
 
@@ -325,7 +325,7 @@ returns : tie.Need-returns invariant-loop decreases-loop
 returns c =
     let l = c.before in
     let end : pixels (start l).args.shape ≤ l.loop.from = omega (arith, c.loop-test.false, number l) in
-    pass-end (known l) l.loop.invariant.0 end _ refl refl refl refl refl
+    pass_end (known l) l.loop.invariant.0 end _ refl refl refl refl refl
 
 pub treat-section-spec : {M : Type 1} → statement M
 treat-section-spec =

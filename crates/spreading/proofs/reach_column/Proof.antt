@@ -1,7 +1,7 @@
 -- `spreading::reach_column` meets its contract: the pixels above and below are reached, one after the other. s is the
 -- function's entry, `first` and `second` the places after the two calls of `reach`. Assumes nothing.
 use borrow.Author.Rules.{rules}
-use Rattle.spreading.proofs.Columns.{may-above, may-below, column-reached}
+use Rattle.spreading.proofs.Columns.{may_above, may_below, column_reached}
 use Rattle.spreading.proofs.reach_column.Statement.{statement}
 use Rattle.spreading.proofs.reach_column.Tie as tie
 
@@ -14,7 +14,7 @@ above-requires c κs = search rules
 reach-requires : tie.Need-reach-requires
 reach-requires c κs =
     let s = c.before.before.before.before.before.before in
-    may-above s.requires c.above.ensures
+    may_above s.requires c.above.ensures
 
 below-requires : tie.Need-below-requires
 below-requires c κs = search rules
@@ -24,7 +24,7 @@ reach-requires-2 c κs =
     let first = c.before.before.before.before.before.before.before in
     let s = first.before.before.before.before.before.before.before in
     let below = rw first.before.before.before.before.pixels.ensures at c.below.ensures in
-    may-below s.requires first.before.above.ensures first.reach.ensures below
+    may_below s.requires first.before.above.ensures first.reach.ensures below
 
 same_length : tie.Need-same-length
 same_length c = search rules
@@ -38,7 +38,7 @@ returns c =
     let first = second.before.before.before.before.before.before.before.before in
     let s = first.before.before.before.before.before.before.before in
     let below = rw first.before.before.before.before.pixels.ensures at second.before.below.ensures in
-    column-reached s.requires first.before.above.ensures first.reach.ensures below second.reach2.ensures
+    column_reached s.requires first.before.above.ensures first.reach.ensures below second.reach2.ensures
 
 pub reach-column-spec : {M : Type 1} → statement M
 reach-column-spec =

@@ -5,7 +5,7 @@ use mathlib.Core.Path.{ap}
 use native.Mathlib.Nat.{div-add-mod'}
 use native.Mathlib.Omega.{arith}
 use borrow.Author.Rules.{rules}
-use Rattle.spreading.proofs.Around.{right-line, still-spreadable, beside-reachable, spread-on}
+use Rattle.spreading.proofs.Around.{right_line, still_spreadable, beside_reachable, spread_on}
 use Rattle.spreading.proofs.spread.Statement.{statement}
 use Rattle.spreading.proofs.spread.Tie as tie
 
@@ -43,8 +43,8 @@ reach-column-requires c κs =
     let row = begun.before.before.before in
     let s = row.before.before.before in
     let right_is = rw row.row_of.ensures at right.right.ensures in
-    beside-reachable (still-spreadable s.requires.0 begun.begin-run.ensures.reaches.taken)
-    (right-line s.args.shape.w s.args.p s.requires.0.reachable.size.wide right_is)
+    beside_reachable (still_spreadable s.requires.0 begun.begin-run.ensures.reaches.taken)
+    (right_line s.args.shape.w s.args.p s.requires.0.reachable.size.wide right_is)
 
 same_length : tie.Need-same-length
 same_length c = search rules
@@ -60,7 +60,7 @@ returns c =
     let row = begun.before.before.before in
     let s = row.before.before.before in
     let right_is = rw row.row_of.ensures at right.right.ensures in
-    spread-on s.requires.0 begun.begin-run.ensures right_is column.reach-column.ensures
+    spread_on s.requires.0 begun.begin-run.ensures right_is column.reach-column.ensures
 
 pub spread-spec : {M : Type 1} → statement M
 spread-spec =

@@ -1,6 +1,6 @@
 -- `tones::tone_table` meets its contract, by that of each rule. Assumes nothing.
 use Rattle.histograms.specs.Histograms.{values}
-use Rattle.histograms.proofs.Histograms.{gathered-range, gathered-counted}
+use Rattle.histograms.proofs.Histograms.{gathered_range, gathered_counted}
 use Rattle.histograms.proofs.Tables.{tables_of}
 use Rattle.tones.specs.Tones.{tone, kept}
 use borrow.Author.Rules.{rules}
@@ -11,7 +11,7 @@ enum-known-rule : tie.Need-enum-known-rule
 enum-known-rule c = search rules
 
 plain-tones-requires : tie.Need-plain-tones-requires
-plain-tones-requires c κs = gathered-counted c.before.before.before.before.before.before.before.requires
+plain-tones-requires c κs = gathered_counted c.before.before.before.before.before.before.before.requires
 
 enum-known-rule-2 : tie.Need-enum-known-rule-2
 enum-known-rule-2 c = search rules
@@ -30,7 +30,7 @@ affine-tones-requires c κs =
     record {
       vs = values a.plane.now a.queue.now a.c.size;
       histogram = record { measured = g.decreases; tally = g.tally };
-      range = gathered-range g;
+      range = gathered_range g;
     }
 
 returns : tie.Need-returns
