@@ -2,12 +2,8 @@
 -- once over its 766 entries. Assumes nothing.
 use mathlib.Core.Path.{refl}
 use Rattle.channels.specs.Channels.{third, thirds}
-use Rattle.channels.proofs.rounded_thirds.Statement.{statement}
-use Rattle.channels.proofs.rounded_thirds.Tie as tie
+use Rattle.channels.proofs.rounded_thirds.Goals as goal
 
-returns : tie.Need-returns
+pub returns : goal.returns
 unfolding third thirds
 returns c = refl
-
-pub rounded-thirds-spec : {M : Type 1} → statement M
-rounded-thirds-spec = tie.close (tie.spec returns)

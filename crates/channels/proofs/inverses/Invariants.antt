@@ -1,0 +1,16 @@
+-- `channels::inverses` meets its contract. The invariant: the entries from 1 to below m are inverses. The measure is
+-- the number of entries that are left. Assumes nothing.
+use Prim.Native.Nat.{◌-◌, ◌≤◌}
+use mathlib.Core.Path.{◌≡◌, refl}
+use native.Mathlib.Omega.{arith}
+use Rattle.channels.specs.Scales.{inverse, InversesBelow}
+use Rattle.channels.proofs.Quotients.{sum_fits, inverses_none, inverses_more}
+use Rattle.channels.proofs.inverses.Given as goal
+
+abbrev pub invariant-loop-m : goal.invariant-loop-m
+invariant-loop-m l =
+    ((1 ≤ l.m) × (l.m ≤ 256)) × InversesBelow l.m l.table
+
+abbrev pub decreases-loop-m : goal.decreases-loop-m
+decreases-loop-m l =
+    256 - l.m
