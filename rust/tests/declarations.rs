@@ -110,7 +110,7 @@ fn contracts(name: &str, mark: &str) -> BTreeMap<String, String> {
     let heads = text.split(mark).skip(1);
     let split = |head: &str| {
         let (signature, _) = head.split_once("\n{\n").expect("a body");
-        let words = signature.split_whitespace().collect::<Vec<_>>().join(" ");
+        let words = signature.split_whitespace().collect::<Vec<_>>().join(" ").replace("( ", "(").replace(", )", ")");
         (words.split('(').next().expect("a name").to_string(), words)
     };
     heads.map(split).collect()
