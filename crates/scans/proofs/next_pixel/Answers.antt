@@ -3,13 +3,13 @@
 -- the function's entry, `row` and `column` the turns of the loops. Assumes nothing.
 use Prim.Native.Nat.{◌+◌, ◌*◌, ◌-◌, ◌≤◌}
 use mathlib.Core.Path.{◌≡◌, ap}
-use mathlib.Core.Logic.{⊎_elim}
 use native.Mathlib.Omega.{arith}
 use borrow.Author.Rules.{rules}
 use Rattle.rows.specs.Stretches.{Skipped}
 use Rattle.rows.proofs.Rows.{next_row, row_inside, past_rows, row_bounds, width_of}
 use Rattle.rows.proofs.Stretches.{skipped_none, skipped_one, skipped_more, skipped_less}
 use Rattle.scans.proofs.next_pixel.Goals as goal
+use Rattle.scans.proofs.next_pixel.Goals.{else-search-test, then-search-test+then-loop-x-test+then-marks-p}
 
 pub pixels-n-requires : goal.pixels-n-requires
 pixels-n-requires c = omega (arith, c.requires.size.few)
@@ -104,29 +104,26 @@ search-preserved c =
 
 pub returns-then-at-n : goal.returns-then-at-n
 returns-then-at-n c =
-    let row = c in
-    let s = c in
-    ⊎_elim (λ left. absurd (omega arith))
-    (λ found.
-    let inside = row_inside row.search.y s.args.shape.w s.args.shape.h found.0.taken in
-    let passed = found.2.inv.1 in
-    rw found.6 (record {
-      past = passed.past;
-      below = omega (arith, found.3.taken);
-      has = found.5.taken;
-      none = passed.none;
-    }))
-    c.search-test.branch
+    elim c.search-test.branch [
+      else-search-test w ↦ absurd (omega arith)
+      | then-search-test+then-loop-x-test+then-marks-p w ↦
+          let inside = row_inside c.search.y c.args.shape.w c.args.shape.h w.search-test.true in
+          let passed = w.loop-x.invariant.1 in
+          rw w.at-is (record {
+            past = passed.past;
+            below = omega (arith, w.loop-x-test.true);
+            has = w.if-marks-p.true;
+            none = passed.none;
+          })
+    ]
 
 pub returns-else-at-n : goal.returns-else-at-n
 returns-else-at-n c =
-    let row = c in
-    let s = c in
-    ⊎_elim
-    (λ left p l h.
-    let past = past_rows row.search.y s.args.shape.w s.args.shape.h left.0.left in
-    row.search.invariant.1.1.none p l (omega arith))
-    (λ found.
-    let inside = row_inside row.search.y s.args.shape.w s.args.shape.h found.0.taken in
-    absurd (omega (arith, found.3.taken, found.6)))
-    c.search-test.branch
+    elim c.search-test.branch [
+      else-search-test w ↦ λ p l h.
+          let past = past_rows c.search.y c.args.shape.w c.args.shape.h w.search-test.false in
+          c.search.invariant.1.1.none p l (omega arith)
+      | then-search-test+then-loop-x-test+then-marks-p w ↦
+          let inside = row_inside c.search.y c.args.shape.w c.args.shape.h w.search-test.true in
+          absurd (omega (arith, w.loop-x-test.true, w.at-is))
+    ]
