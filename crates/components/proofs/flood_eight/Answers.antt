@@ -15,27 +15,23 @@ use Rattle.components.proofs.Flooding.{may_begin, flood_begin}
 use Rattle.components.proofs.Turns.{FloodingTo, Going, going_none, head_inside, head_room, head_offset}
 use Rattle.components.proofs.Turns.{head_fits, spreadable, may_see, going_on, flooded}
 use Rattle.components.proofs.flood_eight.Goals as goal
-use Rattle.components.proofs.flood_eight.Goals.{At-loop-seen, Start}
+use Rattle.components.proofs.flood_eight.Goals.{At-loop-seen}
 
--- the function's entry, and the flood from there on
-abbrev entry : At-loop-seen → Start
-entry l = l.before.before.before.before.before.before.before.before.before.before.before.before.before
-
-flooding : (l : At-loop-seen) → (
-    let a = (entry l).args in
+flooding : (c : At-loop-seen) → (
+    let a = c.args in
     FloodingTo (eight a.shape.w) a.shape a.code a.start a.marks.now a.queue.now
-    l.loop-seen.marks l.loop-seen.queue l.loop-seen.seen.size l.loop-seen.front.tail)
-flooding l =
-    let first = l.before.before.before.before.before.before in
-    let F = (entry l).requires.0 in
-    l.loop-seen.invariant.0.flooding _ _ (flood_begin F (row_eight _ F.size.wide) first.reach-tail.ensures)
+    c.loop-seen.marks c.loop-seen.queue c.loop-seen.seen.size c.loop-seen.front.tail)
+flooding c =
+    let first = c in
+    let F = c.requires.0 in
+    c.loop-seen.invariant.0.flooding _ _ (flood_begin F (row_eight _ F.size.wide) first.reach-tail.ensures)
 
 -- values are bytes
-byte : (l : At-loop-seen)
-    → at (entry l).args.plane.now (at l.loop-seen.queue l.loop-seen.seen.size) < 256
-byte l =
-    let known = l.before.before.before.before.before.before.before.before.before in
-    omega (arith, known.shared-slice-known2.given (at l.loop-seen.queue l.loop-seen.seen.size))
+byte : (c : At-loop-seen)
+    → at c.args.plane.now (at c.loop-seen.queue c.loop-seen.seen.size) < 256
+byte c =
+    let known = c in
+    omega (arith, known.type_inv.plane (at c.loop-seen.queue c.loop-seen.seen.size))
 
 pub bounds-plane-start : goal.bounds-plane-start
 bounds-plane-start c =
@@ -56,33 +52,33 @@ pub offset_bounds-queue-head : goal.offset_bounds-queue-head
 offset_bounds-queue-head c = head_offset (flooding (goal.at.offset_bounds-queue-head c).At-loop-seen) c.loop-seen-test.true
 
 pub bounds-queue-head : goal.bounds-queue-head
-bounds-queue-head c = let i = c in head_room (flooding i.before.before.before) i.loop-seen-test.true
+bounds-queue-head c = let i = c in head_room (flooding (goal.at.bounds-queue-head c).At-loop-seen) i.loop-seen-test.true
 
 pub overflow_cast-p : goal.overflow_cast-p
-overflow_cast-p c = let i = c in head_fits (flooding i.before.before.before) i.loop-seen-test.true
+overflow_cast-p c = let i = c in head_fits (flooding (goal.at.overflow_cast-p c).At-loop-seen) i.loop-seen-test.true
 
 pub spread-front-requires : goal.spread-front-requires
 spread-front-requires c =
     let i = c in
     let l = c in
     let due = i.loop-seen-test.true in
-    let a = (entry (goal.at.spread-front-requires c).At-loop-seen).args in (
-      spreadable (entry (goal.at.spread-front-requires c).At-loop-seen).requires.0 (flooding l) due,
+    let a = c.args in (
+      spreadable c.requires.0 (flooding (goal.at.spread-front-requires c).At-loop-seen) due,
       λ e. subst (Begun a.shape.w (pixels a.shape) a.code l.loop-seen.marks) (sym e)
-          (l.loop-seen.invariant.1 (omega (arith, head_inside (flooding l) due))),
+          (l.loop-seen.invariant.1 (omega (arith, head_inside (flooding (goal.at.spread-front-requires c).At-loop-seen) due))),
     )
 
 pub see-seen-requires : goal.see-seen-requires
 see-seen-requires c =
     let i = c in
     let l = c in
-    may_see (flooding l) i.loop-seen-test.true (entry (goal.at.see-seen-requires c).At-loop-seen).args.plane.now l.loop-seen.counts _ _ (entry (goal.at.see-seen-requires c).At-loop-seen).requires.1.0
+    may_see (flooding (goal.at.see-seen-requires c).At-loop-seen) i.loop-seen-test.true c.args.plane.now l.loop-seen.counts _ _ c.requires.1.0
     l.loop-seen.invariant.0.gauging
 
 pub loop-seen-smaller : goal.loop-seen-smaller
 loop-seen-smaller c =
     let i = c in
-    omega (arith, head_room (flooding i.before.before.before) i.loop-seen-test.true, c.see-seen.ensures.size)
+    omega (arith, head_room (flooding (goal.at.loop-seen-smaller c).At-loop-seen) i.loop-seen-test.true, c.see-seen.ensures.size)
 
 pub loop-seen-preserved : goal.loop-seen-preserved
 loop-seen-preserved c =
@@ -90,7 +86,7 @@ loop-seen-preserved c =
     let i = c in
     let l = c in
     let due = i.loop-seen-test.true in (
-      going_on l.loop-seen.invariant.0 due (head_room (flooding l) due) (byte l) on.spread-front.ensures.spread-front
+      going_on l.loop-seen.invariant.0 due (head_room (flooding (goal.at.loop-seen-preserved c).At-loop-seen) due) (byte (goal.at.loop-seen-preserved c).At-loop-seen) on.spread-front.ensures.spread
           c.see-seen.ensures (omega arith) (omega arith),
       λ h. on.spread-front.ensures.begun,
     )
@@ -98,5 +94,5 @@ loop-seen-preserved c =
 pub returns : goal.returns
 returns c =
     let l = c in
-    flooded (entry (goal.at.returns c).At-loop-seen).requires.0 l.loop-seen.seen (flooding l) c.loop-seen-test.false (entry (goal.at.returns c).At-loop-seen).args.plane.now
+    flooded c.requires.0 l.loop-seen.seen (flooding (goal.at.returns c).At-loop-seen) c.loop-seen-test.false c.args.plane.now
     l.loop-seen.invariant.0.gauging

@@ -12,28 +12,24 @@ use Rattle.components.proofs.Flooding.{may_begin, flood_begin}
 use Rattle.components.proofs.Turns.{FloodingTo, Going, going_none, head_room, head_offset, head_fits}
 use Rattle.components.proofs.Turns.{spreadable, may_see, going_on, flooded}
 use Rattle.components.proofs.flood_four.Goals as goal
-use Rattle.components.proofs.flood_four.Goals.{At-loop-seen, Start}
+use Rattle.components.proofs.flood_four.Goals.{At-loop-seen}
 
--- the function's entry, and the flood from there on
-abbrev entry : At-loop-seen → Start
-entry l = l.before.before.before.before.before.before.before.before.before.before.before.before
-
-flooding : (l : At-loop-seen) → (
-    let a = (entry l).args in
+flooding : (c : At-loop-seen) → (
+    let a = c.args in
     FloodingTo (neighbours a.shape) a.shape a.code a.start a.marks.now a.queue.now
-    l.loop-seen.marks l.loop-seen.queue l.loop-seen.seen.size l.loop-seen.tail)
-flooding l =
-    let first = l.before.before.before.before.before in
-    let F = (entry l).requires.0 in
-    let rows = row_neighbours (entry l).args.shape F.size.wide in
-    l.loop-seen.invariant.flooding _ _ (flood_begin F rows first.reach-tail.ensures)
+    c.loop-seen.marks c.loop-seen.queue c.loop-seen.seen.size c.loop-seen.tail)
+flooding c =
+    let first = c in
+    let F = c.requires.0 in
+    let rows = row_neighbours c.args.shape F.size.wide in
+    c.loop-seen.invariant.flooding _ _ (flood_begin F rows first.reach-tail.ensures)
 
 -- values are bytes
-byte : (l : At-loop-seen)
-    → at (entry l).args.plane.now (at l.loop-seen.queue l.loop-seen.seen.size) < 256
-byte l =
-    let known = l.before.before.before.before.before.before.before.before in
-    omega (arith, known.shared-slice-known2.given (at l.loop-seen.queue l.loop-seen.seen.size))
+byte : (c : At-loop-seen)
+    → at c.args.plane.now (at c.loop-seen.queue c.loop-seen.seen.size) < 256
+byte c =
+    let known = c in
+    omega (arith, known.type_inv.plane (at c.loop-seen.queue c.loop-seen.seen.size))
 
 pub bounds-plane-start : goal.bounds-plane-start
 bounds-plane-start c =
@@ -52,28 +48,28 @@ pub offset_bounds-queue-head : goal.offset_bounds-queue-head
 offset_bounds-queue-head c = head_offset (flooding (goal.at.offset_bounds-queue-head c).At-loop-seen) c.loop-seen-test.true
 
 pub bounds-queue-head : goal.bounds-queue-head
-bounds-queue-head c = let i = c in head_room (flooding i.before.before) i.loop-seen-test.true
+bounds-queue-head c = let i = c in head_room (flooding (goal.at.bounds-queue-head c).At-loop-seen) i.loop-seen-test.true
 
 pub overflow_cast-p : goal.overflow_cast-p
-overflow_cast-p c = let i = c in head_fits (flooding i.before.before) i.loop-seen-test.true
+overflow_cast-p c = let i = c in head_fits (flooding (goal.at.overflow_cast-p c).At-loop-seen) i.loop-seen-test.true
 
 pub reach_column-tail-requires : goal.reach_column-tail-requires
 reach_column-tail-requires c =
     let i = c in
     let l = c in
-    (spreadable (entry (goal.at.reach_column-tail-requires c).At-loop-seen).requires.0 (flooding l) i.loop-seen-test.true).reachable
+    (spreadable c.requires.0 (flooding (goal.at.reach_column-tail-requires c).At-loop-seen) i.loop-seen-test.true).reachable
 
 pub see-seen-requires : goal.see-seen-requires
 see-seen-requires c =
     let i = c in
     let l = c in
-    may_see (flooding l) i.loop-seen-test.true (entry (goal.at.see-seen-requires c).At-loop-seen).args.plane.now l.loop-seen.counts _ _ (entry (goal.at.see-seen-requires c).At-loop-seen).requires.1.0
+    may_see (flooding (goal.at.see-seen-requires c).At-loop-seen) i.loop-seen-test.true c.args.plane.now l.loop-seen.counts _ _ c.requires.1.0
     l.loop-seen.invariant.gauging
 
 pub loop-seen-smaller : goal.loop-seen-smaller
 loop-seen-smaller c =
     let i = c in
-    omega (arith, head_room (flooding i.before.before) i.loop-seen-test.true, c.see-seen.ensures.size)
+    omega (arith, head_room (flooding (goal.at.loop-seen-smaller c).At-loop-seen) i.loop-seen-test.true, c.see-seen.ensures.size)
 
 pub loop-seen-preserved : goal.loop-seen-preserved
 loop-seen-preserved c =
@@ -81,12 +77,12 @@ loop-seen-preserved c =
     let i = c in
     let l = c in
     let due = i.loop-seen-test.true in
-    let spread = spread_four (spreadable (entry (goal.at.loop-seen-preserved c).At-loop-seen).requires.0 (flooding l) due) column.reach_column-tail.ensures in
-    going_on l.loop-seen.invariant due (head_room (flooding l) due) (byte l) spread c.see-seen.ensures
+    let spread = spread_four (spreadable c.requires.0 (flooding (goal.at.loop-seen-preserved c).At-loop-seen) due) column.reach_column-tail.ensures in
+    going_on l.loop-seen.invariant due (head_room (flooding (goal.at.loop-seen-preserved c).At-loop-seen) due) (byte (goal.at.loop-seen-preserved c).At-loop-seen) spread c.see-seen.ensures
     (omega arith) (omega arith)
 
 pub returns : goal.returns
 returns c =
     let l = c in
-    flooded (entry (goal.at.returns c).At-loop-seen).requires.0 l.loop-seen.seen (flooding l) c.loop-seen-test.false (entry (goal.at.returns c).At-loop-seen).args.plane.now
+    flooded c.requires.0 l.loop-seen.seen (flooding (goal.at.returns c).At-loop-seen) c.loop-seen-test.false c.args.plane.now
     l.loop-seen.invariant.gauging

@@ -1,0 +1,78 @@
+-- `painting::paint` meets its contract. The invariant: the queue's first i pixels have their values and next marks, and
+-- the flags tell of their sides. The measure is what is left of m. Assumes nothing.
+use mathlib.Core.Path.{◌≡◌, refl}
+use Prim.Native.Nat.{◌-◌, ◌≤◌}
+use native.Mathlib.Omega.{arith}
+use borrow.Author.Rules.{rules}
+use Rattle.planes.specs.Lists.{at}
+use Rattle.painting.specs.Painting.{Painted}
+use Rattle.painting.proofs.Painting.{painted_none, painted_more}
+use Rattle.painting.proofs.paint.Goals as goal
+
+pub loop-i-init : goal.loop-i-init
+loop-i-init c = (omega arith, painted_none _ _ _ _ _)
+
+pub offset_bounds-queue-i : goal.offset_bounds-queue-i
+offset_bounds-queue-i c = omega (arith, c.requires.0.pixels.room)
+
+pub bounds-queue-i : goal.bounds-queue-i
+bounds-queue-i c =
+    omega (arith, c.requires.0.pixels.room, c.loop-i-test.true)
+
+pub overflow_cast-p : goal.overflow_cast-p
+overflow_cast-p c = omega (arith, c.shared_slice_known-in-loop-i-1.given c.loop-i.i)
+
+pub bounds-plane-p : goal.bounds-plane-p
+bounds-plane-p c =
+    let l = c in
+    let s = c in
+    let below = s.requires.0.pixels.below l.loop-i.i c.loop-i-test.true in
+    omega (arith, l.loop-i.invariant.1.size)
+
+pub overflow_cast-v : goal.overflow_cast-v
+overflow_cast-v c =
+    let l = c in
+    let s = c in
+    omega (arith, c.slice_known-in-loop-i-1.given (at s.args.queue.now l.loop-i.i))
+
+pub bounds-table-old : goal.bounds-table-old
+bounds-table-old c =
+    let l = c in
+    let s = c in
+    omega (arith, c.slice_known-in-loop-i-1.given (at s.args.queue.now l.loop-i.i))
+
+pub bounds-plane-p-in-loop-i : goal.bounds-plane-p-in-loop-i
+bounds-plane-p-in-loop-i c =
+    let l = c in
+    let s = c in
+    let below = s.requires.0.pixels.below l.loop-i.i c.loop-i-test.true in
+    omega (arith, l.loop-i.invariant.1.size)
+
+pub bounds-marks-p : goal.bounds-marks-p
+bounds-marks-p c =
+    let l = c in
+    let s = c in
+    let marked = s.requires.0.marked l.loop-i.i c.loop-i-test.true in
+    omega (arith, l.loop-i.invariant.1.marks_size)
+
+pub loop-i-preserved : goal.loop-i-preserved
+loop-i-preserved c =
+    let l = c in
+    let s = c in
+    let i = l.loop-i.i in
+    let taken = c.loop-i-test.true in (
+      omega (arith, taken),
+      painted_more l.loop-i.invariant.1 (s.requires.0.pixels.below i taken) (s.requires.0.marked i taken)
+          (λ j h. s.requires.1 j i h taken) refl c.next_mark.ensures,
+    )
+
+pub shape_of-plane : goal.shape_of-plane
+shape_of-plane c = c.loop-i.invariant.1.size
+
+pub shape_of-marks : goal.shape_of-marks
+shape_of-marks c = c.loop-i.invariant.1.marks_size
+
+pub returns : goal.returns
+returns c =
+    let all : c.loop-i.i ≡ c.args.m = omega arith in
+    rw all at c.loop-i.invariant.1
