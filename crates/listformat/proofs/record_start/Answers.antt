@@ -9,10 +9,10 @@ use Rattle.listformat.proofs.record_start.Goals as goal
 use Rattle.listformat.proofs.record_start.Goals.{After-record_length}
 
 -- all records together are short
-low : (c : After-record_length) → c.record_length_lem.result * c.args.j ≤ most_bytes
+low : (c : After-record_length) → c.record_length.result * c.args.j ≤ most_bytes
 low c =
     let start = c in
-    subst (λ (r : ℕ). r * start.args.j ≤ most_bytes) (sym c.record_length_lem.ensures)
+    subst (λ (r : ℕ). r * start.args.j ≤ most_bytes) (sym c.record_length.ensures)
     (records_low start.args.edition start.args.j start.requires)
 
 pub overflow_mul-result : goal.overflow_mul-result
@@ -22,4 +22,4 @@ pub overflow_add-result : goal.overflow_add-result
 overflow_add-result c = omega (arith, low (goal.at.overflow_add-result c).After-record_length)
 
 pub returns : goal.returns
-returns c = ap (λ (r : ℕ). head_length + r * c.args.j) c.record_length_lem.ensures
+returns c = ap (λ (r : ℕ). head_length + r * c.args.j) c.record_length.ensures

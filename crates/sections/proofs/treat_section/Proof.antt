@@ -249,7 +249,7 @@ clear-requires c κs =
     let treated = c.before.before.before.before.before in
     let one = whole (treated-in treated) in
     let range = gathered_range one in
-    let byte = tally_byte (gathered_some one) one.decreases one.tally in
+    let byte = tally_byte (gathered_some one) one.measured one.tally in
     (range.order, omega (arith, treated.treat-found.ensures.counts_rest.size, one.tally.size))
 
 add-retoned : tie.Need-overflow-add-retoned invariant-loop decreases-loop
@@ -288,7 +288,7 @@ loop-again c =
     let F = by_pass (start l).args.shape (start l).args.pass flooded.flood.ensures.0 in
     let one = whole flooded in (
       take_one (known l) (reached found) f.below f.has F (done treated),
-      cleared one.decreases one.tally treated.treat-found.ensures.counts_rest emptied.clear.ensures,
+      cleared one.measured one.tally treated.treat-found.ensures.counts_rest emptied.clear.ensures,
     )
 
 enum_told : tie.Need-enum-told invariant-loop decreases-loop

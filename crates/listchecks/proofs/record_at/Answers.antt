@@ -11,8 +11,7 @@ use Rattle.listformat.specs.Format.{record_length, fields_length, record_start, 
 use Rattle.listformat.specs.Format.{head_refusal}
 use Rattle.listformat.proofs.Format.{headed_long, record-inside, fields_within}
 use Rattle.listchecks.specs.Refusals.{record_at}
-use Rattle.listchecks.proofs.record_at.Statement.{statement}
-use Rattle.listchecks.proofs.record_at.Tie as tie
+use Rattle.listchecks.proofs.record_at.Goals as goal
 
 module _ (bs : List ℕ) (j : ℕ) where
   -- the record that starts at i in the edition e is record j
@@ -33,39 +32,29 @@ module _ (bs : List ℕ) (j : ℕ) where
       (subst (λ (e : Edition). record_start e j + record_length e ≤ length bs) (sym d) whole) in
       (omega (arith, inside, fields_within e), inside)
 
-edition-of-requires : tie.Need-edition-of-requires
-edition-of-requires c κs = headed_long _ c.before.requires.0
+pub edition_of-edition-requires : goal.edition_of-edition-requires
+edition_of-edition-requires c = headed_long _ c.requires.0
 
-record-start-requires : tie.Need-record-start-requires
-record-start-requires c κs =
-    let start = c.before.before in
+pub record_start-i-requires : goal.record_start-i-requires
+record_start-i-requires c =
+    let start = c in
     (record-inside _ _ start.requires.0 start.requires.1).0
 
-form-refusal-requires : tie.Need-form-refusal-requires
-form-refusal-requires c κs =
-    let start = c.before.before.before in
+pub form_refusal-form-requires : goal.form_refusal-form-requires
+form_refusal-form-requires c =
+    let start = c in
     let args = start.args in
-    stands args.list.now args.j start.requires c.before.edition-of.ensures c.record-start.ensures
+    stands args.list.now args.j start.requires c.edition_of-edition.ensures c.record_start-i.ensures
 
-pass-at-requires : tie.Need-pass-at-requires
-pass-at-requires c κs =
-    let start = c.before.before.before.before in
+pub pass_at-pass-requires : goal.pass_at-pass-requires
+pass_at-pass-requires c =
+    let start = c in
     let args = start.args in
-    stands args.list.now args.j start.requires c.before.before.edition-of.ensures
-    c.before.record-start.ensures
+    stands args.list.now args.j start.requires c.edition_of-edition.ensures
+    c.record_start-i.ensures
 
-returns : tie.Need-returns
+pub returns : goal.returns
 returns c =
-    let args = c.before.before.before.before.before.args in
-    reads args.list.now args.j c.before.before.before.edition-of.ensures
-    c.before.before.record-start.ensures c.before.form-refusal.ensures c.pass-at.ensures
-
-pub record-at-spec : {M : Type 1} → statement M
-record-at-spec =
-    tie.close
-    (tie.spec
-    edition-of-requires
-    record-start-requires
-    form-refusal-requires
-    pass-at-requires
-    returns)
+    let args = c.args in
+    reads args.list.now args.j c.edition_of-edition.ensures
+    c.record_start-i.ensures c.form_refusal-form.ensures c.pass_at-pass.ensures
