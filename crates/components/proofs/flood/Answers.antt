@@ -7,16 +7,12 @@ use Rattle.components.proofs.flood.Goals as goal
 
 pub returns-then-neighbours-eq-EIGHT : goal.returns-then-neighbours-eq-EIGHT
 returns-then-neighbours-eq-EIGHT c =
-    let taken = c in
-    let test = c in
-    let a = test.args in
-    let is = adjacency_eight a.shape a.neighbours (eq-eqb _ 8 test.if-neighbours-eq-EIGHT.true) in
-    rw is taken.flood_eight.ensures
+    let a = c.args in
+    let is = adjacency_eight a.shape a.neighbours (eq-eqb _ 8 c.if-neighbours-eq-EIGHT.true) in
+    rw is c.flood_eight.ensures
 
 pub returns : goal.returns
 returns c =
-    let taken = c in
-    let test = c in
-    let a = test.args in
-    let is = adjacency_other a.shape a.neighbours (ne_eqb _ 8 test.if-neighbours-eq-EIGHT.false) in
-    rw is taken.flood_four.ensures
+    let a = c.args in
+    let is = adjacency_other a.shape a.neighbours (ne_eqb _ 8 c.if-neighbours-eq-EIGHT.false) in
+    rw is c.flood_four.ensures

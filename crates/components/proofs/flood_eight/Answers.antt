@@ -22,77 +22,71 @@ flooding : (c : At-loop-seen) → (
     FloodingTo (eight a.shape.w) a.shape a.code a.start a.marks.now a.queue.now
     c.loop-seen.marks c.loop-seen.queue c.loop-seen.seen.size c.loop-seen.front.tail)
 flooding c =
-    let first = c in
     let F = c.requires.0 in
-    c.loop-seen.invariant.0.flooding _ _ (flood_begin F (row_eight _ F.size.wide) first.reach-tail.ensures)
+    c.loop-seen.invariant.0.flooding _ _ (flood_begin F (row_eight _ F.size.wide) c.reach-tail.ensures)
 
 -- values are bytes
 byte : (c : At-loop-seen)
     → at c.args.plane.now (at c.loop-seen.queue c.loop-seen.seen.size) < 256
 byte c =
-    let known = c in
-    omega (arith, known.type_inv.plane (at c.loop-seen.queue c.loop-seen.seen.size))
+    omega (arith, c.type_inv.plane (at c.loop-seen.queue c.loop-seen.seen.size))
 
 pub bounds-plane-start : goal.bounds-plane-start
 bounds-plane-start c =
-    let s = c in
-    omega (arith, s.requires.0.inside, s.requires.1.0)
+    omega (arith, c.requires.0.inside, c.requires.1.0)
 
 pub reach-tail-requires : goal.reach-tail-requires
 reach-tail-requires c = may_begin c.requires.0
 
 pub loop-seen-init : goal.loop-seen-init
 loop-seen-init c =
-    let s = c in (
-      going_none _ s.args.shape s.args.code s.args.start s.args.plane.now _ _ _ s.requires.1.1,
+    (
+      going_none _ c.args.shape c.args.code c.args.start c.args.plane.now _ _ _ c.requires.1.1,
       λ h. absurd (omega (arith, c.pixels.ensures)),
     )
 
 pub offset_bounds-queue-head : goal.offset_bounds-queue-head
-offset_bounds-queue-head c = head_offset (flooding (goal.at.offset_bounds-queue-head c).At-loop-seen) c.loop-seen-test.true
+offset_bounds-queue-head c = head_offset (flooding (goal.at.offset_bounds-queue-head c).At-loop-seen)
+    c.loop-seen-test.true
 
 pub bounds-queue-head : goal.bounds-queue-head
-bounds-queue-head c = let i = c in head_room (flooding (goal.at.bounds-queue-head c).At-loop-seen) i.loop-seen-test.true
+bounds-queue-head c = head_room (flooding (goal.at.bounds-queue-head c).At-loop-seen) c.loop-seen-test.true
 
 pub overflow_cast-p : goal.overflow_cast-p
-overflow_cast-p c = let i = c in head_fits (flooding (goal.at.overflow_cast-p c).At-loop-seen) i.loop-seen-test.true
+overflow_cast-p c = head_fits (flooding (goal.at.overflow_cast-p c).At-loop-seen) c.loop-seen-test.true
 
 pub spread-front-requires : goal.spread-front-requires
 spread-front-requires c =
-    let i = c in
-    let l = c in
-    let due = i.loop-seen-test.true in
+    let due = c.loop-seen-test.true in
     let a = c.args in (
       spreadable c.requires.0 (flooding (goal.at.spread-front-requires c).At-loop-seen) due,
-      λ e. subst (Begun a.shape.w (pixels a.shape) a.code l.loop-seen.marks) (sym e)
-          (l.loop-seen.invariant.1 (omega (arith, head_inside (flooding (goal.at.spread-front-requires c).At-loop-seen) due))),
+      λ e. subst (Begun a.shape.w (pixels a.shape) a.code c.loop-seen.marks) (sym e)
+          (c.loop-seen.invariant.1 (omega (arith, head_inside (flooding
+              (goal.at.spread-front-requires c).At-loop-seen) due))),
     )
 
 pub see-seen-requires : goal.see-seen-requires
 see-seen-requires c =
-    let i = c in
-    let l = c in
-    may_see (flooding (goal.at.see-seen-requires c).At-loop-seen) i.loop-seen-test.true c.args.plane.now l.loop-seen.counts _ _ c.requires.1.0
-    l.loop-seen.invariant.0.gauging
+    may_see (flooding (goal.at.see-seen-requires c).At-loop-seen) c.loop-seen-test.true c.args.plane.now
+        c.loop-seen.counts _ _ c.requires.1.0
+    c.loop-seen.invariant.0.gauging
 
 pub loop-seen-smaller : goal.loop-seen-smaller
 loop-seen-smaller c =
-    let i = c in
-    omega (arith, head_room (flooding (goal.at.loop-seen-smaller c).At-loop-seen) i.loop-seen-test.true, c.see-seen.ensures.size)
+    omega (arith, head_room (flooding (goal.at.loop-seen-smaller c).At-loop-seen) c.loop-seen-test.true,
+        c.see-seen.ensures.size)
 
 pub loop-seen-preserved : goal.loop-seen-preserved
 loop-seen-preserved c =
-    let on = c in
-    let i = c in
-    let l = c in
-    let due = i.loop-seen-test.true in (
-      going_on l.loop-seen.invariant.0 due (head_room (flooding (goal.at.loop-seen-preserved c).At-loop-seen) due) (byte (goal.at.loop-seen-preserved c).At-loop-seen) on.spread-front.ensures.spread
+    let due = c.loop-seen-test.true in (
+      going_on c.loop-seen.invariant.0 due (head_room (flooding (goal.at.loop-seen-preserved c).At-loop-seen) due)
+          (byte (goal.at.loop-seen-preserved c).At-loop-seen) c.spread-front.ensures.spread
           c.see-seen.ensures (omega arith) (omega arith),
-      λ h. on.spread-front.ensures.begun,
+      λ h. c.spread-front.ensures.begun,
     )
 
 pub returns : goal.returns
 returns c =
-    let l = c in
-    flooded c.requires.0 l.loop-seen.seen (flooding (goal.at.returns c).At-loop-seen) c.loop-seen-test.false c.args.plane.now
-    l.loop-seen.invariant.0.gauging
+    flooded c.requires.0 c.loop-seen.seen (flooding
+        (goal.at.returns c).At-loop-seen) c.loop-seen-test.false c.args.plane.now
+    c.loop-seen.invariant.0.gauging

@@ -18,7 +18,8 @@ use Rattle.components.proofs.flood_eight.Given as goal
 
 abbrev pub invariant-loop-seen : goal.invariant-loop-seen
 invariant-loop-seen l =
-    Going (eight l.shape.w) l.shape l.code l.start l.plane l.initial.marks l.initial.queue l.initial.seen.size l.initial.front.tail l.marks l.queue l.counts l.seen
+    Going (eight l.shape.w) l.shape l.code l.start l.plane l.initial.marks l.initial.queue l.initial.seen.size
+        l.initial.front.tail l.marks l.queue l.counts l.seen
     l.front.tail
     × (l.front.reached < pixels l.shape → Begun l.shape.w (pixels l.shape) l.code l.marks l.front.reached)
 

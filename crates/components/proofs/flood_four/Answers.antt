@@ -19,70 +19,64 @@ flooding : (c : At-loop-seen) → (
     FloodingTo (neighbours a.shape) a.shape a.code a.start a.marks.now a.queue.now
     c.loop-seen.marks c.loop-seen.queue c.loop-seen.seen.size c.loop-seen.tail)
 flooding c =
-    let first = c in
     let F = c.requires.0 in
     let rows = row_neighbours c.args.shape F.size.wide in
-    c.loop-seen.invariant.flooding _ _ (flood_begin F rows first.reach-tail.ensures)
+    c.loop-seen.invariant.flooding _ _ (flood_begin F rows c.reach-tail.ensures)
 
 -- values are bytes
 byte : (c : At-loop-seen)
     → at c.args.plane.now (at c.loop-seen.queue c.loop-seen.seen.size) < 256
 byte c =
-    let known = c in
-    omega (arith, known.type_inv.plane (at c.loop-seen.queue c.loop-seen.seen.size))
+    omega (arith, c.type_inv.plane (at c.loop-seen.queue c.loop-seen.seen.size))
 
 pub bounds-plane-start : goal.bounds-plane-start
 bounds-plane-start c =
-    let s = c in
-    omega (arith, s.requires.0.inside, s.requires.1.0)
+    omega (arith, c.requires.0.inside, c.requires.1.0)
 
 pub reach-tail-requires : goal.reach-tail-requires
 reach-tail-requires c = may_begin c.requires.0
 
 pub loop-seen-init : goal.loop-seen-init
 loop-seen-init c =
-    let s = c in
-    going_none _ s.args.shape s.args.code s.args.start s.args.plane.now _ _ _ s.requires.1.1
+    going_none _ c.args.shape c.args.code c.args.start c.args.plane.now _ _ _ c.requires.1.1
 
 pub offset_bounds-queue-head : goal.offset_bounds-queue-head
-offset_bounds-queue-head c = head_offset (flooding (goal.at.offset_bounds-queue-head c).At-loop-seen) c.loop-seen-test.true
+offset_bounds-queue-head c = head_offset (flooding (goal.at.offset_bounds-queue-head c).At-loop-seen)
+    c.loop-seen-test.true
 
 pub bounds-queue-head : goal.bounds-queue-head
-bounds-queue-head c = let i = c in head_room (flooding (goal.at.bounds-queue-head c).At-loop-seen) i.loop-seen-test.true
+bounds-queue-head c = head_room (flooding (goal.at.bounds-queue-head c).At-loop-seen) c.loop-seen-test.true
 
 pub overflow_cast-p : goal.overflow_cast-p
-overflow_cast-p c = let i = c in head_fits (flooding (goal.at.overflow_cast-p c).At-loop-seen) i.loop-seen-test.true
+overflow_cast-p c = head_fits (flooding (goal.at.overflow_cast-p c).At-loop-seen) c.loop-seen-test.true
 
 pub reach_column-tail-requires : goal.reach_column-tail-requires
 reach_column-tail-requires c =
-    let i = c in
-    let l = c in
-    (spreadable c.requires.0 (flooding (goal.at.reach_column-tail-requires c).At-loop-seen) i.loop-seen-test.true).reachable
+    (spreadable c.requires.0 (flooding (goal.at.reach_column-tail-requires c).At-loop-seen)
+        c.loop-seen-test.true).reachable
 
 pub see-seen-requires : goal.see-seen-requires
 see-seen-requires c =
-    let i = c in
-    let l = c in
-    may_see (flooding (goal.at.see-seen-requires c).At-loop-seen) i.loop-seen-test.true c.args.plane.now l.loop-seen.counts _ _ c.requires.1.0
-    l.loop-seen.invariant.gauging
+    may_see (flooding (goal.at.see-seen-requires c).At-loop-seen) c.loop-seen-test.true c.args.plane.now
+        c.loop-seen.counts _ _ c.requires.1.0
+    c.loop-seen.invariant.gauging
 
 pub loop-seen-smaller : goal.loop-seen-smaller
 loop-seen-smaller c =
-    let i = c in
-    omega (arith, head_room (flooding (goal.at.loop-seen-smaller c).At-loop-seen) i.loop-seen-test.true, c.see-seen.ensures.size)
+    omega (arith, head_room (flooding (goal.at.loop-seen-smaller c).At-loop-seen) c.loop-seen-test.true,
+        c.see-seen.ensures.size)
 
 pub loop-seen-preserved : goal.loop-seen-preserved
 loop-seen-preserved c =
-    let column = c in
-    let i = c in
-    let l = c in
-    let due = i.loop-seen-test.true in
-    let spread = spread_four (spreadable c.requires.0 (flooding (goal.at.loop-seen-preserved c).At-loop-seen) due) column.reach_column-tail.ensures in
-    going_on l.loop-seen.invariant due (head_room (flooding (goal.at.loop-seen-preserved c).At-loop-seen) due) (byte (goal.at.loop-seen-preserved c).At-loop-seen) spread c.see-seen.ensures
+    let due = c.loop-seen-test.true in
+    let spread = spread_four (spreadable c.requires.0 (flooding
+        (goal.at.loop-seen-preserved c).At-loop-seen) due) c.reach_column-tail.ensures in
+    going_on c.loop-seen.invariant due (head_room (flooding (goal.at.loop-seen-preserved c).At-loop-seen) due) (byte
+        (goal.at.loop-seen-preserved c).At-loop-seen) spread c.see-seen.ensures
     (omega arith) (omega arith)
 
 pub returns : goal.returns
 returns c =
-    let l = c in
-    flooded c.requires.0 l.loop-seen.seen (flooding (goal.at.returns c).At-loop-seen) c.loop-seen-test.false c.args.plane.now
-    l.loop-seen.invariant.gauging
+    flooded c.requires.0 c.loop-seen.seen (flooding
+        (goal.at.returns c).At-loop-seen) c.loop-seen-test.false c.args.plane.now
+    c.loop-seen.invariant.gauging

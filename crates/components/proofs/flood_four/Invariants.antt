@@ -15,7 +15,8 @@ use Rattle.components.proofs.flood_four.Given as goal
 
 abbrev pub invariant-loop-seen : goal.invariant-loop-seen
 invariant-loop-seen l =
-    Going (neighbours l.shape) l.shape l.code l.start l.plane l.initial.marks l.initial.queue l.initial.seen.size l.initial.tail l.marks l.queue l.counts l.seen l.tail
+    Going (neighbours l.shape) l.shape l.code l.start l.plane l.initial.marks l.initial.queue l.initial.seen.size
+        l.initial.tail l.marks l.queue l.counts l.seen l.tail
 
 abbrev pub decreases-loop-seen : goal.decreases-loop-seen
 decreases-loop-seen l =

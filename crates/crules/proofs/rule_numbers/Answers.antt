@@ -33,8 +33,7 @@ bounds-rule-2 c = omega (arith, enough (goal.at.bounds-rule-2 c).Then-is_ruled)
 
 pub returns-then-is_ruled : goal.returns-then-is_ruled
 returns-then-is_ruled c =
-    let tested = c in
-    let rule = tested.args.rule.now in
+    let rule = c.args.rule.now in
     let numbers : ℕ → ℕ → RuleNumbers =
     λ code extra. record { code = code; extra = extra; first = at rule 1; second = at rule 2 } in
     let code = c.byte_of-code.ensures in

@@ -14,28 +14,22 @@ returns-then-last-ne0 c =
 pub returns-then-area-ne0 : goal.returns-then-area-ne0
 unfolding settings_refusal
 returns-then-area-ne0 c =
-    let last = c in
     let e = c.area_refusal-area.ensures in
-    e ∙ sym (▷_right _ _ (sym last.level_refusal-last.ensures ∙ last.if-last-ne0.false)
+    e ∙ sym (▷_right _ _ (sym c.level_refusal-last.ensures ∙ c.if-last-ne0.false)
     ∙ ▷_left _ _ (λ z. c.if-area-ne0.true (e ∙ z)))
 
 pub returns-then-unfit-ne0 : goal.returns-then-unfit-ne0
 unfolding settings_refusal
 returns-then-unfit-ne0 c =
-    let area = c in
-    let last = c in
     let e = c.rule_refusal-unfit.ensures in
-    e ∙ sym (▷_right _ _ (sym last.level_refusal-last.ensures ∙ last.if-last-ne0.false)
-    ∙ ▷_right _ _ (sym area.area_refusal-area.ensures ∙ area.if-area-ne0.false)
+    e ∙ sym (▷_right _ _ (sym c.level_refusal-last.ensures ∙ c.if-last-ne0.false)
+    ∙ ▷_right _ _ (sym c.area_refusal-area.ensures ∙ c.if-area-ne0.false)
     ∙ ▷_left _ _ (λ z. c.if-unfit-ne0.true (e ∙ z)))
 
 pub returns : goal.returns
 unfolding settings_refusal
 returns c =
-    let rule = c in
-    let area = c in
-    let last = c in
     c.neighbour_refusal.ensures
-    ∙ sym (▷_right _ _ (sym last.level_refusal-last.ensures ∙ last.if-last-ne0.false)
-    ∙ ▷_right _ _ (sym area.area_refusal-area.ensures ∙ area.if-area-ne0.false)
-    ∙ ▷_right _ _ (sym rule.rule_refusal-unfit.ensures ∙ rule.if-unfit-ne0.false))
+    ∙ sym (▷_right _ _ (sym c.level_refusal-last.ensures ∙ c.if-last-ne0.false)
+    ∙ ▷_right _ _ (sym c.area_refusal-area.ensures ∙ c.if-area-ne0.false)
+    ∙ ▷_right _ _ (sym c.rule_refusal-unfit.ensures ∙ c.if-unfit-ne0.false))

@@ -54,12 +54,11 @@ unfolding head_refusal
 returns-then-list-record_start c =
     let placed = c.record_start.ensures in
     let edition = c.edition_of-edition.ensures in
-    let few = c in
-    let named = c in
-    let long = le-ltb _ _ named.if-list-lt-HEAD_LENGTH.false in
-    let fine = sym named.is_misnamed.ensures ∙ named.if-is_misnamed.false in
-    let same = placed ∙ ap (λ e. record_start e few.count_of-count.result) edition in
-    let counted = uneven _ _ few.count_of-count.ensures few.if-count-gt-COUNT.false (λ z. c.if-list-record_start.true (z ∙ sym same)) in
+    let long = le-ltb _ _ c.if-list-lt-HEAD_LENGTH.false in
+    let fine = sym c.is_misnamed.ensures ∙ c.if-is_misnamed.false in
+    let same = placed ∙ ap (λ e. record_start e c.count_of-count.result) edition in
+    let counted = uneven _ _ c.count_of-count.ensures c.if-count-gt-COUNT.false (λ z. c.if-list-record_start.true
+        (z ∙ sym same)) in
     simp (long, fine) (sym (ap (λ t. when t 16) counted))
 
 pub returns : goal.returns
@@ -67,10 +66,8 @@ unfolding head_refusal
 returns c =
     let placed = c.record_start.ensures in
     let edition = c.edition_of-edition.ensures in
-    let few = c in
-    let named = c in
-    let long = le-ltb _ _ named.if-list-lt-HEAD_LENGTH.false in
-    let fine = sym named.is_misnamed.ensures ∙ named.if-is_misnamed.false in
-    let same = c.if-list-record_start.false ∙ placed ∙ ap (λ e. record_start e few.count_of-count.result) edition in
-    let counted = even _ _ few.count_of-count.ensures few.if-count-gt-COUNT.false same in
+    let long = le-ltb _ _ c.if-list-lt-HEAD_LENGTH.false in
+    let fine = sym c.is_misnamed.ensures ∙ c.if-is_misnamed.false in
+    let same = c.if-list-record_start.false ∙ placed ∙ ap (λ e. record_start e c.count_of-count.result) edition in
+    let counted = even _ _ c.count_of-count.ensures c.if-count-gt-COUNT.false same in
     simp (long, fine) (sym (ap (λ t. when t 16) counted))

@@ -16,26 +16,18 @@ returns-then-list-ne76 c = simp (eq-eqb _ _ c.if-list-ne77.false, ne_eqb _ _ c.i
 pub returns-then-list-ne80 : goal.returns-then-list-ne80
 unfolding misnamed
 returns-then-list-ne80 c =
-    let second = c in
-    let first = c in
-    simp (eq-eqb _ _ first.if-list-ne77.false, eq-eqb _ _ second.if-list-ne76.false, ne_eqb _ _ c.if-list-ne80.true)
+    simp (eq-eqb _ _ c.if-list-ne77.false, eq-eqb _ _ c.if-list-ne76.false, ne_eqb _ _ c.if-list-ne80.true)
 
 pub returns-then-number16_at-version : goal.returns-then-number16_at-version
 unfolding misnamed
 returns-then-number16_at-version c =
     let named = c.version-version.ensures ∙ ap version c.edition_of.ensures in
     let other = ne_eqb _ _ (λ z. c.if-number16_at-version.true (c.number16_at.ensures ∙ z ∙ sym named)) in
-    let third = c in
-    let second = c in
-    let first = c in
-    simp (eq-eqb _ _ first.if-list-ne77.false, eq-eqb _ _ second.if-list-ne76.false, eq-eqb _ _ third.if-list-ne80.false, other)
+    simp (eq-eqb _ _ c.if-list-ne77.false, eq-eqb _ _ c.if-list-ne76.false, eq-eqb _ _ c.if-list-ne80.false, other)
 
 pub returns : goal.returns
 unfolding misnamed
 returns c =
     let named = c.version-version.ensures ∙ ap version c.edition_of.ensures in
     let one = eq-eqb _ _ (sym c.number16_at.ensures ∙ c.if-number16_at-version.false ∙ named) in
-    let third = c in
-    let second = c in
-    let first = c in
-    simp (eq-eqb _ _ first.if-list-ne77.false, eq-eqb _ _ second.if-list-ne76.false, eq-eqb _ _ third.if-list-ne80.false, one)
+    simp (eq-eqb _ _ c.if-list-ne77.false, eq-eqb _ _ c.if-list-ne76.false, eq-eqb _ _ c.if-list-ne80.false, one)

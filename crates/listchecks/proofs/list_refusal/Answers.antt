@@ -22,8 +22,7 @@ records_refusal-requires c = sym c.head_refusal-head.ensures ∙ c.if-head-ne0.f
 pub returns : goal.returns
 unfolding list_refusal
 returns c =
-    let tested = c in
-    let list = tested.args.list.now in
-    let head = sym tested.head_refusal-head.ensures ∙ tested.if-head-ne0.false in
+    let list = c.args.list.now in
+    let head = sym c.head_refusal-head.ensures ∙ c.if-head-ne0.false in
     c.records_refusal.ensures ∙ ap (first_refusal (record_refusals list) ▷◌) (places_second (passes_of list))
     ∙ ▷_zero (first_refusal (record_refusals list)) ∙ sym (▷_right _ _ head)

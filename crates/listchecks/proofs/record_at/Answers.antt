@@ -7,7 +7,8 @@ use native.Mathlib.Omega.{arith}
 use lib.ListN.{length}
 use Rattle.model.specs.declared.Pass.{Pass}
 use Rattle.listformat.specs.declared.Edition.{Edition}
-use Rattle.listformat.specs.Format.{record_length, fields_length, record_start, count_of, edition_of, pass_at, form_at}
+use Rattle.listformat.specs.Format.{record_length, fields_length, record_start, count_of, edition_of, pass_at}
+use Rattle.listformat.specs.Format.{form_at}
 use Rattle.listformat.specs.Format.{head_refusal}
 use Rattle.listformat.proofs.Format.{headed_long, record-inside, fields_within}
 use Rattle.listchecks.specs.Refusals.{record_at}
@@ -19,11 +20,13 @@ module _ (bs : List ℕ) (j : ℕ) where
       → p ≡ pass_at e bs i → record { form = form; pass = p } ≡ record_at bs j
   reads {e} {i} d f g h =
       let k : i ≡ record_start (edition_of bs) j = f ∙ ap (λ (e : Edition). record_start e j) d in
-      ap₂ (λ (n : ℕ) (q : Pass). record { form = n; pass = q }) (g ∙ ap₂ (λ (e : Edition) (i : ℕ). form_at e bs i) d k)
+      ap₂ (λ (n : ℕ) (q : Pass). record { form = n; pass =
+          q }) (g ∙ ap₂ (λ (e : Edition) (i : ℕ). form_at e bs i) d k)
       (h ∙ ap₂ (λ (e : Edition) (i : ℕ). pass_at e bs i) d k)
 
   -- it stands in the list, and so do its fields
-  stands : {e : Edition} {i : ℕ} → (head_refusal bs ≡ 0) × (j < count_of bs) → e ≡ edition_of bs → i ≡ record_start e j
+  stands : {e : Edition} {i : ℕ} → (head_refusal bs ≡ 0) ×
+      (j < count_of bs) → e ≡ edition_of bs → i ≡ record_start e j
       → (i + fields_length ≤ length bs) × (i + record_length e ≤ length bs)
   stands {e} {i} pre d f =
       let whole = (record-inside bs j pre.0 pre.1).1 in
@@ -37,20 +40,17 @@ edition_of-edition-requires c = headed_long _ c.requires.0
 
 pub record_start-i-requires : goal.record_start-i-requires
 record_start-i-requires c =
-    let start = c in
-    (record-inside _ _ start.requires.0 start.requires.1).0
+    (record-inside _ _ c.requires.0 c.requires.1).0
 
 pub form_refusal-form-requires : goal.form_refusal-form-requires
 form_refusal-form-requires c =
-    let start = c in
-    let args = start.args in
-    stands args.list.now args.j start.requires c.edition_of-edition.ensures c.record_start-i.ensures
+    let args = c.args in
+    stands args.list.now args.j c.requires c.edition_of-edition.ensures c.record_start-i.ensures
 
 pub pass_at-pass-requires : goal.pass_at-pass-requires
 pass_at-pass-requires c =
-    let start = c in
-    let args = start.args in
-    stands args.list.now args.j start.requires c.edition_of-edition.ensures
+    let args = c.args in
+    stands args.list.now args.j c.requires c.edition_of-edition.ensures
     c.record_start-i.ensures
 
 pub returns : goal.returns

@@ -27,41 +27,37 @@ record_at-found-requires c = (c.requires, omega (arith, c.loop-j.invariant.1.1))
 
 pub returns-then-refusal-ne0 : goal.returns-then-refusal-ne0
 returns-then-refusal-ne0 c =
-    let read = c in
-    let loop = read.loop-j in
-    let list = read.args.list.now in
-    let due : loop.j < count_of list = omega (arith, loop.invariant.1.1, read.loop-j-test.true) in
-    let told = c.record_refusal-refusal.ensures ∙ record_told list read.record_at-found.ensures due in
+    let loop = c.loop-j in
+    let list = c.args.list.now in
+    let due : loop.j < count_of list = omega (arith, loop.invariant.1.1, c.loop-j-test.true) in
+    let told = c.record_refusal-refusal.ensures ∙ record_told list c.record_at-found.ensures due in
     let some = c.if-refusal-ne0.true in
     let first = clear_stop loop.invariant.0 (omega (arith, records_length list)) (λ z. some (told ∙ z)) in
     told ∙ first ∙ sym (▷_left _ _ (λ z. some (told ∙ first ∙ z)))
 
 pub overflow_add-j : goal.overflow_add-j
 overflow_add-j c =
-    let tested = c in
-    let head = headed _ tested.requires in
-    omega (arith, tested.loop-j.invariant.1.1, tested.loop-j-test.true, head.few)
+    let head = headed _ c.requires in
+    omega (arith, c.loop-j.invariant.1.1, c.loop-j-test.true, head.few)
 
 pub loop-j-smaller : goal.loop-j-smaller
 loop-j-smaller c = omega (arith, c.loop-j-test.true)
 
 pub loop-j-preserved : goal.loop-j-preserved
 loop-j-preserved c =
-    let checked = c in
-    let read = c in
-    let loop = read.loop-j in
-    let args = read.args in
+    let loop = c.loop-j in
+    let args = c.args in
     let list = args.list.now in
-    let due : loop.j < count_of list = omega (arith, loop.invariant.1.1, read.loop-j-test.true) in
+    let due : loop.j < count_of list = omega (arith, loop.invariant.1.1, c.loop-j-test.true) in
     let none =
-    sym (record_told list read.record_at-found.ensures due) ∙ sym checked.record_refusal-refusal.ensures
+    sym (record_told list c.record_at-found.ensures due) ∙ sym c.record_refusal-refusal.ensures
     ∙ c.if-refusal-ne0.false in
     let places-due : loop.j < length (places args.edition list) =
     omega (arith, places_length args.edition list) in
     let place =
     c.first_of-place.ensures
     ∙ ap (loop.place ▷◌)
-    (c.place_refusal.ensures ∙ place_told args.edition list read.record_at-found.ensures due) in (
+    (c.place_refusal.ensures ∙ place_told args.edition list c.record_at-found.ensures due) in (
       clear_more loop.invariant.0 (omega (arith, records_length list)) none,
       (
         subst (Seen (places args.edition list) (loop.j + 1)) (sym place) (seen_more loop.invariant.1.0 places-due),

@@ -13,8 +13,7 @@ returns-then-is_zero_set c =
 
 pub returns : goal.returns
 returns c =
-    let tested = c in
-    let args = tested.args in
-    let unset = sym tested.is_zero_set.ensures ∙ tested.if-is_zero_set.false in
+    let args = c.args in
+    let unset = sym c.is_zero_set.ensures ∙ c.if-is_zero_set.false in
     c.form_refusal.ensures ∙ ap form_refusal c.numbers_at.ensures
     ∙ form_unset args.edition args.list.now args.i unset

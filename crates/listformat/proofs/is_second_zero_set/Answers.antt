@@ -12,12 +12,8 @@ returns-then-list-i-ne0-2 c = simp (eq-eqb _ _ c.if-list-i-ne0.false, ne_eqb _ _
 
 pub returns-then-list-i-ne0-3 : goal.returns-then-list-i-ne0-3
 returns-then-list-i-ne0-3 c =
-    let second = c in
-    let first = c in
-    simp (eq-eqb _ _ first.if-list-i-ne0.false, eq-eqb _ _ second.if-list-i-ne0-2.false, ne_eqb _ _ c.if-list-i-ne0-3.true)
+    simp (eq-eqb _ _ c.if-list-i-ne0.false, eq-eqb _ _ c.if-list-i-ne0-2.false, ne_eqb _ _ c.if-list-i-ne0-3.true)
 
 pub returns : goal.returns
 returns c =
-    let second = c in
-    let first = c in
-    simp (eq-eqb _ _ first.if-list-i-ne0.false, eq-eqb _ _ second.if-list-i-ne0-2.false, eq-eqb _ _ c.if-list-i-ne0-3.false)
+    simp (eq-eqb _ _ c.if-list-i-ne0.false, eq-eqb _ _ c.if-list-i-ne0-2.false, eq-eqb _ _ c.if-list-i-ne0-3.false)

@@ -9,9 +9,8 @@ use Rattle.listformat.proofs.is_zero_set.Goals as goal
 
 pub is_second_zero_set-requires : goal.is_second_zero_set-requires
 is_second_zero_set-requires c =
-    let start = c in
-    subst (λ (e : Edition). start.args.i + record_length e ≤ length start.args.list.now)
-    c.in-Second.is start.requires
+    subst (λ (e : Edition). c.args.i + record_length e ≤ length c.args.list.now)
+    c.in-Second.is c.requires
 
 pub returns-in-Second : goal.returns-in-Second
 returns-in-Second c =

@@ -10,10 +10,9 @@ use Rattle.listformat.proofs.neighbours_at.Goals as goal
 
 pub bounds-list-i : goal.bounds-list-i
 bounds-list-i c =
-    let start = c in
     let inside =
-    subst (λ (e : Edition). start.args.i + record_length e ≤ length start.args.list.now)
-    c.in-Second.is start.requires in
+    subst (λ (e : Edition). c.args.i + record_length e ≤ length c.args.list.now)
+    c.in-Second.is c.requires in
     omega (arith, inside)
 
 pub returns-in-Second : goal.returns-in-Second

@@ -11,9 +11,8 @@ use Rattle.listformat.proofs.record_start.Goals.{After-record_length}
 -- all records together are short
 low : (c : After-record_length) → c.record_length.result * c.args.j ≤ most_bytes
 low c =
-    let start = c in
-    subst (λ (r : ℕ). r * start.args.j ≤ most_bytes) (sym c.record_length.ensures)
-    (records_low start.args.edition start.args.j start.requires)
+    subst (λ (r : ℕ). r * c.args.j ≤ most_bytes) (sym c.record_length.ensures)
+    (records_low c.args.edition c.args.j c.requires)
 
 pub overflow_mul-result : goal.overflow_mul-result
 overflow_mul-result c = omega (arith, low (goal.at.overflow_mul-result c).After-record_length)

@@ -16,10 +16,10 @@ bounds-marks-p c = omega (arith, c.loop-p.invariant.1.rest.size)
 
 pub loop-p-preserved : goal.loop-p-preserved
 loop-p-preserved c =
-    let l = c in (
+    (
       omega arith,
-      marked_more l.loop-p.invariant.1 (omega (arith, l.loop-p.invariant.1.rest.size))
-          (omega (arith, c.shared_slice_known-in-loop-p-1.given l.loop-p.p)) c.mark_of.ensures,
+      marked_more c.loop-p.invariant.1 (omega (arith, c.loop-p.invariant.1.rest.size))
+          (omega (arith, c.shared_slice_known-in-loop-p-1.given c.loop-p.p)) c.mark_of.ensures,
     )
 
 pub shape_of-marks : goal.shape_of-marks

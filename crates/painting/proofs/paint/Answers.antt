@@ -24,46 +24,34 @@ overflow_cast-p c = omega (arith, c.shared_slice_known-in-loop-i-1.given c.loop-
 
 pub bounds-plane-p : goal.bounds-plane-p
 bounds-plane-p c =
-    let l = c in
-    let s = c in
-    let below = s.requires.0.pixels.below l.loop-i.i c.loop-i-test.true in
-    omega (arith, l.loop-i.invariant.1.size)
+    let below = c.requires.0.pixels.below c.loop-i.i c.loop-i-test.true in
+    omega (arith, c.loop-i.invariant.1.size)
 
 pub overflow_cast-v : goal.overflow_cast-v
 overflow_cast-v c =
-    let l = c in
-    let s = c in
-    omega (arith, c.slice_known-in-loop-i-1.given (at s.args.queue.now l.loop-i.i))
+    omega (arith, c.slice_known-in-loop-i-1.given (at c.args.queue.now c.loop-i.i))
 
 pub bounds-table-old : goal.bounds-table-old
 bounds-table-old c =
-    let l = c in
-    let s = c in
-    omega (arith, c.slice_known-in-loop-i-1.given (at s.args.queue.now l.loop-i.i))
+    omega (arith, c.slice_known-in-loop-i-1.given (at c.args.queue.now c.loop-i.i))
 
 pub bounds-plane-p-in-loop-i : goal.bounds-plane-p-in-loop-i
 bounds-plane-p-in-loop-i c =
-    let l = c in
-    let s = c in
-    let below = s.requires.0.pixels.below l.loop-i.i c.loop-i-test.true in
-    omega (arith, l.loop-i.invariant.1.size)
+    let below = c.requires.0.pixels.below c.loop-i.i c.loop-i-test.true in
+    omega (arith, c.loop-i.invariant.1.size)
 
 pub bounds-marks-p : goal.bounds-marks-p
 bounds-marks-p c =
-    let l = c in
-    let s = c in
-    let marked = s.requires.0.marked l.loop-i.i c.loop-i-test.true in
-    omega (arith, l.loop-i.invariant.1.marks_size)
+    let marked = c.requires.0.marked c.loop-i.i c.loop-i-test.true in
+    omega (arith, c.loop-i.invariant.1.marks_size)
 
 pub loop-i-preserved : goal.loop-i-preserved
 loop-i-preserved c =
-    let l = c in
-    let s = c in
-    let i = l.loop-i.i in
+    let i = c.loop-i.i in
     let taken = c.loop-i-test.true in (
       omega (arith, taken),
-      painted_more l.loop-i.invariant.1 (s.requires.0.pixels.below i taken) (s.requires.0.marked i taken)
-          (λ j h. s.requires.1 j i h taken) refl c.next_mark.ensures,
+      painted_more c.loop-i.invariant.1 (c.requires.0.pixels.below i taken) (c.requires.0.marked i taken)
+          (λ j h. c.requires.1 j i h taken) refl c.next_mark.ensures,
     )
 
 pub shape_of-plane : goal.shape_of-plane

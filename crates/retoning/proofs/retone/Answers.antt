@@ -7,15 +7,12 @@ use Rattle.retoning.proofs.retone.Goals as goal
 
 pub returns : goal.returns
 returns c =
-    let painted = c in
-    let tabled = c in
-    let s = c in
-    let gathered = s.requires.0.0 in
-    let lively = s.requires.1 in
+    let gathered = c.requires.0.0 in
+    let lively = c.requires.1 in
     record {
-      done = λ vs A. done s.args.pass s.args.next A _ (gathered_size gathered A)
+      done = λ vs A. done c.args.pass c.args.next A _ (gathered_size gathered A)
           (omega (arith, lively_large _ _ lively, gathered.measured.size)) lively
-          (tabled.tone_table-retoned.ensures.tones vs A) painted.paint-sides.ensures
+          (c.tone_table-retoned.ensures.tones vs A) c.paint-sides.ensures
           c.one_if.ensures c.one_unless.ensures refl;
-      counts_rest = tabled.tone_table-retoned.ensures.confined.counts_rest;
+      counts_rest = c.tone_table-retoned.ensures.confined.counts_rest;
     }

@@ -19,16 +19,13 @@ told c =
 
 pub returns-then-is_inert : goal.returns-then-is_inert
 returns-then-is_inert c =
-    let tested = c in
-    let s = c in
     let is-inert = sym (told (goal.at.returns-then-is_inert c).After-is_inert) ∙ c.if-is_inert.true in
     record {
-      done = λ vs A. left_alone s.args.pass s.args.next A _ (gathered_size s.requires.0 A)
+      done = λ vs A. left_alone c.args.pass c.args.next A _ (gathered_size c.requires.0 A)
           c.left_alone.ensures is-inert;
       counts_rest = outside_none _;
     }
 
 pub retone-requires : goal.retone-requires
 retone-requires c =
-    let tested = c in
-    (c.requires, sym (told (goal.at.retone-requires c).After-is_inert) ∙ tested.if-is_inert.false)
+    (c.requires, sym (told (goal.at.retone-requires c).After-is_inert) ∙ c.if-is_inert.false)

@@ -16,90 +16,70 @@ pixels-n-requires c = omega (arith, c.requires.size.few)
 
 pub row_of-top-requires : goal.row_of-top-requires
 row_of-top-requires c =
-    let s = c in
-    (width_of s.requires.size s.requires.inverse_is, omega (arith, s.requires.inside, s.requires.size.few))
+    (width_of c.requires.size c.requires.inverse_is, omega (arith, c.requires.inside, c.requires.size.few))
 
 pub overflow_mul-first : goal.overflow_mul-first
 overflow_mul-first c =
-    let s = c in
-    let top = ap (◌* s.args.shape.w) c.row_of-top.ensures in
-    omega (arith, (row_bounds s.args.shape.w s.args.from s.requires.size.wide).0)
+    let top = ap (◌* c.args.shape.w) c.row_of-top.ensures in
+    omega (arith, (row_bounds c.args.shape.w c.args.from c.requires.size.wide).0)
 
 pub overflow_sub-first : goal.overflow_sub-first
 overflow_sub-first c =
-    let s = c in
-    let top = ap (◌* s.args.shape.w) c.row_of-top.ensures in
-    omega (arith, (row_bounds s.args.shape.w s.args.from s.requires.size.wide).0)
+    let top = ap (◌* c.args.shape.w) c.row_of-top.ensures in
+    omega (arith, (row_bounds c.args.shape.w c.args.from c.requires.size.wide).0)
 
 pub search-init : goal.search-init
 search-init c =
-    let s = c in
-    let top = ap (◌* s.args.shape.w) c.row_of-top.ensures in
-    let bounds = row_bounds s.args.shape.w s.args.from s.requires.size.wide in
+    let top = ap (◌* c.args.shape.w) c.row_of-top.ensures in
+    let bounds = row_bounds c.args.shape.w c.args.from c.requires.size.wide in
     (search rules, (omega arith, skipped_none _ _ _ _ (omega arith)))
 
 pub overflow_mul-row : goal.overflow_mul-row
 overflow_mul-row c =
-    let row = c in
-    let s = c in
-    let inside = row_inside row.search.y s.args.shape.w s.args.shape.h (omega arith) in
-    omega (arith, s.requires.size.few)
+    let inside = row_inside c.search.y c.args.shape.w c.args.shape.h (omega arith) in
+    omega (arith, c.requires.size.few)
 
 pub overflow_add-row : goal.overflow_add-row
 overflow_add-row c =
-    let row = c in
-    let s = c in
-    let inside = row_inside row.search.y s.args.shape.w s.args.shape.h (omega arith) in
-    omega (arith, s.requires.size.few)
+    let inside = row_inside c.search.y c.args.shape.w c.args.shape.h (omega arith) in
+    omega (arith, c.requires.size.few)
 
 pub overflow_add-row-in-search : goal.overflow_add-row-in-search
 overflow_add-row-in-search c =
-    let row = c in
-    let s = c in
-    let inside = row_inside row.search.y s.args.shape.w s.args.shape.h (omega arith) in
-    omega (arith, s.requires.size.few)
+    let inside = row_inside c.search.y c.args.shape.w c.args.shape.h (omega arith) in
+    omega (arith, c.requires.size.few)
 
 pub skip-requires : goal.skip-requires
 skip-requires c =
-    let row = c in
-    let s = c in
-    let inside = row_inside row.search.y s.args.shape.w s.args.shape.h (omega arith) in
-    omega (arith, s.requires.covered)
+    let inside = row_inside c.search.y c.args.shape.w c.args.shape.h (omega arith) in
+    omega (arith, c.requires.covered)
 
 pub overflow_step-x : goal.overflow_step-x
 overflow_step-x c = omega (arith, c.skip.ensures.past)
 
 pub loop-x-init : goal.loop-x-init
 loop-x-init c =
-    let row = c in
-    let passed = skipped_more _ _ _ row.search.invariant.1.1 c.skip.ensures.past c.skip.ensures.none in
+    let passed = skipped_more _ _ _ c.search.invariant.1.1 c.skip.ensures.past c.skip.ensures.none in
     (search rules, skipped_less _ _ _ _ (omega (arith, passed.past)) (omega (arith, c.skip.ensures.past)) passed)
 
 pub overflow_add-p : goal.overflow_add-p
 overflow_add-p c =
-    let row = c in
-    let s = c in
-    let inside = row_inside row.search.y s.args.shape.w s.args.shape.h (omega arith) in
-    omega (arith, s.requires.size.few)
+    let inside = row_inside c.search.y c.args.shape.w c.args.shape.h (omega arith) in
+    omega (arith, c.requires.size.few)
 
 pub bounds-marks-p : goal.bounds-marks-p
 bounds-marks-p c =
-    let row = c in
-    let s = c in
-    let inside = row_inside row.search.y s.args.shape.w s.args.shape.h (omega arith) in
-    omega (arith, s.requires.covered)
+    let inside = row_inside c.search.y c.args.shape.w c.args.shape.h (omega arith) in
+    omega (arith, c.requires.covered)
 
 pub loop-x-preserved : goal.loop-x-preserved
 loop-x-preserved c =
-    let column = c in
-    (search rules, skipped_one _ _ _ _ (omega arith) column.loop-x.invariant.1 c.if-marks-p.false)
+    (search rules, skipped_one _ _ _ _ (omega arith) c.loop-x.invariant.1 c.if-marks-p.false)
 
 pub search-preserved : goal.search-preserved
 search-preserved c =
-    let row = c in
-    let s = c in
-    let next = next_row row.search.y s.args.shape.w in
-    let passed = row.search.invariant.1.1.past in
+    let next = next_row c.search.y c.args.shape.w in
+    let passed = c.search.invariant.1.1.past in
     (search rules, (omega arith, skipped_less _ _ _ _ (omega arith) (omega arith) c.loop-x.invariant.1))
 
 pub returns-then-at-n : goal.returns-then-at-n

@@ -31,11 +31,10 @@ flooded : (c : After-take_plane-c) → (
     Flooded (pass_neighbours s.shape s.pass) (pixels s.shape) 1 0 s.marks.now s.queue.now
     c.take_plane-c.new.marks c.take_plane-c.new.queue c.take_plane-c.result.size)
 flooded c =
-    let s = c in
-    let lent = s.requires.0.lent in
-    by_pass s.args.shape s.args.pass
-    (plane_flooded s.args.shape s.args.pass.neighbours 1 lent.size.wide c.take_plane-c.ensures.0
-    lent.spare s.requires.1 (size c))
+    let lent = c.requires.0.lent in
+    by_pass c.args.shape c.args.pass
+    (plane_flooded c.args.shape c.args.pass.neighbours 1 lent.size.wide c.take_plane-c.ensures.0
+    lent.spare c.requires.1 (size c))
 
 values_are : (c : After-take_plane-c) →
     values c.args.plane.now c.take_plane-c.new.queue c.take_plane-c.result.size
@@ -48,25 +47,23 @@ values_are c =
 -- the test is that of the plane
 told : (c : After-is_inert) → c.is_inert.result ≡ inert c.args.pass c.args.plane.now
 told c =
-    let s = c in
-    c.is_inert.ensures _ (omega (arith, mul-le-mul c.requires.0.lent.size.wide c.requires.0.lent.size.high, s.requires.0.lent.whole)) c.take_plane-c.ensures.1
+    c.is_inert.ensures _ (omega (arith, mul-le-mul c.requires.0.lent.size.wide c.requires.0.lent.size.high,
+        c.requires.0.lent.whole)) c.take_plane-c.ensures.1
 
 pub take_plane-c-requires : goal.take_plane-c-requires
 take_plane-c-requires c = c.requires.0.lent
 
 pub returns-then-is_inert : goal.returns-then-is_inert
 returns-then-is_inert c =
-    let tested = c in
-    let measured = c in
-    let s = c in
-    let d = treatable s.requires.0 in
+    let d = treatable c.requires.0 in
     let h = some (goal.at.returns-then-is_inert c).Start in
     let F = flooded (goal.at.returns-then-is_inert c).After-take_plane-c in
-    let A = plane_alike measured.take_plane-c.result d h (s.requires.1 0 h) F (values_are (goal.at.returns-then-is_inert c).After-take_plane-c) in
-    let R = left_alone s.args.pass s.args.next A _ (A.size ∙ sym measured.take_plane-c.ensures.1.size)
+    let A = plane_alike c.take_plane-c.result d h (c.requires.1 0 h) F (values_are
+        (goal.at.returns-then-is_inert c).After-take_plane-c) in
+    let R = left_alone c.args.pass c.args.next A _ (A.size ∙ sym c.take_plane-c.ensures.1.size)
     c.left_alone.ensures (sym (told (goal.at.returns-then-is_inert c).After-is_inert) ∙ c.if-is_inert.true) in
-    one_component d h (s.requires.1 0 h)
-    (whole_plane s.args.shape s.args.pass 1 _ s.requires.0.lent.size.wide s.requires.1) F R
+    one_component d h (c.requires.1 0 h)
+    (whole_plane c.args.shape c.args.pass 1 _ c.requires.0.lent.size.wide c.requires.1) F R
 
 pub histogram-requires : goal.histogram-requires
 histogram-requires c =
@@ -75,31 +72,24 @@ histogram-requires c =
 
 pub retone-requires : goal.retone-requires
 retone-requires c =
-    let counted = c in
-    let tested = c in
-    let measured = c in
-    let s = c in
-    let d = treatable s.requires.0 in
+    let d = treatable c.requires.0 in
     let h = some (goal.at.retone-requires c).Start in
     let F = flooded (goal.at.retone-requires c).After-take_plane-c in
     let is = values_are (goal.at.retone-requires c).After-take_plane-c in
-    let lively = sym (told (goal.at.retone-requires c).After-is_inert) ∙ counted.if-is_inert.false in (
+    let lively = sym (told (goal.at.retone-requires c).After-is_inert) ∙ c.if-is_inert.false in (
       (
-        plane_gathered measured.take_plane-c.result d h (s.requires.1 0 h) F is measured.take_plane-c.ensures.1
-            counted.histogram.ensures,
-        listed d (pass_begin _ _ _ _ _ _ _ _) h (s.requires.1 0 h) F s.requires.0.lent.covered,
+        plane_gathered c.take_plane-c.result d h (c.requires.1 0 h) F is c.take_plane-c.ensures.1
+            c.histogram.ensures,
+        listed d (pass_begin _ _ _ _ _ _ _ _) h (c.requires.1 0 h) F c.requires.0.lent.covered,
       ),
-      ap (inert s.args.pass) is ∙ lively,
+      ap (inert c.args.pass) is ∙ lively,
     )
 
 pub returns : goal.returns
 returns c =
-    let retoned = c in
-    let measured = c in
-    let s = c in
-    let d = treatable s.requires.0 in
+    let d = treatable c.requires.0 in
     let h = some (goal.at.returns c).Start in
     let F = flooded (goal.at.returns c).After-take_plane-c in
-    let R = retoned.retone.ensures.done _ (alike d (pass_begin _ _ _ _ _ _ _ _) h (s.requires.1 0 h) F) in
-    one_component d h (s.requires.1 0 h)
-    (whole_plane s.args.shape s.args.pass 1 _ s.requires.0.lent.size.wide s.requires.1) F R
+    let R = c.retone.ensures.done _ (alike d (pass_begin _ _ _ _ _ _ _ _) h (c.requires.1 0 h) F) in
+    one_component d h (c.requires.1 0 h)
+    (whole_plane c.args.shape c.args.pass 1 _ c.requires.0.lent.size.wide c.requires.1) F R

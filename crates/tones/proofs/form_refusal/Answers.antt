@@ -13,7 +13,8 @@ unfolding malformed
 returns-then-numbers-eq-AFFINE c =
     let code = c.args.numbers.code in
     let known = le-ltb 2 code c.if-numbers-gt-AFFINE.false in
-    simp (known, le-ltb code 2 (omega (arith, c.if-numbers-eq-AFFINE.true)), ne_eqb code 1 (omega (arith, c.if-numbers-eq-AFFINE.true)))
+    simp (known, le-ltb code 2 (omega (arith, c.if-numbers-eq-AFFINE.true)), ne_eqb code 1 (omega (arith,
+        c.if-numbers-eq-AFFINE.true)))
 
 pub returns-then-numbers-ne0 : goal.returns-then-numbers-ne0
 unfolding malformed
@@ -34,21 +35,19 @@ returns-then-numbers-ne-LIMITED c =
 pub returns-then-numbers-ne0-2 : goal.returns-then-numbers-ne0-2
 unfolding malformed
 returns-then-numbers-ne0-2 c =
-    let i = c in
-    let code = i.args.numbers.code in
+    let code = c.args.numbers.code in
     let other = c.if-numbers-eq-AFFINE.false in
-    let low = lt-ltb code 2 (omega (arith, i.if-numbers-gt-AFFINE.false, other)) in
+    let low = lt-ltb code 2 (omega (arith, c.if-numbers-gt-AFFINE.false, other)) in
     let clear = eq-eqb _ _ c.if-numbers-ne0.false in
     let limited = eq-eqb _ _ c.if-numbers-ne-LIMITED.false in
-    simp (le-ltb 2 code i.if-numbers-gt-AFFINE.false, low, clear, limited, ne_eqb _ _ c.if-numbers-ne0-2.true)
+    simp (le-ltb 2 code c.if-numbers-gt-AFFINE.false, low, clear, limited, ne_eqb _ _ c.if-numbers-ne0-2.true)
 
 pub returns : goal.returns
 unfolding malformed
 returns c =
-    let i = c in
-    let code = i.args.numbers.code in
+    let code = c.args.numbers.code in
     let other = c.if-numbers-eq-AFFINE.false in
-    let low = lt-ltb code 2 (omega (arith, i.if-numbers-gt-AFFINE.false, other)) in
+    let low = lt-ltb code 2 (omega (arith, c.if-numbers-gt-AFFINE.false, other)) in
     let clear = eq-eqb _ _ c.if-numbers-ne0.false in
     let limited = eq-eqb _ _ c.if-numbers-ne-LIMITED.false in
-    simp (le-ltb 2 code i.if-numbers-gt-AFFINE.false, low, clear, limited, eq-eqb _ _ c.if-numbers-ne0-2.false)
+    simp (le-ltb 2 code c.if-numbers-gt-AFFINE.false, low, clear, limited, eq-eqb _ _ c.if-numbers-ne0-2.false)

@@ -11,9 +11,8 @@ plain_tones-requires c = gathered_counted c.requires
 
 pub affine_tones-requires : goal.affine_tones-requires
 affine_tones-requires c =
-    let s = c in
-    let a = s.args in
-    let g = s.requires in
+    let a = c.args in
+    let g = c.requires in
     record {
       vs = values a.plane.now a.queue.now a.c.size;
       histogram = record { measured = g.measured; tally = g.tally };
