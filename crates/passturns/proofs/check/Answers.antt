@@ -9,23 +9,20 @@ use Rattle.passturns.proofs.check.Goals as goal
 pub returns-then-form-ne0 : goal.returns-then-form-ne0
 returns-then-form-ne0 c =
     let some = c.if-form-ne0.true in
-    c.stop.ensures ∙ stopped_checked _ (applies _ refl some) some
+    c.stop.ensures ∙ stopped_checked c.args.s (applies _ refl some) some
 
 pub returns-then-refusal-ne0 : goal.returns-then-refusal-ne0
 returns-then-refusal-ne0 c =
     let some = c.if-refusal-ne0.true in
-    let tested = c in
-    let refusal = passes_on tested.if-form-ne0.false tested.pass_refusal-refusal.ensures in
-    c.stop-then-refusal-ne0.ensures ∙ stopped_checked _ refusal some
+    let refusal = passes_on c.if-form-ne0.false c.pass_refusal-refusal.ensures in
+    c.stop-then-refusal-ne0.ensures ∙ stopped_checked c.args.s refusal some
 
 pub returns-then-next-s : goal.returns-then-next-s
 returns-then-next-s c =
-    let tested = c in
-    let none = sym tested.pass_refusal-refusal.ensures ∙ tested.if-refusal-ne0.false in
-    checked_next _ _ (▷_both _ _ tested.if-form-ne0.false none) (lt-ltb _ _ c.if-next-s.true)
+    let none = sym c.pass_refusal-refusal.ensures ∙ c.if-refusal-ne0.false in
+    checked_next c.args.s _ (▷_both _ _ c.if-form-ne0.false none) (lt-ltb _ _ c.if-next-s.true)
 
 pub returns : goal.returns
 returns c =
-    let tested = c in
-    let none = sym tested.pass_refusal-refusal.ensures ∙ tested.if-refusal-ne0.false in
-    checked_next _ _ (▷_both _ _ tested.if-form-ne0.false none) (le-ltb _ _ c.if-next-s.false)
+    let none = sym c.pass_refusal-refusal.ensures ∙ c.if-refusal-ne0.false in
+    checked_next c.args.s _ (▷_both _ _ c.if-form-ne0.false none) (le-ltb _ _ c.if-next-s.false)
