@@ -91,8 +91,7 @@ loop-j-preserved c = λ lent fine p.
     let turned = calls.other-target.ensures in
     let due : loop.loop-j.j < count_of list =
     omega (arith, started.loop-j-test.true, calls.count_of-count.ensures) in
-    let known = calls.shared-slice-known in
-    let bytes : Bytes list = record { each = λ i. omega (arith, known.given i) } in
+    let bytes : Bytes list = record { each = λ i. omega (arith, c.type_inv.list i) } in
     turn_puts fine named turned started.record_start-i.ensures due (loop.loop-j.invariant lent fine p) bytes
     c.put_record-at.ensures
 

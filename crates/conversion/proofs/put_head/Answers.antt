@@ -18,7 +18,7 @@ returns c =
     let known = c in
     let args = known.args in
     let put = putting.put_bytes in
-    subst (λ (bytes : List ℕ). Put args.output.now 0 bytes put.result put.new.0)
+    subst (λ (bytes : List ℕ). Put args.output.now 0 bytes put.result put.new.output)
     (head_put args.edition args.list.now named.version-version.ensures
     (omega (arith, known.type_inv.list 5)) (omega (arith, known.type_inv.list 6)))
     put.ensures

@@ -24,7 +24,7 @@ put_rest-requires c =
     let args = start.args in
     let long = fields_long args.list.now args.i start.requires.1 in
     let put = putting.put_bytes-rest in
-    omega (arith, put.ensures.next, put.auto.0, long, rest_long args.edition, start.requires.0)
+    omega (arith, put.ensures.next, put.auto.output, long, rest_long args.edition, start.requires.0)
 
 pub returns : goal.returns
 returns c =

@@ -106,10 +106,10 @@ split-halves-requires c =
 counts : (c : After-counts_of-counts) → (
     let v = c in
     let s = c.args in
-    c.Counts-of.result ≡ all_told (levels_left (pixels s.shape) s.settings) v.treat_plane-t.result)
+    c.counts_of-counts.result ≡ all_told (levels_left (pixels s.shape) s.settings) v.treat_plane-t.result)
 counts c =
     let v = c in
-    c.Counts-of.ensures ∙ ap (λ (x : ℕ). all_told x v.treat_plane-t.result) (levels c)
+    c.counts_of-counts.ensures ∙ ap (λ (x : ℕ). all_told x v.treat_plane-t.result) (levels c)
 
 pub plus-requires : goal.plus-requires
 plus-requires c =
@@ -120,7 +120,7 @@ plus-requires c =
     let s = c in
     let lent = s.requires.lent in
     let N = numbered (goal.at.plus-requires c).After-deeper-more in
-    let some = c.deeper-more.ensures.yes below.if-more.taken _ N.k N.wide in
+    let some = c.deeper-more.ensures.yes below.if-more.true _ N.k N.wide in
     let here = told_few lent.size.few lent.whole
     (few-left (pixels s.args.shape) s.args.settings s.requires.last) v.treat_plane-t.ensures.treated in
     let halves = halves_few _ some N (omega (arith, v.treat_plane-t, lent.whole)) lent.size.few
@@ -149,7 +149,7 @@ returns-then-more c =
     let M = marking (goal.at.returns-then-more c).After-treat_plane-t in
     let N = numbered (goal.at.returns-then-more c).After-deeper-more in
     let X = m.next_of-next.ensures in
-    let e = below.if-more.taken in
+    let e = below.if-more.true in
     let some = c.deeper-more.ensures.yes e _ N.k N.wide in
     let lent = s.requires.lent in
     let pixel = mul-le-mul lent.size.wide lent.size.high in
