@@ -131,8 +131,8 @@ module _ {near : Near} {n code start : ℕ} {marks₀ queue₀ marks queue : Lis
   }
 
 -- pixels to which a chain leads are taken
-take_all : {near : Near} {n code start tail tail' : ℕ} {marks₀ queue₀ marks queue marks' queue' : List ℕ}
-    → Searched near n code start marks₀ queue₀ marks queue tail → Room marks queue n code tail
+take_all : {near : Near} {n code start tail : ℕ} {marks₀ queue₀ marks queue : List ℕ} {tail' : ℕ}
+    {marks' queue' : List ℕ} → Searched near n code start marks₀ queue₀ marks queue tail → Room marks queue n code tail
     → Taken (Chain (alike near marks₀ code) n start) n code marks queue tail marks' queue' tail'
     → Searched near n code start marks₀ queue₀ marks' queue' tail'
 take_all I R none = I

@@ -3,6 +3,7 @@
 // sorted     the header reader's next move, by the byte at its place
 // skip_gap   the place after the whitespace and the comments that begin at a place
 #![tactic(auto)]
+
 ghost use Rattle.std.specs.Prelude.{◌≡◌, ◌≤◌, length, drop};
 ghost use Rattle.gaps.specs.Bytes.{ends_comment, move_for};
 ghost use Rattle.gaps.specs.Gaps.{pieces};

@@ -16,7 +16,7 @@ use Rattle.planes.specs.Lists.{every}
 use Rattle.planes.proofs.Lists.{every_both, every_append, every_parts}
 use Rattle.gaps.specs.Bytes.{is_white, is_sign, not_sign}
 use Rattle.gaps.specs.Parsers.{Parsed, failed, parsed, take_while, take_while1}
-use Rattle.gaps.specs.Gaps.{Gap, gap}
+use Rattle.gaps.specs.Gaps.{Gap}
 use Rattle.gaps.proofs.Bytes.{digit_not_white, digit_not_sign, white_not_sign}
 use Rattle.gaps.proofs.Parsers.{next_passed, Run, run_passed, some_present, while_stops, run_splits}
 use Rattle.gaps.proofs.Gaps.{gap_spaces, spaces_gap}

@@ -7,7 +7,7 @@
 use Rattle.std.specs.Prelude.{ℕ, ◌-◌, ◌≡◌, Bool, true, List, length, take}
 use Rattle.planes.specs.Lists.{every}
 use Rattle.gaps.specs.Bytes.{is_white, not_sign}
-use Rattle.gaps.specs.Parsers.{Parser, ◌>>=◌, ◌>>◌, pure, take_while1}
+use Rattle.gaps.specs.Parsers.{Parser, ◌>>◌, pure, take_while1}
 use Rattle.headers.specs.Grammar.{Numbers, header_with}
 use Rattle.headers.specs.Headers.{IsHeader}
 

@@ -2,6 +2,7 @@
 //
 // read_header   the three numbers of a header and the place of the raster, where a header begins the bytes
 #![tactic(auto)]
+
 ghost use Rattle.std.specs.Prelude.{◌≡◌, ◌≤◌, length, drop};
 ghost use Rattle.gaps.specs.Bytes.{is_white};
 ghost use Rattle.gaps.specs.Parsers.{one_byte};

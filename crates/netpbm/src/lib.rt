@@ -4,6 +4,7 @@
 // read_within   the same, with the greatest number of pixels given
 // write         a frame into a lent output: the length written, or a refusal
 #![tactic(auto)]
+
 ghost use Rattle.std.specs.Prelude.{◌≡◌};
 ghost use Rattle.planes.specs.Refusals.{greatest_pixels};
 ghost use Rattle.netpbm.specs.Reading.{frame_refusal, header_reply, read_reply};

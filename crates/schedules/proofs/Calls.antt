@@ -92,6 +92,7 @@ module _ (z : Shape) where
   pub answered_is : {p q : List ℕ} {cs : List Call} {rs : List Reply} {s : Pass} {reply : Reply}
       → Sequence z p cs rs q → AllAccepted rs → PairwiseDisjoint (passes_in cs) → Answered s reply cs rs
       → reply ≡ answer_on p s
+  answered_is none _ _ x = elim x [ ]
   answered_is {p = p} (more {s = t} O S) (more a) (more d e) (now same is) =
       sym is ∙ ap gives (given t O).1 ∙ ap (answer_on p) same
   answered_is {p = p} {s = s} (more {s = t} O S) (more a) (more d e) (later y) =

@@ -141,6 +141,7 @@ module _ (z : Shape) (p : List ℕ) where
   pub work_answered_is : {s : Pass} {reply : Reply} {ws : List Work} → Worked z p ws → PairwiseDisjoint (work_passes ws)
       → WorkAnswered s reply ws → reply ≡ answer_on z p s
   unfolding work_passes
+  work_answered_is none d x = elim x [ ]
   work_answered_is (more {w = w} S a W) d (now y) =
       answered_is z S a (pairwise_parts (passes_in w.calls) d).0 y
   work_answered_is (more {w = w} S a W) d (later y) =

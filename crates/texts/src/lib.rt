@@ -6,6 +6,7 @@
 // put_number       the decimal digits of a number, likewise
 // put_heading      a heading at the beginning of an output; the place after it
 #![tactic(auto)]
+
 ghost use Rattle.std.specs.Prelude.{◌≡◌, ◌+◌, ◌≤◌, ◌<◌, length};
 ghost use Rattle.texts.specs.Ascii.{decimal};
 ghost use Rattle.texts.specs.Placing.{Put};

@@ -44,36 +44,31 @@ tested : (c : After-keeps) (vs : List ℕ) →
     let a = c.args in
     Histogram vs a.counts.now a.c → c.keeps.result ≡ affine_kept a.s a.a a.b vs
 tested c vs h =
-    let s = c in
     let y = c.top_height-y.ensures.0 in
-    c.keeps.ensures ∙ kept_same c.args.s c.requires.range s.sum_up.ensures y vs h
+    c.keeps.ensures ∙ kept_same c.args.s c.requires.range c.sum_up.ensures y vs h
 
 pub returns-then-keeps : goal.returns-then-keeps
 returns-then-keeps c =
-    let test = c in
     let same = c.fill_same.ensures in (
-      ruled_kept (tested (goal.at.returns-then-keeps c).After-keeps) c.if-keeps.true (λ v av vb. same.new v (omega arith) (omega arith)),
+      ruled_kept (tested (goal.at.returns-then-keeps c).After-keeps) c.if-keeps.true (λ v av vb. same.new v
+          (omega arith) (omega arith)),
       record { counts_rest = c.sum_up.ensures.rest; table_rest = refilled_outside same },
     )
 
 pub fill_lines-requires : goal.fill_lines-requires
 fill_lines-requires c =
-    let test = c in
-    let s = c in
     let a = c.args in
     let range = c.requires.range in
-    let y = test.top_height-y.ensures in
-    let some = not_kept a.s.segments (a.b - a.a) test.top_height-y.result
-    (sym test.keeps.ensures ∙ c.if-keeps.false) in
+    let y = c.top_height-y.ensures in
+    let some = not_kept a.s.segments (a.b - a.a) c.top_height-y.result
+    (sym c.keeps.ensures ∙ c.if-keeps.false) in
     ((sums-are (goal.at.fill_lines-requires c).After-sum_up, omega arith), ((some.0, (some.1, y.1)), y.0))
 
 pub returns : goal.returns
 returns c =
-    let test = c in
-    let s = c in
     let filled = c.fill_lines.ensures in
-    let y = test.top_height-y.ensures.0 in (
+    let y = c.top_height-y.ensures.0 in (
       ruled_toned (tested (goal.at.returns c).After-keeps) c.if-keeps.false
-          (affine_tabled c.args.s c.requires.range s.sum_up.ensures y filled),
-      record { counts_rest = s.sum_up.ensures.rest; table_rest = refilled_outside filled },
+          (affine_tabled c.args.s c.requires.range c.sum_up.ensures y filled),
+      record { counts_rest = c.sum_up.ensures.rest; table_rest = refilled_outside filled },
     )

@@ -29,6 +29,5 @@ shape_of-table c = c.loop-v.invariant.1.size
 
 pub returns : goal.returns
 returns c =
-    let s = c in
-    let end : c.loop-v.v ≡ max s.args.x s.args.q.place = omega arith in
+    let end : c.loop-v.v ≡ max c.args.x c.args.q.place = omega arith in
     rw end at c.loop-v.invariant.1

@@ -21,20 +21,18 @@ use Rattle.affine.proofs.fill_lines.Goals.{After-next_point-q}
 
 pub loop-i-init : goal.loop-i-init
 loop-i-init c =
-    let s = c in
-    let a = s.args in
-    let range = s.requires.0.0.1.range in
+    let a = c.args in
+    let range = c.requires.0.0.1.range in
     let ahead = ahead_first a.s a.a a.b (at a.sums.now) a.c.size in
     let onward = onward_first a.s a.a a.b a.y (at a.sums.now) a.c.size in
     let none : max a.c.least a.a ≡ a.c.least = omega (arith, range.from) in (
-      (omega arith, (reached_first a.s s.requires.0.0.1, (ahead, onward))),
+      (omega arith, (reached_first a.s c.requires.0.0.1, (ahead, onward))),
       rw none (refilled_none _),
     )
 
 pub next_point-q-requires : goal.next_point-q-requires
 next_point-q-requires c =
-    let s = c in
-    (s.requires.0.0, (omega arith, c.loop-i.invariant.0.1.0))
+    (c.requires.0.0, (omega arith, c.loop-i.invariant.0.1.0))
 
 abbrev point : After-next_point-q → Point
 point c = record { place = c.loop-i.place; height = c.loop-i.height }
@@ -49,11 +47,10 @@ next c =
 
 pub fill_line-requires : goal.fill_line-requires
 fill_line-requires c =
-    let n = c in
-    let pre = n.requires in
+    let pre = c.requires in
     let range = pre.0.0.1.range in
     let q = next (goal.at.fill_line-requires c).After-next_point-q in
-    let size = n.before.before.loop-i.invariant.1.size in (
+    let size = c.before.before.loop-i.invariant.1.size in (
       (
         (omega (arith, range.from, range.order, range.to), omega (arith, c.later.ensures)),
         (omega (arith, q.reached.to), omega (arith, q.reached.to, size, pre.0.1)),
@@ -63,12 +60,11 @@ fill_line-requires c =
 
 pub loop-i-preserved : goal.loop-i-preserved
 loop-i-preserved c =
-    let n = c in
-    let a = n.args in
-    let i = n.before.before.loop-i.i in
+    let a = c.args in
+    let i = c.before.before.loop-i.i in
     let q = next (goal.at.loop-i-preserved c).After-next_point-q in
-    let inv = n.before.before.loop-i.invariant in
-    let is = n.next_point-q.ensures in
+    let inv = c.before.before.loop-i.invariant in
+    let is = c.next_point-q.ensures in
     let onward = inv.0.1.1.1 in
     let further = onward_next a.s a.a a.b a.y (at a.sums.now) a.c.size i _ _ is onward q.after in
     let line = onward_line a.s a.a a.b a.y (at a.sums.now) a.c.size i _ _ is onward (omega arith) in
@@ -78,17 +74,15 @@ loop-i-preserved c =
 
 pub bounds-table-c : goal.bounds-table-c
 bounds-table-c c =
-    let s = c in
-    omega (arith, c.loop-i.invariant.1.size, s.requires.0.1)
+    omega (arith, c.loop-i.invariant.1.size, c.requires.0.1)
 
 pub shape_of-table : goal.shape_of-table
 shape_of-table c = simp length-set c.loop-i.invariant.1.size
 
 pub returns : goal.returns
 returns c =
-    let s = c in
-    let a = s.args in
-    let pre = s.requires in
+    let a = c.args in
+    let pre = c.requires in
     let inv = c.loop-i.invariant in
     let p : Point = record { place = c.loop-i.place; height = c.loop-i.height } in
     let all : c.loop-i.i ≡ a.s.segments = omega arith in

@@ -22,8 +22,10 @@ abbrev pub invariant-loop-i : goal.invariant-loop-i
 invariant-loop-i l =
     let p : Point = record { place = l.place; height = l.height } in
     ((l.i ≤ l.n)
-    × (Reached l.s l.sums l.c l.a l.i p × (Ahead l.s l.a l.b (at l.sums) l.c.size l.i p × Onward l.s l.a l.b l.y (at l.sums) l.c.size l.i p)))
-    × Refilled (joined l.a l.b l.y (start l.a) (points l.s l.a l.b (at l.sums) l.c.size)) l.c.least (max l.c.least l.place)
+    × (Reached l.s l.sums l.c l.a l.i p × (Ahead l.s l.a l.b (at l.sums) l.c.size l.i p × Onward l.s l.a l.b l.y
+        (at l.sums) l.c.size l.i p)))
+    × Refilled (joined l.a l.b l.y (start l.a) (points l.s l.a l.b (at l.sums) l.c.size)) l.c.least
+        (max l.c.least l.place)
     l.initial.table l.table
 
 abbrev pub decreases-loop-i : goal.decreases-loop-i

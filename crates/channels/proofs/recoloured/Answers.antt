@@ -28,9 +28,8 @@ scaled-requires-3 c = quotient (goal.at.scaled-requires-3 c).After-by-1 c.args.b
 
 pub returns : goal.returns
 returns c =
-    let known = c in
-    let args = known.args in
-    let gives = known.before.before.pixel_scale-s.ensures.gives in
+    let args = c.args in
+    let gives = c.before.before.pixel_scale-s.ensures.gives in
     rw (
       c.scaled.ensures ∙ sym (gives args.red),
       c.scaled-2.ensures ∙ sym (gives args.green),

@@ -7,6 +7,5 @@ use Rattle.channels.proofs.scaled.Goals as goal
 
 pub overflow_cast-result : goal.overflow_cast-result
 overflow_cast-result c =
-    let start = c in
-    let scale = start.args.s in
-    omega (arith, c.nearest.ensures, rounded_in 255 scale.over (start.args.c * scale.times) start.requires.byte)
+    let scale = c.args.s in
+    omega (arith, c.nearest.ensures, rounded_in 255 scale.over (c.args.c * scale.times) c.requires.byte)

@@ -40,7 +40,8 @@ bounds-counts-v-in-loop-i c = byte (goal.at.bounds-counts-v-in-loop-i c).After-s
 pub loop-i-preserved : goal.loop-i-preserved
 loop-i-preserved c =
     let s = c.loop-i in
-    (omega arith, tally_taken _ s.i s.invariant.1 (omega arith) (byte (goal.at.loop-i-preserved c).After-shared_slice_known-1))
+    (omega arith, tally_taken _ s.i s.invariant.1 (omega arith) (byte
+        (goal.at.loop-i-preserved c).After-shared_slice_known-1))
 
 pub returns : goal.returns
 returns c =

@@ -13,14 +13,14 @@ use Rattle.histograms.proofs.measure.Goals as goal
 
 pub loop-i-init : goal.loop-i-init
 loop-i-init c =
-    let s = c in
-    ((omega arith, omega arith), measured_first s.args.plane.now s.requires.0)
+    ((omega arith, omega arith), measured_first c.args.plane.now c.requires.0)
 
 pub loop-i-preserved : goal.loop-i-preserved
 loop-i-preserved c =
     let s = c.loop-i in
     let lesser = c.lesser-least.ensures in
-    let measured = measured_more _ s.i s.invariant.0.0 (omega arith) s.invariant.1 lesser c.greater-greatest.ensures in
+    let measured = measured_more _ s.i s.invariant.0.0
+        (omega arith) s.invariant.1 lesser c.greater-greatest.ensures in
     ((omega arith, omega arith), measured)
 
 pub returns : goal.returns

@@ -28,10 +28,12 @@ few c =
     omega (arith, term_le (at a.counts.now) {a = a.first} {v = v} {b = a.last} (omega arith) (omega arith))
 
 pub overflow_cast-counts : goal.overflow_cast-counts
-overflow_cast-counts c = omega (arith, old (goal.at.overflow_cast-counts c).In-loop-v, few (goal.at.overflow_cast-counts c).In-loop-v)
+overflow_cast-counts c = omega (arith, old (goal.at.overflow_cast-counts c).In-loop-v,
+    few (goal.at.overflow_cast-counts c).In-loop-v)
 
 pub overflow_mul-counts : goal.overflow_mul-counts
-overflow_mul-counts c = omega (arith, old (goal.at.overflow_mul-counts c).In-loop-v, few (goal.at.overflow_mul-counts c).In-loop-v)
+overflow_mul-counts c = omega (arith, old (goal.at.overflow_mul-counts c).In-loop-v,
+    few (goal.at.overflow_mul-counts c).In-loop-v)
 
 -- what is stored is the clipped count
 clipped : (c : After-lesser) →
@@ -46,12 +48,14 @@ overflow_cast-counts-in-loop-v c =
     let a = c.args in
     let count = at a.counts.now c.loop-v.v in
     let least = min-le_left (1000 * count) a.most in
-    omega (arith, clipped (goal.at.overflow_cast-counts-in-loop-v c).After-lesser, few (goal.at.overflow_cast-counts-in-loop-v c).In-loop-v, least)
+    omega (arith, clipped (goal.at.overflow_cast-counts-in-loop-v c).After-lesser,
+        few (goal.at.overflow_cast-counts-in-loop-v c).In-loop-v, least)
 
 pub loop-v-preserved : goal.loop-v-preserved
 loop-v-preserved c =
     let inv = c.loop-v.invariant in
-    (omega arith, (omega arith, refilled_more inv.1.1 inv.0 (omega arith) (clipped (goal.at.loop-v-preserved c).After-lesser)))
+    (omega arith, (omega arith, refilled_more inv.1.1 inv.0 (omega arith) (clipped
+        (goal.at.loop-v-preserved c).After-lesser)))
 
 pub returns : goal.returns
 returns c =

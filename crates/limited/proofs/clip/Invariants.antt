@@ -14,7 +14,8 @@ use Rattle.limited.proofs.clip.Given as goal
 
 abbrev pub invariant-loop-v : goal.invariant-loop-v
 invariant-loop-v l =
-    (l.first ≤ l.v) × ((l.v ≤ l.last + 1) × Refilled (clipped_at l.most l.initial.counts) l.first l.v l.initial.counts l.counts)
+    (l.first ≤ l.v) × ((l.v ≤ l.last + 1) × Refilled
+        (clipped_at l.most l.initial.counts) l.first l.v l.initial.counts l.counts)
 
 abbrev pub decreases-loop-v : goal.decreases-loop-v
 decreases-loop-v l =

@@ -10,7 +10,8 @@ use Rattle.limited.proofs.fill_limited.Given as goal
 
 abbrev pub invariant-loop-v : goal.invariant-loop-v
 invariant-loop-v l =
-    (l.initial.v ≤ l.v) × ((l.v ≤ l.last + 1) × Refilled (limited_by l.sums l.c l.a l.b) l.initial.v l.v l.initial.table l.table)
+    (l.initial.v ≤ l.v) × ((l.v ≤ l.last + 1) × Refilled
+        (limited_by l.sums l.c l.a l.b) l.initial.v l.v l.initial.table l.table)
 
 abbrev pub decreases-loop-v : goal.decreases-loop-v
 decreases-loop-v l =

@@ -31,10 +31,13 @@ pub overflow_cast-value : goal.overflow_cast-value
 overflow_cast-value c = omega (arith, within (goal.at.overflow_cast-value c).After-shared_slice_known-in-loop-i-2-1)
 
 pub limited_tone-requires : goal.limited_tone-requires
-limited_tone-requires c = (c.requires.1.0, (omega (arith, within (goal.at.limited_tone-requires c).After-shared_slice_known-in-loop-i-2-1), omega (arith, within (goal.at.limited_tone-requires c).After-shared_slice_known-in-loop-i-2-1)))
+limited_tone-requires c = (c.requires.1.0, (omega (arith,
+    within (goal.at.limited_tone-requires c).After-shared_slice_known-in-loop-i-2-1), omega (arith,
+    within (goal.at.limited_tone-requires c).After-shared_slice_known-in-loop-i-2-1)))
 
 pub bounds-table-value : goal.bounds-table-value
-bounds-table-value c = omega (arith, within (goal.at.bounds-table-value c).After-shared_slice_known-in-loop-i-2-1, c.requires.1.1)
+bounds-table-value c = omega (arith, within (goal.at.bounds-table-value c).After-shared_slice_known-in-loop-i-2-1,
+    c.requires.1.1)
 
 pub loop-i-preserved : goal.loop-i-preserved
 loop-i-preserved c =

@@ -12,7 +12,8 @@ use Rattle.limited.proofs.fill_listed.Given as goal
 
 abbrev pub invariant-loop-i : goal.invariant-loop-i
 invariant-loop-i l =
-    (l.i ≤ l.m) × (Outside l.c.least l.c.greatest l.initial.table l.table × Filled (limited_by l.sums l.c l.a l.b) l.plane l.queue l.table l.i)
+    (l.i ≤ l.m) × (Outside l.c.least l.c.greatest l.initial.table l.table × Filled
+        (limited_by l.sums l.c l.a l.b) l.plane l.queue l.table l.i)
 
 abbrev pub decreases-loop-i : goal.decreases-loop-i
 decreases-loop-i l =

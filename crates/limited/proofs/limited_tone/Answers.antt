@@ -34,8 +34,7 @@ share c =
 
 pub overflow_cast-sums : goal.overflow_cast-sums
 overflow_cast-sums c =
-    let s = c in
-    omega (arith, s.requires.0.rises s.args.v s.requires.1.0 s.requires.1.1)
+    omega (arith, c.requires.0.rises c.args.v c.requires.1.0 c.requires.1.1)
 
 pub overflow_mul-w : goal.overflow_mul-w
 overflow_mul-w c = let s = share (goal.at.overflow_mul-w c).Start in omega arith

@@ -16,17 +16,15 @@ overflow_sub-d c = let range = gathered_range c.requires in omega arith
 
 pub fill_listed-requires : goal.fill_listed-requires
 fill_listed-requires c =
-    let clipped = c in
-    let g = clipped.requires in
+    let g = c.requires in
     let range = gathered_range g in
-    let rising = clipped_rise (gathered_counted g) clipped.sum_clipped.ensures in
+    let rising = clipped_rise (gathered_counted g) c.sum_clipped.ensures in
     ((gathered_own g).component, (rising, omega arith))
 
 pub returns-then-c-d : goal.returns-then-c-d
 returns-then-c-d c =
-    let clipped = c in
-    let g = clipped.requires in
-    let sums = clipped.sum_clipped.ensures in
+    let g = c.requires in
+    let sums = c.sum_clipped.ensures in
     let filled = c.fill_listed.ensures in
     record {
       tones = limited_tables g sums filled.0;
@@ -35,16 +33,14 @@ returns-then-c-d c =
 
 pub fill_limited-requires : goal.fill_limited-requires
 fill_limited-requires c =
-    let clipped = c in
-    let g = clipped.requires in
+    let g = c.requires in
     let range = gathered_range g in
-    (clipped_rise (gathered_counted g) clipped.sum_clipped.ensures, omega arith)
+    (clipped_rise (gathered_counted g) c.sum_clipped.ensures, omega arith)
 
 pub returns : goal.returns
 returns c =
-    let clipped = c in
-    let g = clipped.requires in
-    let sums = clipped.sum_clipped.ensures in
+    let g = c.requires in
+    let sums = c.sum_clipped.ensures in
     let filled = c.fill_limited.ensures in
     record {
       tones = limited_tables g sums (filled_all (gathered_own g).component filled);

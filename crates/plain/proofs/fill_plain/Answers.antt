@@ -13,8 +13,7 @@ use Rattle.plain.proofs.fill_plain.Goals.{In-loop-v, Start}
 
 pub loop-v-init : goal.loop-v-init
 loop-v-init c =
-    let s = c in
-    let none = scaled_none s.args.a s.args.b s.args.c.size s.requires.0.range.some in
+    let none = scaled_none c.args.a c.args.b c.args.c.size c.requires.0.range.some in
     (omega arith, ((omega arith, none), refilled_none _))
 
 -- in a turn: the start, and that the sum at v is no more than the number of pixels
@@ -30,7 +29,8 @@ sum_le c =
 pub next_tone-tone-requires : goal.next_tone-tone-requires
 next_tone-tone-requires c =
     let range = (start (goal.at.next_tone-tone-requires c).In-loop-v).requires.0.range in
-    (((omega arith, (sum_le (goal.at.next_tone-tone-requires c).In-loop-v, (range.some, range.few)))), c.loop-v.invariant.1.0.1)
+    (((omega arith, (sum_le (goal.at.next_tone-tone-requires c).In-loop-v, (range.some, range.few)))),
+        c.loop-v.invariant.1.0.1)
 
 pub bounds-table-v : goal.bounds-table-v
 bounds-table-v c = omega (arith, c.loop-v.invariant.1.1.size)
@@ -39,7 +39,8 @@ pub loop-v-preserved : goal.loop-v-preserved
 loop-v-preserved c =
     let inv = c.loop-v.invariant in
     let tone = c.next_tone-tone.ensures in
-    (omega arith, ((sum_le (goal.at.loop-v-preserved c).In-loop-v, tone), refilled_more inv.1.1 inv.0.0 (omega arith) tone))
+    (omega arith, ((sum_le (goal.at.loop-v-preserved c).In-loop-v, tone),
+        refilled_more inv.1.1 inv.0.0 (omega arith) tone))
 
 pub shape_of-table : goal.shape_of-table
 shape_of-table c = c.loop-v.invariant.1.1.size

@@ -13,7 +13,8 @@ use Rattle.plain.proofs.fill_plain.Given as goal
 abbrev pub invariant-loop-v : goal.invariant-loop-v
 invariant-loop-v l =
     ((l.initial.v ≤ l.v) × (l.v ≤ l.end))
-    × (((l.last ≤ l.m) × (l.tone ≡ scaled l.a l.b l.last l.m)) × Refilled (λ k. scaled l.a l.b (at l.sums k) l.m) l.initial.v l.v l.initial.table l.table)
+    × (((l.last ≤ l.m) × (l.tone ≡ scaled l.a l.b l.last l.m)) × Refilled (λ k. scaled l.a l.b
+        (at l.sums k) l.m) l.initial.v l.v l.initial.table l.table)
 
 abbrev pub decreases-loop-v : goal.decreases-loop-v
 decreases-loop-v l =

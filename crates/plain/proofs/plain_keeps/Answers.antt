@@ -17,9 +17,8 @@ few : (c : After-scale-arg-1) →
     let a = c.args in
     at a.counts.now a.c.least ≤ a.c.size
 few c =
-    let s = c in
-    let order = s.requires.range.order in
-    omega (arith, term_le (at s.args.counts.now) {a = s.args.c.least} (omega arith) order, s.requires.whole)
+    let order = c.requires.range.order in
+    omega (arith, term_le (at c.args.counts.now) {a = c.args.c.least} (omega arith) order, c.requires.whole)
 
 pub overflow_cast-counts : goal.overflow_cast-counts
 overflow_cast-counts c = omega (arith, few (goal.at.overflow_cast-counts c).After-scale-arg-1)
@@ -33,12 +32,12 @@ pub overflow_sub-t : goal.overflow_sub-t
 overflow_sub-t c =
     let a = c.args in
     let count = at a.counts.now a.c.least in
-    omega (arith, c.scale-tone.ensures, scaled_below a.a a.b count a.c.size (omega arith) (few (goal.at.overflow_sub-t c).After-scale-arg-1))
+    omega (arith, c.scale-tone.ensures, scaled_below a.a a.b count a.c.size (omega arith) (few
+        (goal.at.overflow_sub-t c).After-scale-arg-1))
 
 pub returns : goal.returns
 returns c =
-    let s = c in
-    let a = s.args in
+    let a = c.args in
     λ vs h. c.keeps.ensures
     ∙ ap (λ t. kept_by a.low a.high (a.c.greatest - a.c.least) (a.b - t)) c.scale-tone.ensures
-    ∙ kept_by_ends s.requires.range h a.low a.high
+    ∙ kept_by_ends c.requires.range h a.low a.high

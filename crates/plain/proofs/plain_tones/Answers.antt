@@ -8,17 +8,15 @@ use Rattle.plain.proofs.plain_tones.Goals as goal
 
 pub returns-then-plain_keeps : goal.returns-then-plain_keeps
 returns-then-plain_keeps c =
-    let test = c in
     let same = c.fill_same.ensures in (
-      ruled_kept test.before.plain_keeps.ensures test.if-plain_keeps.true
+      ruled_kept c.before.plain_keeps.ensures c.if-plain_keeps.true
           (λ v av vb. same.new v (omega arith) (omega arith)),
       record { counts_rest = outside_none _; table_rest = refilled_outside same },
     )
 
 pub returns : goal.returns
 returns c =
-    let test = c in
     let tabled = c.plain_table.ensures in (
-      ruled_toned test.before.plain_keeps.ensures test.if-plain_keeps.false tabled.1.0,
+      ruled_toned c.before.plain_keeps.ensures c.if-plain_keeps.false tabled.1.0,
       record { counts_rest = tabled.0.rest; table_rest = tabled.1.1 },
     )

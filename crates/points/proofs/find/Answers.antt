@@ -22,8 +22,7 @@ overflow_cast-sums c = omega (arith, few (goal.at.overflow_cast-sums c).In-loop-
 
 pub overflow_mul-n : goal.overflow_mul-n
 overflow_mul-n c =
-    let s = c in
-    let product : s.before.args.n * at s.before.args.sums.now s.loop-v.v ≤ 255 * 1048576 =
+    let product : c.before.args.n * at c.before.args.sums.now c.loop-v.v ≤ 255 * 1048576 =
     mul-le-mul {n₂ = 255} {m₂ = 1048576} (omega arith) (few (goal.at.overflow_mul-n c).In-loop-v) in
     omega arith
 
@@ -39,13 +38,12 @@ returns-then-need-n c =
 
 pub loop-v-preserved : goal.loop-v-preserved
 loop-v-preserved c =
-    let s = c in
-    let a = s.before.args in
-    let v = s.loop-v.v in
+    let a = c.before.args in
+    let v = c.loop-v.v in
     let too_small : (u : ℕ) → u ≡ v → a.n * at a.sums.now u < a.need =
     λ u e. subst (λ (z : ℕ). a.n * at a.sums.now z < a.need) (sym e) c.if-need-n.false in (
       (omega arith, omega arith),
-      λ u xu uv. ⊎_elim (too_small u) (λ o. s.loop-v.invariant.1 u xu (omega arith)) (eq_or_not u v),
+      λ u xu uv. ⊎_elim (too_small u) (λ o. c.loop-v.invariant.1 u xu (omega arith)) (eq_or_not u v),
     )
 
 pub returns : goal.returns

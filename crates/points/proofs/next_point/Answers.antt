@@ -22,11 +22,10 @@ overflow_mul-need c =
 
 pub find-place-requires : goal.find-place-requires
 find-place-requires c =
-    let s = c in
-    let range = s.requires.0.1.range in
+    let range = c.requires.0.1.range in
     let later = c.later-from.ensures in
-    let reached = s.requires.1.1 in (
-      (s.requires.0.0, sums_few s.args.s s.requires.0.1),
+    let reached = c.requires.1.1 in (
+      (c.requires.0.0, sums_few c.args.s c.requires.0.1),
       (omega arith, (omega (arith, later, range.order, reached.to), omega arith)),
     )
 
@@ -58,28 +57,28 @@ grown-requires c = omega (arith, (found (goal.at.grown-requires c).After-find-pl
 
 pub overflow_add-height : goal.overflow_add-height
 overflow_add-height c =
-    let f = c in
-    let a = f.args in
+    let a = c.args in
     let slope = a.s.smax * a.s.segments in
-    let d = f.find-place.result - a.p.place in
+    let d = c.find-place.result - a.p.place in
     let more = c.wanted-more.result in
     omega (
       arith,
       c.grown.ensures,
       min-le_left (slope * d) (max (a.s.smin * a.s.segments * d) more),
-      f.requires.1.1.low,
-      three_few {x = a.s.smax} {n = a.s.segments} {d = d} (omega arith) (omega arith) (omega (arith, (found (goal.at.overflow_add-height c).After-find-place).to)),
+      c.requires.1.1.low,
+      three_few {x = a.s.smax} {n = a.s.segments} {d = d} (omega arith) (omega arith) (omega (arith,
+          (found (goal.at.overflow_add-height c).After-find-place).to)),
       three_few {x = a.s.smax} {n = a.s.segments} {d = a.p.place - a.a} (omega arith) (omega arith)
-          (omega (arith, f.requires.1.1.to)),
+          (omega (arith, c.requires.1.1.to)),
     )
 
 pub returns : goal.returns
 returns c =
-    let f = c in
-    let a = f.args in
-    let pre = f.requires in
-    let d = f.find-place.result - a.p.place in
-    let higher : ℕ → Point = λ g. record { place = f.find-place.result; height = a.p.height + g } in
+    let a = c.args in
+    let pre = c.requires in
+    let d = c.find-place.result - a.p.place in
+    let higher : ℕ → Point = λ g. record { place = c.find-place.result; height = a.p.height + g } in
     let growth-is : c.grown.result ≡ growth a.s d (100 * (a.b - a.a) * (a.i + 1) - a.p.height) =
     c.grown.ensures ∙ ap (growth a.s d) c.wanted-more.ensures in
-    ap higher growth-is ∙ sym (next_is a.s pre.0.1 a.i pre.1.0 a.p pre.1.1 (found (goal.at.returns c).After-find-place))
+    ap higher growth-is ∙ sym (next_is a.s pre.0.1 a.i pre.1.0 a.p pre.1.1 (found
+        (goal.at.returns c).After-find-place))

@@ -13,13 +13,11 @@ use Rattle.points.proofs.top_height.Goals as goal
 
 pub loop-i-init : goal.loop-i-init
 loop-i-init c =
-    let s = c in
-    (omega arith, (reached_first s.args.s s.requires.1, ahead_first s.args.s s.args.a s.args.b _ _))
+    (omega arith, (reached_first c.args.s c.requires.1, ahead_first c.args.s c.args.a c.args.b _ _))
 
 pub next_point-q-requires : goal.next_point-q-requires
 next_point-q-requires c =
-    let s = c in
-    (s.requires, (omega arith, c.loop-i.invariant.1.0))
+    (c.requires, (omega arith, c.loop-i.invariant.1.0))
 
 pub loop-i-preserved : goal.loop-i-preserved
 loop-i-preserved c =

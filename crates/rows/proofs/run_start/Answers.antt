@@ -13,7 +13,6 @@ loop-first-init c = (omega arith, (omega arith, λ p a b. absurd (omega arith)))
 
 pub returns-then-marks-first : goal.returns-then-marks-first
 returns-then-marks-first c =
-    let s = c in
     let loop = c.loop-first in
     record {
       past = loop.invariant.0;
@@ -21,12 +20,11 @@ returns-then-marks-first c =
       all = loop.invariant.1.1;
       stop = λ p a e d.
           let last : p ≡ loop.first - 1 = omega arith in
-          c.if-marks-first.true (sym (ap (at s.args.marks.now) last) ∙ d);
+          c.if-marks-first.true (sym (ap (at c.args.marks.now) last) ∙ d);
     }
 
 pub loop-first-preserved : goal.loop-first-preserved
 loop-first-preserved c =
-    let s = c in
     let loop = c.loop-first in (
       omega arith,
       (
@@ -34,7 +32,7 @@ loop-first-preserved c =
         λ p a b. elim (less_or_not p loop.first) [
           | inl h ↦
               let last : p ≡ loop.first - 1 = omega arith in
-              ap (at s.args.marks.now) last ∙ c.if-marks-first.false
+              ap (at c.args.marks.now) last ∙ c.if-marks-first.false
           | inr h ↦ loop.invariant.1.1 p h b
         ],
       ),

@@ -30,22 +30,19 @@ overflow_cast-queue c = omega (arith, c.requires.1.few)
 pub offset_bounds-queue-next : goal.offset_bounds-queue-next
 offset_bounds-queue-next c =
     let loop = c.loop-p in
-    let s = c in
-    let room = run_room s.requires.1 loop.invariant.1.1.0 loop.invariant.1.1.1 in
+    let room = run_room c.requires.1 loop.invariant.1.1.0 loop.invariant.1.1.1 in
     omega (arith, room_for room loop.p (omega arith) c.if-marks-p.false)
 
 pub bounds-queue-next : goal.bounds-queue-next
 bounds-queue-next c =
     let loop = c.loop-p in
-    let s = c in
-    let room = run_room s.requires.1 loop.invariant.1.1.0 loop.invariant.1.1.1 in
+    let room = run_room c.requires.1 loop.invariant.1.1.0 loop.invariant.1.1.1 in
     omega (arith, room_for room loop.p (omega arith) c.if-marks-p.false)
 
 pub overflow_add-next : goal.overflow_add-next
 overflow_add-next c =
     let loop = c.loop-p in
-    let s = c in
-    let room = run_room s.requires.1 loop.invariant.1.1.0 loop.invariant.1.1.1 in
+    let room = run_room c.requires.1 loop.invariant.1.1.0 loop.invariant.1.1.1 in
     omega (arith, room_for room loop.p (omega arith) c.if-marks-p.false)
 
 pub loop-p-preserved : goal.loop-p-preserved

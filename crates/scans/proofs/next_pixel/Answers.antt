@@ -3,130 +3,107 @@
 -- the function's entry, `row` and `column` the turns of the loops. Assumes nothing.
 use Prim.Native.Nat.{◌+◌, ◌*◌, ◌-◌, ◌≤◌}
 use mathlib.Core.Path.{◌≡◌, ap}
-use mathlib.Core.Logic.{⊎_elim}
 use native.Mathlib.Omega.{arith}
 use borrow.Author.Rules.{rules}
 use Rattle.rows.specs.Stretches.{Skipped}
 use Rattle.rows.proofs.Rows.{next_row, row_inside, past_rows, row_bounds, width_of}
 use Rattle.rows.proofs.Stretches.{skipped_none, skipped_one, skipped_more, skipped_less}
 use Rattle.scans.proofs.next_pixel.Goals as goal
+use Rattle.scans.proofs.next_pixel.Goals.{else-search-test, then-search-test+then-loop-x-test+then-marks-p}
 
 pub pixels-n-requires : goal.pixels-n-requires
 pixels-n-requires c = omega (arith, c.requires.size.few)
 
 pub row_of-top-requires : goal.row_of-top-requires
 row_of-top-requires c =
-    let s = c in
-    (width_of s.requires.size s.requires.inverse_is, omega (arith, s.requires.inside, s.requires.size.few))
+    (width_of c.requires.size c.requires.inverse_is, omega (arith, c.requires.inside, c.requires.size.few))
 
 pub overflow_mul-first : goal.overflow_mul-first
 overflow_mul-first c =
-    let s = c in
-    let top = ap (◌* s.args.shape.w) c.row_of-top.ensures in
-    omega (arith, (row_bounds s.args.shape.w s.args.from s.requires.size.wide).0)
+    let top = ap (◌* c.args.shape.w) c.row_of-top.ensures in
+    omega (arith, (row_bounds c.args.shape.w c.args.from c.requires.size.wide).0)
 
 pub overflow_sub-first : goal.overflow_sub-first
 overflow_sub-first c =
-    let s = c in
-    let top = ap (◌* s.args.shape.w) c.row_of-top.ensures in
-    omega (arith, (row_bounds s.args.shape.w s.args.from s.requires.size.wide).0)
+    let top = ap (◌* c.args.shape.w) c.row_of-top.ensures in
+    omega (arith, (row_bounds c.args.shape.w c.args.from c.requires.size.wide).0)
 
 pub search-init : goal.search-init
 search-init c =
-    let s = c in
-    let top = ap (◌* s.args.shape.w) c.row_of-top.ensures in
-    let bounds = row_bounds s.args.shape.w s.args.from s.requires.size.wide in
+    let top = ap (◌* c.args.shape.w) c.row_of-top.ensures in
+    let bounds = row_bounds c.args.shape.w c.args.from c.requires.size.wide in
     (search rules, (omega arith, skipped_none _ _ _ _ (omega arith)))
 
 pub overflow_mul-row : goal.overflow_mul-row
 overflow_mul-row c =
-    let row = c in
-    let s = c in
-    let inside = row_inside row.search.y s.args.shape.w s.args.shape.h (omega arith) in
-    omega (arith, s.requires.size.few)
+    let inside = row_inside c.search.y c.args.shape.w c.args.shape.h (omega arith) in
+    omega (arith, c.requires.size.few)
 
 pub overflow_add-row : goal.overflow_add-row
 overflow_add-row c =
-    let row = c in
-    let s = c in
-    let inside = row_inside row.search.y s.args.shape.w s.args.shape.h (omega arith) in
-    omega (arith, s.requires.size.few)
+    let inside = row_inside c.search.y c.args.shape.w c.args.shape.h (omega arith) in
+    omega (arith, c.requires.size.few)
 
 pub overflow_add-row-in-search : goal.overflow_add-row-in-search
 overflow_add-row-in-search c =
-    let row = c in
-    let s = c in
-    let inside = row_inside row.search.y s.args.shape.w s.args.shape.h (omega arith) in
-    omega (arith, s.requires.size.few)
+    let inside = row_inside c.search.y c.args.shape.w c.args.shape.h (omega arith) in
+    omega (arith, c.requires.size.few)
 
 pub skip-requires : goal.skip-requires
 skip-requires c =
-    let row = c in
-    let s = c in
-    let inside = row_inside row.search.y s.args.shape.w s.args.shape.h (omega arith) in
-    omega (arith, s.requires.covered)
+    let inside = row_inside c.search.y c.args.shape.w c.args.shape.h (omega arith) in
+    omega (arith, c.requires.covered)
 
 pub overflow_step-x : goal.overflow_step-x
 overflow_step-x c = omega (arith, c.skip.ensures.past)
 
 pub loop-x-init : goal.loop-x-init
 loop-x-init c =
-    let row = c in
-    let passed = skipped_more _ _ _ row.search.invariant.1.1 c.skip.ensures.past c.skip.ensures.none in
+    let passed = skipped_more _ _ _ c.search.invariant.1.1 c.skip.ensures.past c.skip.ensures.none in
     (search rules, skipped_less _ _ _ _ (omega (arith, passed.past)) (omega (arith, c.skip.ensures.past)) passed)
 
 pub overflow_add-p : goal.overflow_add-p
 overflow_add-p c =
-    let row = c in
-    let s = c in
-    let inside = row_inside row.search.y s.args.shape.w s.args.shape.h (omega arith) in
-    omega (arith, s.requires.size.few)
+    let inside = row_inside c.search.y c.args.shape.w c.args.shape.h (omega arith) in
+    omega (arith, c.requires.size.few)
 
 pub bounds-marks-p : goal.bounds-marks-p
 bounds-marks-p c =
-    let row = c in
-    let s = c in
-    let inside = row_inside row.search.y s.args.shape.w s.args.shape.h (omega arith) in
-    omega (arith, s.requires.covered)
+    let inside = row_inside c.search.y c.args.shape.w c.args.shape.h (omega arith) in
+    omega (arith, c.requires.covered)
 
 pub loop-x-preserved : goal.loop-x-preserved
 loop-x-preserved c =
-    let column = c in
-    (search rules, skipped_one _ _ _ _ (omega arith) column.loop-x.invariant.1 c.if-marks-p.false)
+    (search rules, skipped_one _ _ _ _ (omega arith) c.loop-x.invariant.1 c.if-marks-p.false)
 
 pub search-preserved : goal.search-preserved
 search-preserved c =
-    let row = c in
-    let s = c in
-    let next = next_row row.search.y s.args.shape.w in
-    let passed = row.search.invariant.1.1.past in
+    let next = next_row c.search.y c.args.shape.w in
+    let passed = c.search.invariant.1.1.past in
     (search rules, (omega arith, skipped_less _ _ _ _ (omega arith) (omega arith) c.loop-x.invariant.1))
 
 pub returns-then-at-n : goal.returns-then-at-n
 returns-then-at-n c =
-    let row = c in
-    let s = c in
-    ⊎_elim (λ left. absurd (omega arith))
-    (λ found.
-    let inside = row_inside row.search.y s.args.shape.w s.args.shape.h found.0.taken in
-    let passed = found.2.inv.1 in
-    rw found.6 (record {
-      past = passed.past;
-      below = omega (arith, found.3.taken);
-      has = found.5.taken;
-      none = passed.none;
-    }))
-    c.search-test.branch
+    elim c.search-test.branch [
+      else-search-test w ↦ absurd (omega arith)
+      | then-search-test+then-loop-x-test+then-marks-p w ↦
+          let inside = row_inside c.search.y c.args.shape.w c.args.shape.h w.search-test.true in
+          let passed = w.loop-x.invariant.1 in
+          rw w.at-is (record {
+            past = passed.past;
+            below = omega (arith, w.loop-x-test.true);
+            has = w.if-marks-p.true;
+            none = passed.none;
+          })
+    ]
 
 pub returns-else-at-n : goal.returns-else-at-n
 returns-else-at-n c =
-    let row = c in
-    let s = c in
-    ⊎_elim
-    (λ left p l h.
-    let past = past_rows row.search.y s.args.shape.w s.args.shape.h left.0.left in
-    row.search.invariant.1.1.none p l (omega arith))
-    (λ found.
-    let inside = row_inside row.search.y s.args.shape.w s.args.shape.h found.0.taken in
-    absurd (omega (arith, found.3.taken, found.6)))
-    c.search-test.branch
+    elim c.search-test.branch [
+      else-search-test w ↦ λ p l h.
+          let past = past_rows c.search.y c.args.shape.w c.args.shape.h w.search-test.false in
+          c.search.invariant.1.1.none p l (omega arith)
+      | then-search-test+then-loop-x-test+then-marks-p w ↦
+          let inside = row_inside c.search.y c.args.shape.w c.args.shape.h w.search-test.true in
+          absurd (omega (arith, w.loop-x-test.true, w.at-is))
+    ]

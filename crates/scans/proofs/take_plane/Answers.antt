@@ -30,6 +30,5 @@ measure-requires c =
 
 pub returns : goal.returns
 returns c =
-    let ended = c in
-    let all : ended.before.loop-k.k ≡ pixels ended.args.shape = omega arith in
-    (rw all at ended.before.loop-k.invariant.1, c.measure.ensures)
+    let all : c.before.loop-k.k ≡ pixels c.args.shape = omega arith in
+    (rw all at c.before.loop-k.invariant.1, c.measure.ensures)

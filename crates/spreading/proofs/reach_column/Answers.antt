@@ -6,20 +6,17 @@ use Rattle.spreading.proofs.reach_column.Goals as goal
 
 pub reach-next-requires : goal.reach-next-requires
 reach-next-requires c =
-    let s = c in
-    may_above s.requires c.above.ensures
+    may_above c.requires c.above.ensures
 
 pub reach-requires : goal.reach-requires
 reach-requires c =
-    let first = c in
-    let s = first.before.before.before.before.before.before.before in
-    let below = rw first.before.before.before.before.pixels-n.ensures at c.below.ensures in
-    may_below s.requires first.before.above.ensures first.reach-next.ensures below
+    let s = c.before.before.before.before.before.before.before in
+    let below = rw c.before.before.before.before.pixels-n.ensures at c.below.ensures in
+    may_below s.requires c.before.above.ensures c.reach-next.ensures below
 
 pub returns : goal.returns
 returns c =
-    let second = c in
-    let first = second.before.before.before.before.before.before.before.before in
+    let first = c.before.before.before.before.before.before.before.before in
     let s = first.before.before.before.before.before.before.before in
-    let below = rw first.before.before.before.before.pixels-n.ensures at second.before.below.ensures in
-    column_reached s.requires first.before.above.ensures first.reach-next.ensures below second.reach.ensures
+    let below = rw first.before.before.before.before.pixels-n.ensures at c.before.below.ensures in
+    column_reached s.requires first.before.above.ensures first.reach-next.ensures below c.reach.ensures

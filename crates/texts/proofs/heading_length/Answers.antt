@@ -1,7 +1,6 @@
 -- `texts::heading_length` meets its contract: five bytes and the digits of the sides, and of 255, each side's few.
 -- Assumes nothing.
 use native.Mathlib.Omega.{arith}
-use borrow.Author.Rules.{rules}
 use Rattle.texts.proofs.Decimal.{decimal_numeral}
 use Rattle.texts.proofs.Heading.{heading_length, heading_short}
 use Rattle.texts.proofs.heading_length.Goals as goal

@@ -1,6 +1,6 @@
 -- `texts::put_bytes` meets its contract. The invariant: the first i bytes stand in the output from `at` on, and the
 -- rest of it is as it was. The measure is the number of bytes still to be put. Assumes nothing.
-use Prim.Native.Nat.{◌+◌, ◌-◌, ◌≤◌, ◌<◌}
+use Prim.Native.Nat.{◌+◌, ◌<◌}
 use mathlib.Core.Path.{◌≡◌, refl, ◌∙◌}
 use native.Mathlib.Numerals.{add-one}
 use native.Mathlib.Omega.{arith}

@@ -1,12 +1,9 @@
 -- `texts::put_bytes` meets its contract. The invariant: the first i bytes stand in the output from `at` on, and the
 -- rest of it is as it was. The measure is the number of bytes still to be put. Assumes nothing.
-use Prim.Native.Nat.{◌+◌, ◌-◌, ◌≤◌, ◌<◌}
-use mathlib.Core.Path.{◌≡◌, refl, ◌∙◌}
-use native.Mathlib.Numerals.{add-one}
-use native.Mathlib.Omega.{arith}
-use lib.ListN.{length, set, length-set}
-use lib.Seq.{paste, paste-zero, paste-suc, take-length}
-use Rattle.planes.specs.Lists.{at}
+use Prim.Native.Nat.{◌-◌, ◌≤◌}
+use mathlib.Core.Path.{◌≡◌}
+use lib.ListN.{length}
+use lib.Seq.{paste}
 use Rattle.texts.proofs.put_bytes.Given as goal
 
 -- lib.Seq's `paste output at bytes i` has the first i bytes in the place of the output's i bytes from `at` on

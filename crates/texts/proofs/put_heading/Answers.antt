@@ -4,101 +4,104 @@ use Prim.Native.Nat.{ℕ, ◌+◌, ◌≤◌}
 use mathlib.Core.Path.{◌≡◌}
 use mathlib.Core.List.{List, [], ◌∷◌, ◌++◌}
 use native.Mathlib.Omega.{arith}
-use borrow.Author.Rules.{rules}
 use lib.ListN.{length, length-append}
 use Rattle.texts.specs.Ascii.{decimal}
+use Rattle.texts.specs.Heading.{heading}
 use Rattle.texts.specs.Placing.{Put}
 use Rattle.texts.proofs.Placing.{put_more, put_length}
 use Rattle.texts.proofs.Heading.{heading_length, heading_is}
 use Rattle.texts.proofs.put_heading.Goals as goal
-use Rattle.texts.proofs.put_heading.Goals.{After-put_bytes-after_space, After-put_number-after_h, After-put_number-after_w, Start}
-
-abbrev output : Start → List ℕ
-output c = c.args.output.now
 
 abbrev mark : List ℕ
 mark = 80 ∷ 54 ∷ 10 ∷ []
 
--- the room that is needed in all
-room : (c : Start) → 9 + length (decimal c.args.w) + length (decimal c.args.h) ≤ length (output c)
-room c = omega (arith, heading_length c.args.w c.args.h, c.requires.1)
-
 -- the bytes up to each number and after it
-abbrev with-w : Start → List ℕ
-with-w c = mark ++ decimal c.args.w
+abbrev with_w : ℕ → List ℕ
+with_w w = mark ++ decimal w
 
-abbrev with-space : Start → List ℕ
-with-space c = with-w c ++ (32 ∷ [])
+abbrev with_space : ℕ → List ℕ
+with_space w = with_w w ++ (32 ∷ [])
 
-abbrev with-h : Start → List ℕ
-with-h c = with-space c ++ decimal c.args.h
+abbrev with_h : ℕ → ℕ → List ℕ
+with_h w h = with_space w ++ decimal h
 
-space-length : (c : Start) → length (with-space c) ≡ 4 + length (decimal c.args.w)
-space-length c = omega (arith, length-append (with-w c) (32 ∷ []))
+space_length : (w : ℕ) → length (with_space w) ≡ 4 + length (decimal w)
+space_length w = omega (arith, length-append (with_w w) (32 ∷ []))
 
-h-length : (c : Start) → length (with-h c) ≡ 4 + length (decimal c.args.w) + length (decimal c.args.h)
-h-length c = omega (arith, length-append (with-space c) (decimal c.args.h), space-length c)
+h_length : (w h : ℕ) → length (with_h w h) ≡ 4 + length (decimal w) + length (decimal h)
+h_length w h = omega (arith, length-append (with_space w) (decimal h), space_length w)
 
--- what stands in the output after each call
-after-w : (c : After-put_number-after_w)
-    → Put (output c) 0 (with-w c) c.put_number-after_w.result c.put_number-after_w.new.output
-after-w c =
-    put_more c.put_bytes-after_mark.ensures c.put_number-after_w.ensures
-    (omega (arith, room c))
+-- the room that is needed in all
+room : (w h : ℕ) (output : List ℕ) → length (heading w h) ≤ length output
+    → 9 + length (decimal w) + length (decimal h) ≤ length output
+room w h output enough = omega (arith, heading_length w h)
 
-after-space : (c : After-put_bytes-after_space)
-    → Put (output c) 0 (with-space c) c.put_bytes-after_space.result c.put_bytes-after_space.new.output
-after-space c =
-    put_more (after-w c) c.put_bytes-after_space.ensures
-    (omega (arith, room c))
+module _ (w h : ℕ) (output : List ℕ) (enough : length (heading w h) ≤ length output) where
+  -- what stands in the output after each call
+  after_w : {r s : ℕ} {output' output'' : List ℕ} → Put output 0 mark r output' → Put output' r (decimal w) s output''
+      → Put output 0 (with_w w) s output''
+  after_w p q = put_more p q (omega (arith, room w h output enough))
 
-after-h : (c : After-put_number-after_h)
-    → Put (output c) 0 (with-h c) c.put_number-after_h.result c.put_number-after_h.new.output
-after-h c =
-    put_more (after-space c) c.put_number-after_h.ensures
-    (omega (arith, room c, space-length c))
+  after_space : {r s : ℕ} {output' output'' : List ℕ} → Put output 0 (with_w w) r output'
+      → Put output' r (32 ∷ []) s output'' → Put output 0 (with_space w) s output''
+  after_space p q = put_more p q (omega (arith, room w h output enough))
+
+  after_h : {r s : ℕ} {output' output'' : List ℕ} → Put output 0 (with_space w) r output'
+      → Put output' r (decimal h) s output'' → Put output 0 (with_h w h) s output''
+  after_h p q = put_more p q (omega (arith, room w h output enough, space_length w))
 
 pub put_bytes-after_mark-requires : goal.put_bytes-after_mark-requires
-put_bytes-after_mark-requires c = omega (arith, room (goal.at.put_bytes-after_mark-requires c).Start)
+put_bytes-after_mark-requires c = omega (arith, room c.args.w c.args.h c.args.output.now c.requires.1)
 
 pub put_number-after_w-requires : goal.put_number-after_w-requires
 put_number-after_w-requires c =
-    let putting = c in
-    let start = c in
-    let place = putting.put_bytes-after_mark.ensures.next in
-    let kept = putting.put_bytes-after_mark.auto.output in
-    (start.requires.0.0, omega (arith, room (goal.at.put_number-after_w-requires c).Start))
+    let needed = room c.args.w c.args.h c.args.output.now c.requires.1 in
+    let place = c.put_bytes-after_mark.ensures.next in
+    let kept = c.put_bytes-after_mark.auto.output in
+    (omega arith, omega arith)
 
 pub put_bytes-after_space-requires : goal.put_bytes-after_space-requires
 put_bytes-after_space-requires c =
-    let putting = c in
-    let start = c in
-    let place = (after-w (goal.at.put_bytes-after_space-requires c).After-put_number-after_w).next in
-    let kept = put_length (after-w (goal.at.put_bytes-after_space-requires c).After-put_number-after_w) (omega (arith, room (goal.at.put_bytes-after_space-requires c).Start)) in
-    omega (arith, room (goal.at.put_bytes-after_space-requires c).Start)
+    let needed = room c.args.w c.args.h c.args.output.now c.requires.1 in
+    let written =
+    after_w c.args.w c.args.h c.args.output.now c.requires.1 c.put_bytes-after_mark.ensures c.put_number-after_w.ensures in
+    let place = written.next in
+    let kept = put_length written (omega arith) in
+    omega arith
 
 pub put_number-after_h-requires : goal.put_number-after_h-requires
 put_number-after_h-requires c =
-    let putting = c in
-    let start = c in
-    let counted = space-length (goal.at.put_number-after_h-requires c).Start in
-    let place = (after-space (goal.at.put_number-after_h-requires c).After-put_bytes-after_space).next in
-    let kept = put_length (after-space (goal.at.put_number-after_h-requires c).After-put_bytes-after_space) (omega (arith, room (goal.at.put_number-after_h-requires c).Start)) in
-    (start.requires.0.1, omega (arith, room (goal.at.put_number-after_h-requires c).Start))
+    let needed = room c.args.w c.args.h c.args.output.now c.requires.1 in
+    let with_number =
+    after_w c.args.w c.args.h c.args.output.now c.requires.1 c.put_bytes-after_mark.ensures c.put_number-after_w.ensures in
+    let written =
+    after_space c.args.w c.args.h c.args.output.now c.requires.1 with_number c.put_bytes-after_space.ensures in
+    let counted = space_length c.args.w in
+    let place = written.next in
+    let kept = put_length written (omega arith) in
+    (omega arith, omega arith)
 
 pub put_bytes-requires : goal.put_bytes-requires
 put_bytes-requires c =
-    let putting = c in
-    let start = c in
-    let counted = h-length (goal.at.put_bytes-requires c).Start in
-    let place = (after-h (goal.at.put_bytes-requires c).After-put_number-after_h).next in
-    let kept = put_length (after-h (goal.at.put_bytes-requires c).After-put_number-after_h) (omega (arith, room (goal.at.put_bytes-requires c).Start)) in
-    omega (arith, room (goal.at.put_bytes-requires c).Start)
+    let needed = room c.args.w c.args.h c.args.output.now c.requires.1 in
+    let with_number =
+    after_w c.args.w c.args.h c.args.output.now c.requires.1 c.put_bytes-after_mark.ensures c.put_number-after_w.ensures in
+    let spaced =
+    after_space c.args.w c.args.h c.args.output.now c.requires.1 with_number c.put_bytes-after_space.ensures in
+    let written = after_h c.args.w c.args.h c.args.output.now c.requires.1 spaced c.put_number-after_h.ensures in
+    let counted = h_length c.args.w c.args.h in
+    let place = written.next in
+    let kept = put_length written (omega arith) in
+    omega arith
 
 pub returns : goal.returns
 returns c =
-    let putting = c in
-    let earlier = c in
-    let start = c in
-    let whole = put_more (after-h (goal.at.returns c).After-put_number-after_h) putting.put_bytes.ensures (omega (arith, room (goal.at.returns c).Start, h-length (goal.at.returns c).Start)) in
-    rw (heading_is start.args.w start.args.h) whole
+    let needed = room c.args.w c.args.h c.args.output.now c.requires.1 in
+    let counted = h_length c.args.w c.args.h in
+    let with_number =
+    after_w c.args.w c.args.h c.args.output.now c.requires.1 c.put_bytes-after_mark.ensures c.put_number-after_w.ensures in
+    let spaced =
+    after_space c.args.w c.args.h c.args.output.now c.requires.1 with_number c.put_bytes-after_space.ensures in
+    let written = after_h c.args.w c.args.h c.args.output.now c.requires.1 spaced c.put_number-after_h.ensures in
+    let whole = put_more written c.put_bytes.ensures (omega arith) in
+    rw (heading_is c.args.w c.args.h) whole

@@ -1,0 +1,171 @@
+-- `branches::equalise` and `branches::split` meet their contracts. What each call leaves of plane and marks is what the
+-- next requires. Assumes nothing.
+use Prim.Native.Nat.{ℕ, ◌+◌, ◌-◌, ◌*◌, ◌≤◌, ◌<◌}
+use mathlib.Core.Path.{◌≡◌, refl, sym, ap, subst, ◌∙◌}
+use native.Mathlib.Nat.{le_refl}
+use native.Mathlib.Omega.{arith}
+use Rattle.model.specs.declared.Counts.{Counts}
+use Rattle.model.specs.Outcomes.{sums}
+use Rattle.levels.proofs.Numbers.{numbered_order, numbered_some, numbered_many, halves_order, halves_room, next_not}
+use Rattle.levels.proofs.Numbers.{low_numbered, high_numbered, half_some, twice}
+use Rattle.branches.proofs.Halves.{due_section, apart_leaf, apart_node, next_halves, next_gone}
+use Rattle.branches.proofs.Halves.{due_low, due_high, gone_high, apart_both}
+use Rattle.branches.proofs.Branches.{still_ready, small, told_few, branch_few, halves_few, leaf, node, halves}
+use Rattle.branches.specs.Branches.{Equalised, Halved}
+use Rattle.branches.proofs.+equalise_split.Goals as goal
+
+-- ## `equalise`, of measure t
+
+pub equalise-deeper-more-requires : goal.equalise-deeper-more-requires
+equalise-deeper-more-requires t c = (numbered_order c.requires.1.numbered, c.requires.0.last)
+
+pub equalise-next_of-next-requires : goal.equalise-next_of-next-requires
+equalise-next_of-next-requires t c =
+    let due = c.requires.1 in
+    let N = due.numbered in
+    ((λ e. numbered_many due.d N (c.deeper-more.ensures.yes e due.d N.k N.wide)), N.fits)
+
+pub equalise-treat_section-t-requires : goal.equalise-treat_section-t-requires
+equalise-treat_section-t-requires t c =
+    due_section c.requires.0 c.requires.1 (next_not c.next_of-next.ensures c.requires.1.numbered.real)
+
+pub equalise-below-requires : goal.equalise-below-requires
+equalise-below-requires t c = (numbered_order c.requires.1.numbered, c.requires.0.last)
+
+pub equalise-counts_of-counts-requires : goal.equalise-counts_of-counts-requires
+equalise-counts_of-counts-requires t c =
+    let lent = c.requires.0.lent in
+    let all = small lent.size.few lent.whole c.treat_section-t.ensures.treated in
+    (all.1.0, (all.1.1, c.below.ensures.few))
+
+pub equalise-split-halves-requires : goal.equalise-split-halves-requires
+equalise-split-halves-requires t c =
+    let ready = c.requires.0 in
+    let due = c.requires.1 in
+    let N = due.numbered in
+    let D = c.deeper-more.ensures in
+    let X = c.next_of-next.ensures in
+    let e = c.if-more.true in
+    let measured : 2 * (c.args.b - c.args.a) + 1 ≡ t = c.decreases in (
+      omega (arith, D.some e),
+      (
+        still_ready ready (omega (arith, c.treat_section-t)) (omega (arith, c.treat_section-t))
+            (omega (arith, c.treat_section-t)),
+        next_halves c.args.shape c.args.settings ready.lent.whole c.treat_section-t.ensures
+            due.coded due.marks_are X.middle (X.halves e) (le_refl _) refl refl
+            due.d (D.yes e due.d N.k N.wide) N,
+      ),
+    )
+
+pub equalise-plus-requires : goal.equalise-plus-requires
+equalise-plus-requires t c =
+    let lent = c.requires.0.lent in
+    let due = c.requires.1 in
+    let N = due.numbered in
+    let some = c.deeper-more.ensures.yes c.if-more.true due.d N.k N.wide in
+    let here = told_few lent.size.few lent.whole c.below.ensures.few c.treat_section-t.ensures.treated in
+    let below = halves_few due.d some N (omega (arith, c.treat_section-t, lent.whole)) lent.size.few
+    c.split-halves.ensures in
+    let counts = c.counts_of-counts.ensures in
+    let spans : c.args.span * 1048576 ≤ 255 * 1048576 = omega (arith, N.fits, N.real) in (
+      omega (arith, here.0, below.0, ap (λ (x : Counts). x.retoned) counts),
+      omega (arith, here.1, below.1, ap (λ (x : Counts). x.kept) counts),
+    )
+
+pub equalise-returns-then-more : goal.equalise-returns-then-more
+equalise-returns-then-more t c =
+    let lent = c.requires.0.lent in
+    let due = c.requires.1 in
+    let N = due.numbered in
+    let T = c.treat_section-t.ensures.treated in
+    let D = c.deeper-more.ensures in
+    let X = c.next_of-next.ensures in
+    let e = c.if-more.true in
+    let H = c.split-halves.ensures in
+    let some = D.yes e due.d N.k N.wide in
+    let many = numbered_many due.d N some in
+    let left = next_gone c.args.shape c.args.settings lent.whole c.treat_section-t.ensures due.coded
+    due.marks_are X.middle (X.halves e) (le_refl _) refl refl due.d some N in
+    let E = node c.args.shape c.args.settings c.below.ensures T D e H left
+    (apart_node (numbered_order N) lent.whole T N.real many due.marks_are (X.halves e) H.apart) in
+    subst (Equalised c.args.shape c.args.a c.args.b c.args.code c.args.span c.args.settings
+    c.args.plane.now c.args.marks.now c.args.queue.now
+    c.split-halves.new.plane c.split-halves.new.marks c.split-halves.new.queue)
+    (sym (c.plus.ensures ∙ ap (λ (x : Counts). sums x c.split-halves.result) c.counts_of-counts.ensures))
+    E
+
+pub equalise-returns : goal.equalise-returns
+equalise-returns t c =
+    let lent = c.requires.0.lent in
+    let due = c.requires.1 in
+    let N = due.numbered in
+    let T = c.treat_section-t.ensures.treated in
+    let D = c.deeper-more.ensures in
+    let X = c.next_of-next.ensures in
+    let e = c.if-more.false in
+    let E = leaf c.args.shape c.args.settings c.below.ensures T D e
+    (apart_leaf (numbered_order N) lent.whole T N.real (numbered_some N) due.marks_are (X.none e)) in
+    subst (Equalised c.args.shape c.args.a c.args.b c.args.code c.args.span c.args.settings
+    c.args.plane.now c.args.marks.now c.args.queue.now
+    c.treat_section-t.new.plane c.treat_section-t.new.marks c.treat_section-t.new.queue)
+    (sym c.counts_of-counts.ensures) E
+
+-- ## `split`, of measure t
+
+pub split-overflow_sub-half : goal.split-overflow_sub-half
+split-overflow_sub-half t c = numbered_some c.requires.1.numbered
+
+pub split-overflow_add-code : goal.split-overflow_add-code
+split-overflow_add-code t c = omega (arith, halves_room c.requires.1.numbered)
+
+pub split-equalise-lower-requires : goal.split-equalise-lower-requires
+split-equalise-lower-requires t c =
+    let due = c.requires.1 in
+    let measured : 2 * (c.args.b - c.args.a) ≡ t = c.decreases in
+    (omega (arith, halves_order due.numbered), (c.requires.0, due_low due))
+
+pub split-overflow_add-mid-2 : goal.split-overflow_add-mid-2
+split-overflow_add-mid-2 t c = omega (arith, halves_order c.requires.1.numbered)
+
+pub split-overflow_add-code-2 : goal.split-overflow_add-code-2
+split-overflow_add-code-2 t c = omega (arith, halves_room c.requires.1.numbered)
+
+pub split-overflow_add-code-3 : goal.split-overflow_add-code-3
+split-overflow_add-code-3 t c = omega (arith, halves_room c.requires.1.numbered)
+
+pub split-equalise-upper-requires : goal.split-equalise-upper-requires
+split-equalise-upper-requires t c =
+    let ready = c.requires.0 in
+    let due = c.requires.1 in
+    let lower = c.equalise-lower in
+    let measured : 2 * (c.args.b - c.args.a) ≡ t = c.decreases in (
+      omega (arith, halves_order due.numbered),
+      (
+        still_ready ready (omega (arith, lower)) (omega (arith, lower)) (omega (arith, lower)),
+        due_high due ready.lent.whole (omega (arith, lower)) lower.ensures.apart,
+      ),
+    )
+
+pub split-plus-requires : goal.split-plus-requires
+split-plus-requires t c =
+    let lent = c.requires.0.lent in
+    let N = c.requires.1.numbered in
+    let low = branch_few (low_numbered N) lent.whole lent.size.few c.equalise-lower.ensures in
+    let high = branch_few (high_numbered N) (omega (arith, c.equalise-lower, lent.whole)) lent.size.few
+    c.equalise-upper.ensures in
+    let spans : c.args.span * 1048576 ≤ 255 * 1048576 = omega (arith, N.fits, N.real) in (
+      omega (arith, low.0, high.0, half_some N, twice N),
+      omega (arith, low.1, high.1, half_some N, twice N),
+    )
+
+pub split-returns : goal.split-returns
+split-returns t c =
+    let low = c.equalise-lower.ensures in
+    let high = c.equalise-upper.ensures in
+    let whole = c.requires.0.lent.whole in
+    let H = halves low high (gone_high c.requires.1 whole (omega (arith, c.equalise-lower)) low.apart)
+    (apart_both c.requires.1 whole (omega (arith, c.equalise-lower)) low.apart high.apart) in
+    subst (Halved c.args.shape c.args.a c.args.b c.args.code c.args.span c.args.settings
+    c.args.plane.now c.args.marks.now c.args.queue.now
+    c.equalise-upper.new.plane c.equalise-upper.new.marks c.equalise-upper.new.queue)
+    (sym c.plus.ensures) H

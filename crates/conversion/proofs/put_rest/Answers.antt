@@ -1,0 +1,34 @@
+-- `conversion::put_rest` meets its contract: version 1 has nothing after the fields. Assumes nothing.
+use Prim.Native.Nat.{◌+◌, ◌≤◌}
+use mathlib.Core.Path.{sym, subst}
+use native.Mathlib.Omega.{arith}
+use lib.ListN.{length}
+use Rattle.texts.specs.Placing.{Put}
+use Rattle.listformat.specs.declared.Edition.{Edition}
+use Rattle.listformat.specs.Format.{encode_rest}
+use Rattle.conversion.proofs.Putting.{put_nothing}
+use borrow.Author.Rules.{rules}
+use Rattle.conversion.proofs.put_rest.Goals as goal
+
+pub put_bytes-requires : goal.put_bytes-requires
+put_bytes-requires c =
+    let start = c in
+    let room =
+    subst (λ (e : Edition). start.args.at + length (encode_rest e 4) ≤ length start.args.output.now)
+    c.in-Second.is start.requires in
+    omega (arith, room)
+
+pub returns-in-First : goal.returns-in-First
+returns-in-First c =
+    let args = c.args in
+    subst (λ (e : Edition). Put args.output.now args.at (encode_rest e 4) args.at args.output.now)
+    (sym c.in-First.is) (put_nothing args.output.now args.at)
+
+pub returns-in-Second : goal.returns-in-Second
+returns-in-Second c =
+    let putting = c in
+    let told = c in
+    let args = told.args in
+    let r = putting.put_bytes.result in
+    subst (λ (e : Edition). Put args.output.now args.at (encode_rest e 4) r putting.put_bytes.new.output)
+    (sym told.in-Second.is) putting.put_bytes.ensures

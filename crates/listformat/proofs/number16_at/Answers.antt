@@ -1,0 +1,23 @@
+-- `listformat::number16_at` meets its contract: two bytes, each below 256, make a number below 65,536. Assumes nothing.
+use Prim.Native.Nat.{◌+◌}
+use native.Mathlib.Omega.{arith}
+use borrow.Author.Rules.{rules}
+use Rattle.listformat.proofs.number16_at.Goals as goal
+
+pub overflow_cast-low : goal.overflow_cast-low
+overflow_cast-low c = omega (arith, c.shared_slice_known-1.given c.args.i)
+
+pub overflow_cast-high : goal.overflow_cast-high
+overflow_cast-high c =
+    let i = c.args.i in
+    omega (arith, c.shared_slice_known-2-1.given i, c.shared_slice_known-2-1.given (i + 1))
+
+pub overflow_mul-result : goal.overflow_mul-result
+overflow_mul-result c =
+    let i = c.args.i in
+    omega (arith, c.shared_slice_known-2-1.given i, c.shared_slice_known-2-1.given (i + 1))
+
+pub overflow_add-result : goal.overflow_add-result
+overflow_add-result c =
+    let i = c.args.i in
+    omega (arith, c.shared_slice_known-2-1.given i, c.shared_slice_known-2-1.given (i + 1))

@@ -1,0 +1,22 @@
+-- `passes::pass` meets its contract: refused with the first number that applies and nothing changed, or treated.
+-- Assumes nothing.
+use mathlib.Core.Path.{sym, ◌∙◌}
+use borrow.Author.Rules.{rules}
+use Rattle.model.proofs.Outcomes.{refused_by, done_by}
+use Rattle.model.proofs.Chains.{accepted, ordered}
+use Rattle.passes.proofs.pass.Goals as goal
+
+pub returns-then-refusal-ne0 : goal.returns-then-refusal-ne0
+returns-then-refusal-ne0 c = refused_by _ c.refusal_of-refusal.ensures c.if-refusal-ne0.true
+
+pub treat-requires : goal.treat-requires
+treat-requires c =
+    let tested = c in
+    let fine = accepted _ _ _ (sym tested.refusal_of-refusal.ensures ∙ tested.if-refusal-ne0.false) in
+    (fine.0, ordered _ fine.1)
+
+pub returns : goal.returns
+returns c =
+    let treated = c in
+    let tested = c in
+    done_by (sym tested.refusal_of-refusal.ensures ∙ tested.if-refusal-ne0.false) treated.treat.ensures

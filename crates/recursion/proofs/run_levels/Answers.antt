@@ -1,0 +1,177 @@
+-- `recursion::run_levels` meets its contract: level 0 is treated with area 1, and its halves are due. Assumes nothing.
+use Prim.Native.Nat.{ℕ, ◌*◌, ◌≤◌}
+use mathlib.Core.Path.{◌≡◌, refl, sym, ap, subst, ◌∙◌}
+use mathlib.Core.Logic.{inl, inr}
+use native.Mathlib.Nat.{mul-le-mul}
+use native.Mathlib.Omega.{arith}
+use lib.Dec.{ltb}
+use borrow.Author.Rules.{rules}
+use Rattle.planes.specs.Shapes.{pixels}
+use Rattle.planes.proofs.Tests.{decide}
+use Rattle.model.specs.declared.Counts.{Counts}
+use Rattle.model.specs.Outcomes.{sums}
+use Rattle.model.proofs.Neighbourhoods.{pass_sym}
+use Rattle.painting.specs.Painting.{Marked}
+use Rattle.sections.proofs.Passing.{whole_plane, whole_size}
+use Rattle.sections.proofs.Marked.{marked_coded, marked_whole, marked_section}
+use Rattle.levels.specs.Levels.{Numbered}
+use Rattle.levels.specs.declared.Settings.{Settings}
+use Rattle.levels.proofs.Numbers.{numbered_many, root_numbered, next_not}
+use Rattle.branches.proofs.Halves.{next_halves, next_gone}
+use Rattle.branches.proofs.Branches.{still_ready, small, told_few, halves_few}
+use Rattle.branches.specs.Branches.{all_told}
+use Rattle.recursion.specs.Recursion.{levels_left, RecursionOutcome}
+use Rattle.recursion.proofs.Root.{root_marks, whole_pass, root_only, root_halves}
+use Rattle.recursion.proofs.run_levels.Goals as goal
+use Rattle.recursion.proofs.run_levels.Goals.{After-counts_of-counts, After-deeper-more, After-levels_left, After-treat_plane-t}
+
+-- ## What is known there
+-- level 0 has the number 1
+numbered : (c : After-deeper-more) → (
+    let last = c.args.settings.last in
+    Numbered last 0 255 last 1 c.sections-span.result)
+numbered c =
+    let span = c.sections-span.ensures in
+    root_numbered c.requires.last span.0 span.1
+
+pub sections-span-requires : goal.sections-span-requires
+sections-span-requires c = c.requires.last
+
+pub deeper-more-requires : goal.deeper-more-requires
+deeper-more-requires c = (omega arith, c.requires.last)
+
+pub next_of-next-requires : goal.next_of-next-requires
+next_of-next-requires c =
+    let N = numbered (goal.at.next_of-next-requires c).After-deeper-more in
+    ((λ e. numbered_many _ N (c.deeper-more.ensures.yes e _ N.k N.wide)), N.fits)
+
+pub treat_plane-t-requires : goal.treat_plane-t-requires
+treat_plane-t-requires c =
+    let m = c in
+    let s = c in
+    let X = m.next_of-next.ensures in
+    let M = subst (Marked _ s.args.plane.now s.args.marks.now _) m.pixels-n.ensures
+    m.mark_section.ensures in
+    (marked_section s.requires.lent (omega arith) M (next_not X (omega arith)), marked_whole refl refl M)
+
+-- where the plane was treated: it was marked
+marking : (c : After-treat_plane-t) → (
+    let m = c in
+    let s = c.args in
+    Marked (whole_pass s.settings) s.plane.now s.marks.now m.mark_section.new.marks
+    (pixels s.shape))
+marking c =
+    let m = c in
+    let n = m.pixels-n in
+    subst (Marked _ c.args.plane.now c.args.marks.now _) n.ensures m.mark_section.ensures
+
+-- no more than 7 levels are left
+few-left : (n : ℕ) (t : Settings) → t.last ≤ 7 → levels_left n t ≤ 7
+few-left n t few = elim (decide (ltb n t.area)) [ inl d ↦ rw d (omega arith) | inr d ↦ rw d few ]
+
+levels : (c : After-levels_left) → (
+    let s = c.args in
+    c.levels_left.result ≡ levels_left (pixels s.shape) s.settings)
+levels c =
+    let m = c in
+    let n = m.pixels-n in
+    c.levels_left.ensures ∙ ap (λ (n : ℕ). levels_left n c.args.settings) n.ensures
+
+pub counts_of-counts-requires : goal.counts_of-counts-requires
+counts_of-counts-requires c =
+    let v = c in
+    let s = c in
+    let all = small s.requires.lent.size.few s.requires.lent.whole v.treat_plane-t.ensures.treated in
+    let few = few-left (pixels s.args.shape) s.args.settings s.requires.last in
+    (all.1.0, (all.1.1, omega (arith, levels (goal.at.counts_of-counts-requires c).After-levels_left, few)))
+
+pub split-halves-requires : goal.split-halves-requires
+split-halves-requires c =
+    let below = c in
+    let v = c in
+    let m = c in
+    let s = c in
+    let X = m.next_of-next.ensures in
+    let M = marking (goal.at.split-halves-requires c).After-treat_plane-t in
+    let e = below.if-more.true in
+    let N = numbered (goal.at.split-halves-requires c).After-deeper-more in (
+      still_ready s.requires (omega (arith, v.treat_plane-t)) (omega (arith, v.treat_plane-t, m.mark_section))
+          (omega (arith, v.treat_plane-t)),
+      next_halves s.args.shape s.args.settings s.requires.lent.whole v.treat_plane-t.ensures
+          (marked_coded M) (root_marks _ M) X.middle (X.halves e) s.requires.area refl refl
+          _ (c.deeper-more.ensures.yes e _ N.k N.wide) N,
+    )
+
+-- the counts of level 0
+counts : (c : After-counts_of-counts) → (
+    let v = c in
+    let s = c.args in
+    c.counts_of-counts.result ≡ all_told (levels_left (pixels s.shape) s.settings) v.treat_plane-t.result)
+counts c =
+    let v = c in
+    c.counts_of-counts.ensures ∙ ap (λ (x : ℕ). all_told x v.treat_plane-t.result) (levels c)
+
+pub plus-requires : goal.plus-requires
+plus-requires c =
+    let divided = c in
+    let below = c in
+    let v = c in
+    let m = c in
+    let s = c in
+    let lent = s.requires.lent in
+    let N = numbered (goal.at.plus-requires c).After-deeper-more in
+    let some = c.deeper-more.ensures.yes below.if-more.true _ N.k N.wide in
+    let here = told_few lent.size.few lent.whole
+    (few-left (pixels s.args.shape) s.args.settings s.requires.last) v.treat_plane-t.ensures.treated in
+    let halves = halves_few _ some N (omega (arith, v.treat_plane-t, lent.whole)) lent.size.few
+    divided.split-halves.ensures in
+    let told = counts (goal.at.plus-requires c).After-counts_of-counts in
+    let spans : c.sections-span.result * 1048576 ≤ 255 * 1048576 = omega (arith, N.fits, N.real) in (
+      omega (arith, here.0, halves.0, ap (λ (x : Counts). x.retoned) told),
+      omega (arith, here.1, halves.1, ap (λ (x : Counts). x.kept) told),
+    )
+
+pub shape_of-marks-then-more : goal.shape_of-marks-then-more
+shape_of-marks-then-more c =
+    let divided = c in
+    let v = c in
+    omega (arith, divided.split-halves, v.treat_plane-t, c.mark_section)
+
+pub returns-then-more : goal.returns-then-more
+returns-then-more c =
+    let divided = c in
+    let below = c in
+    let v = c in
+    let m = c in
+    let s = c in
+    let z = s.args.shape in
+    let whole = whole_pass s.args.settings in
+    let M = marking (goal.at.returns-then-more c).After-treat_plane-t in
+    let N = numbered (goal.at.returns-then-more c).After-deeper-more in
+    let X = m.next_of-next.ensures in
+    let e = below.if-more.true in
+    let some = c.deeper-more.ensures.yes e _ N.k N.wide in
+    let lent = s.requires.lent in
+    let pixel = mul-le-mul lent.size.wide lent.size.high in
+    let ones = marked_whole refl refl M in
+    let sizes = whole_size (pass_sym z whole) lent.whole (marked_coded M) pixel (ones 0 pixel)
+    (whole_plane z whole 1 _ lent.size.wide ones) in
+    let left = next_gone z s.args.settings lent.whole v.treat_plane-t.ensures
+    (marked_coded M) (root_marks _ M) X.middle (X.halves e) s.requires.area refl refl _ some N in
+    let R = root_halves z s.args.settings M v.treat_plane-t.ensures.treated some s.requires.last lent.whole
+    pixel sizes left divided.split-halves.ensures in
+    subst (RecursionOutcome z s.args.settings s.args.plane.now s.args.marks.now s.args.queue.now
+    divided.split-halves.new.plane divided.split-halves.new.marks divided.split-halves.new.queue)
+    (sym (c.plus.ensures ∙ ap (λ (x : Counts). sums x divided.split-halves.result) (counts (goal.at.returns-then-more c).After-counts_of-counts))) R
+
+pub returns : goal.returns
+returns c =
+    let v = c in
+    let m = c in
+    let s = c in
+    let N = numbered (goal.at.returns c).After-deeper-more in
+    let R = root_only s.args.shape s.args.settings (marking (goal.at.returns c).After-treat_plane-t) v.treat_plane-t.ensures.treated
+    (c.deeper-more.ensures.none c.if-more.false _ N.k N.wide) in
+    subst (RecursionOutcome s.args.shape s.args.settings s.args.plane.now s.args.marks.now
+    s.args.queue.now v.treat_plane-t.new.plane v.treat_plane-t.new.marks v.treat_plane-t.new.queue)
+    (sym (counts (goal.at.returns c).After-counts_of-counts)) R
