@@ -3,8 +3,8 @@
 //! - `MLHE_LIBRARY` names a library that is there, under any name: it is taken as it is.
 //! - `MLHE_LIBRARY=none` links nothing, which is enough for `cargo check`, `cargo clippy` and `cargo doc`.
 //! - Otherwise `tools/staticlib capi` of the repository runs. It has `rt` prove every crate under `capi_c` first, and
-//!   leaves proofs in the crates' folders `out/` and the library in the repository's `target/`, so that what is unchanged
-//!   is not proved again. This is the one case in which something is written outside cargo's build folder.
+//!   leaves proofs in the crates' folders `out/` and the library in the repository's `target/`, so that what is
+//!   unchanged is not proved again. This is the one case in which something is written outside cargo's build folder.
 //! - Where there is no `rt`, `target/staticlib/libcapi.a` of the repository is taken, if it is there.
 
 use std::path::{Path, PathBuf};

@@ -1,6 +1,6 @@
 #!/usr/bin/env bash
-# The layout of the Rust sources, and the lints of the Rust packages and of the scripts. Proves nothing and links nothing.
-# The layout of the Rattle sources is for `rt ci`, which refuses another.
+# The layout of the Rust sources, and the lints of the Rust packages and of the scripts. Proves nothing and links
+# nothing. The layout of the Rattle sources is for `rt ci`, which refuses another.
 set -euo pipefail
 cd "$(dirname "$0")/.."
 # shellcheck source=tests/common.sh

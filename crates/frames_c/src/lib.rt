@@ -1,5 +1,5 @@
-// The static library of the program's function for callers in C and Rust: the input is a pointer and a length, the output
-// a pointer to 65,536 bytes.
+// The static library of the program's function for callers in C and Rust: the input is a pointer and a length, the
+// output a pointer to 65,536 bytes.
 #![tactic(auto)]
 
 ghost use Rattle.printing.specs.Printing.{Emitted};
