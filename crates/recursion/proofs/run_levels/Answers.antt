@@ -109,7 +109,8 @@ counts : (c : After-counts_of-counts) → (
     c.counts_of-counts.result ≡ all_told (levels_left (pixels s.shape) s.settings) v.treat_plane-t.result)
 counts c =
     let v = c in
-    c.counts_of-counts.ensures ∙ ap (λ (x : ℕ). all_told x v.treat_plane-t.result) (levels c)
+    c.counts_of-counts.ensures ∙ ap (λ (x : ℕ). all_told x v.treat_plane-t.result)
+    (c.levels_left.ensures ∙ ap (λ (n : ℕ). levels_left n c.args.settings) c.pixels-n.ensures)
 
 pub plus-requires : goal.plus-requires
 plus-requires c =
