@@ -16,26 +16,18 @@ record_at-record-requires c =
 
 pub turn-s-requires : goal.turn-s-requires
 turn-s-requires c =
-    let read = c in
-    let tested = c in
-    let due = tested.loop-s-test.true in
-    (due, file_asks _ _ _ _ _ tested.loop-s.invariant due read.record_at-record.ensures)
+    let due = c.loop-s-test.true in
+    (due, file_asks _ _ _ _ _ c.loop-s.invariant due c.record_at-record.ensures)
 
 pub loop-s-smaller : goal.loop-s-smaller
 loop-s-smaller c =
-    let turned = c in
-    let read = c in
-    let tested = c in
-    (file_turns _ _ _ _ _ tested.loop-s.invariant tested.loop-s-test.true read.record_at-record.ensures
-    turned.turn-s.ensures).1
+    (file_turns _ _ _ _ _ c.loop-s.invariant c.loop-s-test.true c.record_at-record.ensures
+    c.turn-s.ensures).1
 
 pub loop-s-preserved : goal.loop-s-preserved
 loop-s-preserved c =
-    let turned = c in
-    let read = c in
-    let tested = c in
-    (file_turns _ _ _ _ _ tested.loop-s.invariant tested.loop-s-test.true read.record_at-record.ensures
-    turned.turn-s.ensures).0
+    (file_turns _ _ _ _ _ c.loop-s.invariant c.loop-s-test.true c.record_at-record.ensures
+    c.turn-s.ensures).0
 
 pub shape_of-plane : goal.shape_of-plane
 shape_of-plane c = (inv_sizes _ c.loop-s.invariant).0
@@ -48,5 +40,4 @@ shape_of-queue c = (inv_sizes _ c.loop-s.invariant).1.1
 
 pub returns : goal.returns
 returns c =
-    let left = c in
-    rw c.answer.ensures (file_ends _ _ _ _ _ left.loop-s.invariant left.loop-s-test.false)
+    rw c.answer.ensures (file_ends _ _ _ _ _ c.loop-s.invariant c.loop-s-test.false)

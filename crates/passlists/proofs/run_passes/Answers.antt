@@ -42,7 +42,8 @@ loop-s-smaller c =
     omega (arith, within plan _ _ _ _ c.loop-s.invariant) in
     (memory_turns _ _ _ _ _ _ _ _ _ c.loop-s.invariant c.loop-s-test.true _ _ _ _
     (as_read
-    (λ (p : Pass). TurnOutcome c.args.shape (numbers_refusal p) p c.loop-s.s c.loop-s.plane c.loop-s.marks c.loop-s.queue
+    (λ (p : Pass). TurnOutcome c.args.shape (numbers_refusal p) p c.loop-s.s c.loop-s.plane c.loop-s.marks
+        c.loop-s.queue
     c.turn-s.result c.turn-s.new.plane c.turn-s.new.marks c.turn-s.new.queue)
     c.args.passes.now c.loop-s.s.at _ no_pass inside c.turn-s.ensures)).1
 
@@ -53,7 +54,8 @@ loop-s-preserved c =
     omega (arith, within plan _ _ _ _ c.loop-s.invariant) in
     (memory_turns _ _ _ _ _ _ _ _ _ c.loop-s.invariant c.loop-s-test.true _ _ _ _
     (as_read
-    (λ (p : Pass). TurnOutcome c.args.shape (numbers_refusal p) p c.loop-s.s c.loop-s.plane c.loop-s.marks c.loop-s.queue
+    (λ (p : Pass). TurnOutcome c.args.shape (numbers_refusal p) p c.loop-s.s c.loop-s.plane c.loop-s.marks
+        c.loop-s.queue
     c.turn-s.result c.turn-s.new.plane c.turn-s.new.marks c.turn-s.new.queue)
     c.args.passes.now c.loop-s.s.at _ no_pass inside c.turn-s.ensures)).0
 
