@@ -6,6 +6,7 @@
 //
 // Each call makes one copy of the tables that `channels` reads for a pixel.
 #![tactic(auto)]
+
 ghost use Rattle.std.specs.Prelude.{◌≡◌, ◌*◌, ◌<◌, length};
 ghost use Rattle.channels.specs.Channels.{thirds};
 ghost use Rattle.colours.specs.Frames.{intensity};

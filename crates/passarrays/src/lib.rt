@@ -2,8 +2,6 @@
 //
 // run_array   the first passes of an array, or the refusal that they meet with: 1 to 4, 16, then for each pass 5 to 8,
 //             18
-//
-// A function that lends a slice of structs is proved by hand; whoever calls this one is not.
 #![tactic(auto)]
 ghost use Rattle.std.specs.Prelude.{◌≡◌, ◌≤◌, min, take};
 ghost use Rattle.model.specs.Outcomes.{answer_reply};

@@ -6,4 +6,3 @@ pub mod Recursion
 pub mod Editions
 pub mod Turns
 pub mod Plans
-pub mod Walks

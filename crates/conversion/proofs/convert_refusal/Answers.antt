@@ -17,49 +17,38 @@ edition_of-requires c = headed_long _ (sym c.head_refusal-head.ensures ∙ c.if-
 
 pub records_refusal-records-requires : goal.records_refusal-records-requires
 records_refusal-records-requires c =
-    let tested = c in
-    sym tested.head_refusal-head.ensures ∙ tested.if-head-ne0.false
+    sym c.head_refusal-head.ensures ∙ c.if-head-ne0.false
 
 pub returns-then-records-ne0 : goal.returns-then-records-ne0
 returns-then-records-ne0 c =
-    let walked = c in
-    let tested = c in
-    let args = tested.args in
-    let head = sym tested.head_refusal-head.ensures ∙ tested.if-head-ne0.false in
-    let edition = walked.other-edition.ensures ∙ ap other walked.edition_of.ensures in
-    refused_record args.list.now args.output head edition walked.records_refusal-records.ensures c.if-records-ne0.true
+    let args = c.args in
+    let head = sym c.head_refusal-head.ensures ∙ c.if-head-ne0.false in
+    let edition = c.other-edition.ensures ∙ ap other c.edition_of.ensures in
+    refused_record args.list.now args.output head edition c.records_refusal-records.ensures c.if-records-ne0.true
 
 pub count_of-requires : goal.count_of-requires
 count_of-requires c =
-    let tested = c in
-    headed_long _ (sym tested.head_refusal-head.ensures ∙ tested.if-head-ne0.false)
+    headed_long _ (sym c.head_refusal-head.ensures ∙ c.if-head-ne0.false)
 
 pub record_start-requires : goal.record_start-requires
 record_start-requires c =
-    let tested = c in
-    let head = headed _ (sym tested.head_refusal-head.ensures ∙ tested.if-head-ne0.false) in
+    let head = headed _ (sym c.head_refusal-head.ensures ∙ c.if-head-ne0.false) in
     omega (arith, c.count_of.ensures, head.few)
 
 pub returns-then-output-record_start : goal.returns-then-output-record_start
 returns-then-output-record_start c =
-    let started = c in
-    let walked = c in
-    let tested = c in
-    let args = tested.args in
-    let head = sym tested.head_refusal-head.ensures ∙ tested.if-head-ne0.false in
-    let edition = walked.other-edition.ensures ∙ ap other walked.edition_of.ensures in
-    refused_short args.list.now args.output head edition walked.records_refusal-records.ensures
-    started.if-records-ne0.false started.record_start.ensures started.count_of.ensures
+    let args = c.args in
+    let head = sym c.head_refusal-head.ensures ∙ c.if-head-ne0.false in
+    let edition = c.other-edition.ensures ∙ ap other c.edition_of.ensures in
+    refused_short args.list.now args.output head edition c.records_refusal-records.ensures
+    c.if-records-ne0.false c.record_start.ensures c.count_of.ensures
     c.if-output-record_start.true
 
 pub returns : goal.returns
 returns c =
-    let started = c in
-    let walked = c in
-    let tested = c in
-    let args = tested.args in
-    let head = sym tested.head_refusal-head.ensures ∙ tested.if-head-ne0.false in
-    let edition = walked.other-edition.ensures ∙ ap other walked.edition_of.ensures in
-    refused_none args.list.now args.output head edition walked.records_refusal-records.ensures
-    started.if-records-ne0.false started.record_start.ensures started.count_of.ensures
+    let args = c.args in
+    let head = sym c.head_refusal-head.ensures ∙ c.if-head-ne0.false in
+    let edition = c.other-edition.ensures ∙ ap other c.edition_of.ensures in
+    refused_none args.list.now args.output head edition c.records_refusal-records.ensures
+    c.if-records-ne0.false c.record_start.ensures c.count_of.ensures
     c.if-output-record_start.false

@@ -21,12 +21,11 @@ begun : (c : After-put_head-at)
     c.args.output.now 0
     c.put_head-at.result c.put_head-at.new.output
 begun c =
-    let start = c in
-    let list = start.args.list.now in
+    let list = c.args.list.now in
     let named = c.edition_of-edition.ensures in
     let turned = c.other-target.ensures ∙ ap other named in
     putting_none
-    (subst (λ (e : Edition). Put start.args.output.now 0 (encode_head e (count_of list))
+    (subst (λ (e : Edition). Put c.args.output.now 0 (encode_head e (count_of list))
     c.put_head-at.result c.put_head-at.new.output) turned c.put_head-at.ensures)
 
 pub edition_of-edition-requires : goal.edition_of-edition-requires
@@ -37,9 +36,8 @@ count_of-count-requires c = headed_long _ (head_sound _ (convertible _ _ c.requi
 
 pub put_head-at-requires : goal.put_head-at-requires
 put_head-at-requires c =
-    let start = c in
-    let list = start.args.list.now in
-    let fine = convertible list (length start.args.output.now) start.requires in
+    let list = c.args.list.now in
+    let fine = convertible list (length c.args.output.now) c.requires in
     (omega (arith, fine.room, length_converted list), headed_long list (head_sound list fine))
 
 pub loop-j-init : goal.loop-j-init
@@ -47,69 +45,51 @@ loop-j-init c = λ lent fine p. p
 
 pub record_start-i-requires : goal.record_start-i-requires
 record_start-i-requires c =
-    let loop = c in
-    let start = c in
-    let head = headed _ (head_sound _ (convertible _ _ start.requires)) in
-    let counted = loop.count_of-count.ensures in
+    let head = headed _ (head_sound _ (convertible _ _ c.requires)) in
+    let counted = c.count_of-count.ensures in
     omega (arith, c.loop-j-test.true, counted, head.few)
 
 pub put_record-at-requires : goal.put_record-at-requires
 put_record-at-requires c =
-    let started = c in
-    let loop = c in
-    let calls = c in
-    let start = c in
-    let list = start.args.list.now in
-    let lent = start.args.output.now in
-    let fine = convertible list (length lent) start.requires in
-    let named = calls.edition_of-edition.ensures in
-    let turned = calls.other-target.ensures in
-    let due : loop.loop-j.j < count_of list =
-    omega (arith, started.loop-j-test.true, calls.count_of-count.ensures) in
-    turn_asks fine named turned started.record_start-i.ensures due (loop.loop-j.invariant lent fine (begun (goal.at.put_record-at-requires c).After-put_head-at))
+    let list = c.args.list.now in
+    let lent = c.args.output.now in
+    let fine = convertible list (length lent) c.requires in
+    let named = c.edition_of-edition.ensures in
+    let turned = c.other-target.ensures in
+    let due : c.loop-j.j < count_of list =
+    omega (arith, c.loop-j-test.true, c.count_of-count.ensures) in
+    turn_asks fine named turned c.record_start-i.ensures due (c.loop-j.invariant lent fine (begun
+        (goal.at.put_record-at-requires c).After-put_head-at))
 
 pub overflow_add-j : goal.overflow_add-j
 overflow_add-j c =
-    let started = c in
-    let loop = c in
-    let start = c in
-    let head = headed _ (head_sound _ (convertible _ _ start.requires)) in
-    let counted = loop.count_of-count.ensures in
-    omega (arith, started.loop-j-test.true, counted, head.few)
+    let head = headed _ (head_sound _ (convertible _ _ c.requires)) in
+    let counted = c.count_of-count.ensures in
+    omega (arith, c.loop-j-test.true, counted, head.few)
 
 pub loop-j-smaller : goal.loop-j-smaller
 loop-j-smaller c = omega (arith, c.loop-j-test.true)
 
 pub loop-j-preserved : goal.loop-j-preserved
 loop-j-preserved c = λ lent fine p.
-    let started = c in
-    let loop = c in
-    let calls = c in
-    let start = c in
-    let list = start.args.list.now in
-    let named = calls.edition_of-edition.ensures in
-    let turned = calls.other-target.ensures in
-    let due : loop.loop-j.j < count_of list =
-    omega (arith, started.loop-j-test.true, calls.count_of-count.ensures) in
+    let list = c.args.list.now in
+    let named = c.edition_of-edition.ensures in
+    let turned = c.other-target.ensures in
+    let due : c.loop-j.j < count_of list =
+    omega (arith, c.loop-j-test.true, c.count_of-count.ensures) in
     let bytes : Bytes list = record { each = λ i. omega (arith, c.type_inv.list i) } in
-    turn_puts fine named turned started.record_start-i.ensures due (loop.loop-j.invariant lent fine p) bytes
+    turn_puts fine named turned c.record_start-i.ensures due (c.loop-j.invariant lent fine p) bytes
     c.put_record-at.ensures
 
 pub shape_of-output : goal.shape_of-output
 shape_of-output c =
-    let loop = c in
-    let calls = c in
-    let start = c in
-    let fine = convertible start.args.list.now (length start.args.output.now) start.requires in
-    put_same fine (loop.loop-j.invariant start.args.output.now fine (begun (goal.at.shape_of-output c).After-put_head-at))
+    let fine = convertible c.args.list.now (length c.args.output.now) c.requires in
+    put_same fine (c.loop-j.invariant c.args.output.now fine (begun (goal.at.shape_of-output c).After-put_head-at))
 
 pub returns : goal.returns
 returns c =
-    let loop = c in
-    let calls = c in
-    let start = c in
-    let list = start.args.list.now in
-    let fine = convertible list (length start.args.output.now) start.requires in
-    let over : count_of list ≤ loop.loop-j.j =
-    omega (arith, c.loop-j-test.false, calls.count_of-count.ensures) in
-    putting_all (loop.loop-j.invariant start.args.output.now fine (begun (goal.at.returns c).After-put_head-at)) over
+    let list = c.args.list.now in
+    let fine = convertible list (length c.args.output.now) c.requires in
+    let over : count_of list ≤ c.loop-j.j =
+    omega (arith, c.loop-j-test.false, c.count_of-count.ensures) in
+    putting_all (c.loop-j.invariant c.args.output.now fine (begun (goal.at.returns c).After-put_head-at)) over

@@ -16,7 +16,8 @@ use Rattle.conversion.proofs.put_converted.Given as goal
 
 abbrev pub invariant-loop-j : goal.invariant-loop-j
 invariant-loop-j l =
-    (lent : List ℕ) → Convertible l.list (length lent) → Putting l.list lent l.initial.j l.initial.at l.initial.output → Putting l.list lent l.j l.at l.output
+    (lent : List ℕ) → Convertible l.list (length lent) → Putting l.list lent l.initial.j l.initial.at
+        l.initial.output → Putting l.list lent l.j l.at l.output
 
 abbrev pub decreases-loop-j : goal.decreases-loop-j
 decreases-loop-j l =

@@ -13,12 +13,9 @@ overflow_cast-version c = omega (arith, c.version-version.ensures, version_low c
 
 pub returns : goal.returns
 returns c =
-    let putting = c in
-    let named = c in
-    let known = c in
-    let args = known.args in
-    let put = putting.put_bytes in
+    let args = c.args in
+    let put = c.put_bytes in
     subst (λ (bytes : List ℕ). Put args.output.now 0 bytes put.result put.new.output)
-    (head_put args.edition args.list.now named.version-version.ensures
-    (omega (arith, known.type_inv.list 5)) (omega (arith, known.type_inv.list 6)))
+    (head_put args.edition args.list.now c.version-version.ensures
+    (omega (arith, c.type_inv.list 5)) (omega (arith, c.type_inv.list 6)))
     put.ensures

@@ -12,29 +12,23 @@ use Rattle.conversion.proofs.put_record.Goals as goal
 
 pub put_bytes-rest-requires : goal.put_bytes-rest-requires
 put_bytes-rest-requires c =
-    let start = c in
-    let args = start.args in
-    let long = fields_long args.list.now args.i start.requires.1 in
-    omega (arith, long, rest_long args.edition, start.requires.0)
+    let args = c.args in
+    let long = fields_long args.list.now args.i c.requires.1 in
+    omega (arith, long, rest_long args.edition, c.requires.0)
 
 pub put_rest-requires : goal.put_rest-requires
 put_rest-requires c =
-    let putting = c in
-    let start = c in
-    let args = start.args in
-    let long = fields_long args.list.now args.i start.requires.1 in
-    let put = putting.put_bytes-rest in
-    omega (arith, put.ensures.next, put.auto.output, long, rest_long args.edition, start.requires.0)
+    let args = c.args in
+    let long = fields_long args.list.now args.i c.requires.1 in
+    let put = c.put_bytes-rest in
+    omega (arith, put.ensures.next, put.auto.output, long, rest_long args.edition, c.requires.0)
 
 pub returns : goal.returns
 returns c =
-    let resting = c in
-    let putting = c in
-    let start = c in
-    let args = start.args in
-    let long = fields_long args.list.now args.i start.requires.1 in
+    let args = c.args in
+    let long = fields_long args.list.now args.i c.requires.1 in
     let both =
-    put_more putting.put_bytes-rest.ensures resting.put_rest.ensures
-    (omega (arith, long, rest_long args.edition, start.requires.0)) in
+    put_more c.put_bytes-rest.ensures c.put_rest.ensures
+    (omega (arith, long, rest_long args.edition, c.requires.0)) in
     subst (λ (u : List ℕ). Put args.output.now args.at (u ++ encode_rest args.edition 4)
-    resting.put_rest.result resting.put_rest.new.output) (fields_taken args.list.now args.i) both
+    c.put_rest.result c.put_rest.new.output) (fields_taken args.list.now args.i) both

@@ -12,10 +12,9 @@ use Rattle.conversion.proofs.put_rest.Goals as goal
 
 pub put_bytes-requires : goal.put_bytes-requires
 put_bytes-requires c =
-    let start = c in
     let room =
-    subst (λ (e : Edition). start.args.at + length (encode_rest e 4) ≤ length start.args.output.now)
-    c.in-Second.is start.requires in
+    subst (λ (e : Edition). c.args.at + length (encode_rest e 4) ≤ length c.args.output.now)
+    c.in-Second.is c.requires in
     omega (arith, room)
 
 pub returns-in-First : goal.returns-in-First
@@ -26,9 +25,7 @@ returns-in-First c =
 
 pub returns-in-Second : goal.returns-in-Second
 returns-in-Second c =
-    let putting = c in
-    let told = c in
-    let args = told.args in
-    let r = putting.put_bytes.result in
-    subst (λ (e : Edition). Put args.output.now args.at (encode_rest e 4) r putting.put_bytes.new.output)
-    (sym told.in-Second.is) putting.put_bytes.ensures
+    let args = c.args in
+    let r = c.put_bytes.result in
+    subst (λ (e : Edition). Put args.output.now args.at (encode_rest e 4) r c.put_bytes.new.output)
+    (sym c.in-Second.is) c.put_bytes.ensures

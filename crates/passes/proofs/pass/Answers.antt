@@ -11,12 +11,9 @@ returns-then-refusal-ne0 c = refused_by _ c.refusal_of-refusal.ensures c.if-refu
 
 pub treat-requires : goal.treat-requires
 treat-requires c =
-    let tested = c in
-    let fine = accepted _ _ _ (sym tested.refusal_of-refusal.ensures ∙ tested.if-refusal-ne0.false) in
+    let fine = accepted _ _ _ (sym c.refusal_of-refusal.ensures ∙ c.if-refusal-ne0.false) in
     (fine.0, ordered _ fine.1)
 
 pub returns : goal.returns
 returns c =
-    let treated = c in
-    let tested = c in
-    done_by (sym tested.refusal_of-refusal.ensures ∙ tested.if-refusal-ne0.false) treated.treat.ensures
+    done_by (sym c.refusal_of-refusal.ensures ∙ c.if-refusal-ne0.false) c.treat.ensures

@@ -19,18 +19,15 @@ mark_section-requires c =
 
 pub treat_section-t-requires : goal.treat_section-t-requires
 treat_section-t-requires c =
-    let marked = c in
     let args = c.args in
     let M = subst (Marked args.pass args.plane.now args.marks.now _)
-    marked.pixels-n.ensures marked.mark_section.ensures in
+    c.pixels-n.ensures c.mark_section.ensures in
     marked_section c.requires.0 c.requires.1 M
     ((λ e. absurd (omega arith)), (λ e. absurd (omega arith)))
 
 pub returns : goal.returns
 returns c =
-    let treated = c in
-    let marked = c in
     let args = c.args in
     let M = subst (Marked args.pass args.plane.now args.marks.now _)
-    marked.pixels-n.ensures marked.mark_section.ensures in
-    over (pass_neighbours args.shape) M treated.treat_section-t.ensures.treated
+    c.pixels-n.ensures c.mark_section.ensures in
+    over (pass_neighbours args.shape) M c.treat_section-t.ensures.treated

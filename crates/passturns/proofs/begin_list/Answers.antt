@@ -15,8 +15,7 @@ returns-then-lent-ne0 c =
 pub returns-then-head-ne0 : goal.returns-then-head-ne0
 returns-then-head-ne0 c =
     let some = c.if-head-ne0.true in
-    let tested = c in
-    let lent = sym tested.lent_refusal-lent.ensures ∙ tested.if-lent-ne0.false in
+    let lent = sym c.lent_refusal-lent.ensures ∙ c.if-lent-ne0.false in
     c.stop-then-head-ne0.ensures ∙ stopped_begun _ (passes_on lent c.head_refusal-head.ensures) some
 
 pub count_of-requires : goal.count_of-requires
@@ -24,8 +23,6 @@ count_of-requires c = headed_long _ (sym c.head_refusal-head.ensures ∙ c.if-he
 
 pub returns : goal.returns
 returns c =
-    let read = c in
-    let tested = c in
-    let lent = sym tested.lent_refusal-lent.ensures ∙ tested.if-lent-ne0.false in
-    let head = sym read.head_refusal-head.ensures ∙ c.if-head-ne0.false in
+    let lent = sym c.lent_refusal-lent.ensures ∙ c.if-lent-ne0.false in
+    let head = sym c.head_refusal-head.ensures ∙ c.if-head-ne0.false in
     c.start.ensures ∙ ap started c.count_of.ensures ∙ started_begun _ (▷_both _ _ lent head)

@@ -16,20 +16,17 @@ treat-counts-requires c =
 
 pub overflow_add-result-2 : goal.overflow_add-result-2
 overflow_add-result-2 c =
-    let treated = c in
-    let same = ap (λ (e : Effect). e.retoned) treated.treat-counts.ensures.effect_is in
+    let same = ap (λ (e : Effect). e.retoned) c.treat-counts.ensures.effect_is in
     omega (arith, same, c.requires.1.room.0)
 
 pub overflow_add-result-3 : goal.overflow_add-result-3
 overflow_add-result-3 c =
-    let treated = c in
-    let same = ap (λ (e : Effect). e.kept) treated.treat-counts.ensures.effect_is in
+    let same = ap (λ (e : Effect). e.kept) c.treat-counts.ensures.effect_is in
     omega (arith, same, c.requires.1.room.1)
 
 pub returns : goal.returns
 returns c =
-    let treated = c in
-    let over = treated.treat-counts.ensures in
+    let over = c.treat-counts.ensures in
     let s : Progress = c.args.s in
     record {
       state_is = ap (λ (e : Effect). record {

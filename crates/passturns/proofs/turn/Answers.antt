@@ -17,15 +17,11 @@ checked-turn {z} {k} {p} {s} {plane = plane} {marks = marks} {queue = queue} e f
 
 pub step-requires : goal.step-requires
 step-requires c =
-    let tested = c in
-    let start = c in
-    (start.requires.0, start.requires.1 tested.if-s.true)
+    (c.requires.0, c.requires.1 c.if-s.true)
 
 pub returns-then-s : goal.returns-then-s
 returns-then-s c =
-    let stepped = c in
-    let tested = c in
-    steps tested.if-s.true stepped.step.ensures
+    steps c.if-s.true c.step.ensures
 
 pub returns : goal.returns
 returns c = checked-turn c.check.ensures c.if-s.false

@@ -23,7 +23,8 @@ use Rattle.branches.specs.Branches.{all_told}
 use Rattle.recursion.specs.Recursion.{levels_left, RecursionOutcome}
 use Rattle.recursion.proofs.Root.{root_marks, whole_pass, root_only, root_halves}
 use Rattle.recursion.proofs.run_levels.Goals as goal
-use Rattle.recursion.proofs.run_levels.Goals.{After-counts_of-counts, After-deeper-more, After-levels_left, After-treat_plane-t}
+use Rattle.recursion.proofs.run_levels.Goals.{After-counts_of-counts, After-deeper-more, After-levels_left}
+use Rattle.recursion.proofs.run_levels.Goals.{After-treat_plane-t}
 
 -- ## What is known there
 -- level 0 has the number 1
@@ -47,23 +48,20 @@ next_of-next-requires c =
 
 pub treat_plane-t-requires : goal.treat_plane-t-requires
 treat_plane-t-requires c =
-    let m = c in
-    let s = c in
-    let X = m.next_of-next.ensures in
-    let M = subst (Marked _ s.args.plane.now s.args.marks.now _) m.pixels-n.ensures
-    m.mark_section.ensures in
-    (marked_section s.requires.lent (omega arith) M (next_not X (omega arith)), marked_whole refl refl M)
+    let X = c.next_of-next.ensures in
+    let M = subst (Marked _ c.args.plane.now c.args.marks.now _) c.pixels-n.ensures
+    c.mark_section.ensures in
+    (marked_section c.requires.lent (omega arith) M (next_not X (omega arith)), marked_whole refl refl M)
 
 -- where the plane was treated: it was marked
 marking : (c : After-treat_plane-t) → (
-    let m = c in
     let s = c.args in
-    Marked (whole_pass s.settings) s.plane.now s.marks.now m.mark_section.new.marks
+    Marked (whole_pass s.settings) s.plane.now s.marks.now c.mark_section.new.marks
     (pixels s.shape))
 marking c =
-    let m = c in
-    let n = m.pixels-n in
-    subst (Marked _ c.args.plane.now c.args.marks.now _) n.ensures m.mark_section.ensures
+    let c = c in
+    let n = c.pixels-n in
+    subst (Marked _ c.args.plane.now c.args.marks.now _) n.ensures c.mark_section.ensures
 
 -- no more than 7 levels are left
 few-left : (n : ℕ) (t : Settings) → t.last ≤ 7 → levels_left n t ≤ 7
@@ -73,58 +71,46 @@ levels : (c : After-levels_left) → (
     let s = c.args in
     c.levels_left.result ≡ levels_left (pixels s.shape) s.settings)
 levels c =
-    let m = c in
-    let n = m.pixels-n in
+    let n = c.pixels-n in
     c.levels_left.ensures ∙ ap (λ (n : ℕ). levels_left n c.args.settings) n.ensures
 
 pub counts_of-counts-requires : goal.counts_of-counts-requires
 counts_of-counts-requires c =
-    let v = c in
-    let s = c in
-    let all = small s.requires.lent.size.few s.requires.lent.whole v.treat_plane-t.ensures.treated in
-    let few = few-left (pixels s.args.shape) s.args.settings s.requires.last in
+    let all = small c.requires.lent.size.few c.requires.lent.whole c.treat_plane-t.ensures.treated in
+    let few = few-left (pixels c.args.shape) c.args.settings c.requires.last in
     (all.1.0, (all.1.1, omega (arith, levels (goal.at.counts_of-counts-requires c).After-levels_left, few)))
 
 pub split-halves-requires : goal.split-halves-requires
 split-halves-requires c =
-    let below = c in
-    let v = c in
-    let m = c in
-    let s = c in
-    let X = m.next_of-next.ensures in
+    let X = c.next_of-next.ensures in
     let M = marking (goal.at.split-halves-requires c).After-treat_plane-t in
-    let e = below.if-more.true in
+    let e = c.if-more.true in
     let N = numbered (goal.at.split-halves-requires c).After-deeper-more in (
-      still_ready s.requires (omega (arith, v.treat_plane-t)) (omega (arith, v.treat_plane-t, m.mark_section))
-          (omega (arith, v.treat_plane-t)),
-      next_halves s.args.shape s.args.settings s.requires.lent.whole v.treat_plane-t.ensures
-          (marked_coded M) (root_marks _ M) X.middle (X.halves e) s.requires.area refl refl
+      still_ready c.requires (omega (arith, c.treat_plane-t)) (omega (arith, c.treat_plane-t, c.mark_section))
+          (omega (arith, c.treat_plane-t)),
+      next_halves c.args.shape c.args.settings c.requires.lent.whole c.treat_plane-t.ensures
+          (marked_coded M) (root_marks _ M) X.middle (X.halves e) c.requires.area refl refl
           _ (c.deeper-more.ensures.yes e _ N.k N.wide) N,
     )
 
 -- the counts of level 0
 counts : (c : After-counts_of-counts) → (
-    let v = c in
     let s = c.args in
-    c.counts_of-counts.result ≡ all_told (levels_left (pixels s.shape) s.settings) v.treat_plane-t.result)
+    c.counts_of-counts.result ≡ all_told (levels_left (pixels s.shape) s.settings) c.treat_plane-t.result)
 counts c =
-    let v = c in
-    c.counts_of-counts.ensures ∙ ap (λ (x : ℕ). all_told x v.treat_plane-t.result) (levels c)
+    let c = c in
+    c.counts_of-counts.ensures ∙ ap (λ (x : ℕ). all_told x c.treat_plane-t.result)
+    (c.levels_left.ensures ∙ ap (λ (n : ℕ). levels_left n c.args.settings) c.pixels-n.ensures)
 
 pub plus-requires : goal.plus-requires
 plus-requires c =
-    let divided = c in
-    let below = c in
-    let v = c in
-    let m = c in
-    let s = c in
-    let lent = s.requires.lent in
+    let lent = c.requires.lent in
     let N = numbered (goal.at.plus-requires c).After-deeper-more in
-    let some = c.deeper-more.ensures.yes below.if-more.true _ N.k N.wide in
+    let some = c.deeper-more.ensures.yes c.if-more.true _ N.k N.wide in
     let here = told_few lent.size.few lent.whole
-    (few-left (pixels s.args.shape) s.args.settings s.requires.last) v.treat_plane-t.ensures.treated in
-    let halves = halves_few _ some N (omega (arith, v.treat_plane-t, lent.whole)) lent.size.few
-    divided.split-halves.ensures in
+    (few-left (pixels c.args.shape) c.args.settings c.requires.last) c.treat_plane-t.ensures.treated in
+    let halves = halves_few _ some N (omega (arith, c.treat_plane-t, lent.whole)) lent.size.few
+    c.split-halves.ensures in
     let told = counts (goal.at.plus-requires c).After-counts_of-counts in
     let spans : c.sections-span.result * 1048576 ≤ 255 * 1048576 = omega (arith, N.fits, N.real) in (
       omega (arith, here.0, halves.0, ap (λ (x : Counts). x.retoned) told),
@@ -133,45 +119,37 @@ plus-requires c =
 
 pub shape_of-marks-then-more : goal.shape_of-marks-then-more
 shape_of-marks-then-more c =
-    let divided = c in
-    let v = c in
-    omega (arith, divided.split-halves, v.treat_plane-t, c.mark_section)
+    omega (arith, c.split-halves, c.treat_plane-t, c.mark_section)
 
 pub returns-then-more : goal.returns-then-more
 returns-then-more c =
-    let divided = c in
-    let below = c in
-    let v = c in
-    let m = c in
-    let s = c in
-    let z = s.args.shape in
-    let whole = whole_pass s.args.settings in
+    let z = c.args.shape in
+    let whole = whole_pass c.args.settings in
     let M = marking (goal.at.returns-then-more c).After-treat_plane-t in
     let N = numbered (goal.at.returns-then-more c).After-deeper-more in
-    let X = m.next_of-next.ensures in
-    let e = below.if-more.true in
+    let X = c.next_of-next.ensures in
+    let e = c.if-more.true in
     let some = c.deeper-more.ensures.yes e _ N.k N.wide in
-    let lent = s.requires.lent in
+    let lent = c.requires.lent in
     let pixel = mul-le-mul lent.size.wide lent.size.high in
     let ones = marked_whole refl refl M in
     let sizes = whole_size (pass_sym z whole) lent.whole (marked_coded M) pixel (ones 0 pixel)
     (whole_plane z whole 1 _ lent.size.wide ones) in
-    let left = next_gone z s.args.settings lent.whole v.treat_plane-t.ensures
-    (marked_coded M) (root_marks _ M) X.middle (X.halves e) s.requires.area refl refl _ some N in
-    let R = root_halves z s.args.settings M v.treat_plane-t.ensures.treated some s.requires.last lent.whole
-    pixel sizes left divided.split-halves.ensures in
-    subst (RecursionOutcome z s.args.settings s.args.plane.now s.args.marks.now s.args.queue.now
-    divided.split-halves.new.plane divided.split-halves.new.marks divided.split-halves.new.queue)
-    (sym (c.plus.ensures ∙ ap (λ (x : Counts). sums x divided.split-halves.result) (counts (goal.at.returns-then-more c).After-counts_of-counts))) R
+    let left = next_gone z c.args.settings lent.whole c.treat_plane-t.ensures
+    (marked_coded M) (root_marks _ M) X.middle (X.halves e) c.requires.area refl refl _ some N in
+    let R = root_halves z c.args.settings M c.treat_plane-t.ensures.treated some c.requires.last lent.whole
+    pixel sizes left c.split-halves.ensures in
+    subst (RecursionOutcome z c.args.settings c.args.plane.now c.args.marks.now c.args.queue.now
+    c.split-halves.new.plane c.split-halves.new.marks c.split-halves.new.queue)
+    (sym (c.plus.ensures ∙ ap (λ (x : Counts). sums x c.split-halves.result) (counts
+        (goal.at.returns-then-more c).After-counts_of-counts))) R
 
 pub returns : goal.returns
 returns c =
-    let v = c in
-    let m = c in
-    let s = c in
     let N = numbered (goal.at.returns c).After-deeper-more in
-    let R = root_only s.args.shape s.args.settings (marking (goal.at.returns c).After-treat_plane-t) v.treat_plane-t.ensures.treated
+    let R = root_only c.args.shape c.args.settings (marking
+        (goal.at.returns c).After-treat_plane-t) c.treat_plane-t.ensures.treated
     (c.deeper-more.ensures.none c.if-more.false _ N.k N.wide) in
-    subst (RecursionOutcome s.args.shape s.args.settings s.args.plane.now s.args.marks.now
-    s.args.queue.now v.treat_plane-t.new.plane v.treat_plane-t.new.marks v.treat_plane-t.new.queue)
+    subst (RecursionOutcome c.args.shape c.args.settings c.args.plane.now c.args.marks.now
+    c.args.queue.now c.treat_plane-t.new.plane c.treat_plane-t.new.marks c.treat_plane-t.new.queue)
     (sym (counts (goal.at.returns c).After-counts_of-counts)) R
