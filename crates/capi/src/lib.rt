@@ -10,6 +10,7 @@
 // mlhe_read           0: width, height and the raster's offset are in the lent numbers
 // mlhe_write          the number of bytes written
 #![tactic(auto)]
+
 ghost use Rattle.colours.specs.Calls.{IntensityOutcome, RecolourOutcome};
 ghost use Rattle.netpbm.specs.Writing.{WriteOutcome};
 ghost use Rattle.conversion.specs.Conversion.{ConvertOutcome};

@@ -2,6 +2,7 @@
 // of the cases and of the lines is described at the head of reference/src/cases.rs. What is printed is tested and not
 // proved.
 #![tactic(auto)]
+
 pub mod head;
 pub mod lines;
 pub mod memory;

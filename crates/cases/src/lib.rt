@@ -7,6 +7,7 @@
 // have exactly the lengths that the case names. (Where there is less room, a part has what there is, and the line shows
 // it.) The run ends with the input. What is read and printed is tested and not proved.
 #![tactic(auto)]
+
 mod calls;
 mod records;
 

@@ -9,6 +9,7 @@
 // pass_form_refusal                1 to 4, 17
 // enhance_form_refusal             1, 2, 3, 4, 14, 17
 #![tactic(auto)]
+
 ghost use Rattle.std.specs.Prelude.{◌≡◌, ◌≤◌, length};
 ghost use Rattle.planes.specs.Refusals.{◌▷◌};
 ghost use Rattle.planes.specs.Shapes.{lent_refusal};

@@ -3,6 +3,7 @@
 // Settings   the last level, the least area, the tone rule and the number of neighbours, with the house setting
 // enhance    enhances a frame: refusals 1, 2, 3, 4, 14, 9, 6, 7, 8, 18, 19
 #![tactic(auto)]
+
 ghost use Rattle.std.specs.Prelude.{◌≡◌, length};
 ghost use Rattle.planes.specs.Refusals.{◌▷◌};
 ghost use Rattle.model.specs.Outcomes.{answer_reply};

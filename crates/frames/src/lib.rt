@@ -3,6 +3,7 @@
 // program_output   the enhanced frame, or the line of a refusal
 // mlhe_program     the same for callers in C and Rust, in `export`
 #![tactic(auto)]
+
 ghost use Rattle.printing.specs.Printing.{Emitted};
 ghost use Rattle.frames.specs.Program.{program_output};
 

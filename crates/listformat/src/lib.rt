@@ -8,6 +8,7 @@
 // pass_at          the pass of a record
 // form_refusal     17 for a record that stands for no pass, or 0
 #![tactic(auto)]
+
 ghost use Rattle.std.specs.Prelude.{◌≡◌, ◌+◌, ◌≤◌, ◌<◌, length};
 ghost use Rattle.listformat.specs.Format.{version, record_length, fields_length, number16, number32, head_length};
 ghost use Rattle.listformat.specs.Format.{record_start, count_of, edition_of, numbers_at, neighbours_at, pass_at};

@@ -7,6 +7,7 @@
 // refusal is told by the first bytes `refused `, with which no frame begins. Writing to a pipe that nobody reads ends
 // the program by the system's signal.
 #![tactic(auto)]
+
 use libc::{STDERR_FILENO, STDIN_FILENO, STDOUT_FILENO};
 
 // One byte more than an input may have, so that a longer one is seen to be longer.

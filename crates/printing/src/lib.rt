@@ -3,6 +3,7 @@
 // put_refusal    `refused N` and LF
 // put_enhanced   a frame, enhanced with the house setting
 #![tactic(auto)]
+
 ghost use Rattle.std.specs.Prelude.{drop};
 ghost use Rattle.netpbm.specs.Frames.{IsFrame};
 ghost use Rattle.printing.specs.Printing.{greatest_frame, refusal_line, enhanced_frame, Emitted};

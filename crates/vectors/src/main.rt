@@ -1,5 +1,6 @@
 // Answers the stored test cases on standard input, one line each.
 #![tactic(auto)]
+
 fn main() {
     cases::run_cases();
 }
