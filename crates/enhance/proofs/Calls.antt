@@ -8,7 +8,7 @@ use lib.ListN.{length}
 use lib.Pow.{pow_pos}
 use borrow.Author.Tests.{le-ltb}
 use Rattle.planes.specs.Lists.{from}
-use Rattle.planes.specs.Refusals.{◌▷◌, length_refusal, room_refusal}
+use Rattle.planes.specs.Refusals.{length_refusal, room_refusal}
 use Rattle.planes.specs.Replies.{Reply, after, overwritten}
 use Rattle.planes.specs.Shapes.{pixels, SizedShape, shape_refusal, lent_refusal}
 use Rattle.planes.specs.declared.Shape.{Shape}
@@ -16,7 +16,7 @@ use Rattle.planes.proofs.Refusals.{▷_none, ▷_both, length_fits, room_fits, o
 use Rattle.planes.proofs.Shapes.{shape_fits, lent_none}
 use Rattle.tones.specs.declared.Rule.{Rule}
 use Rattle.colours.specs.Frames.{intensity, recolour}
-use Rattle.colours.specs.Calls.{intensity_refusal, Accepted, IntensityOutcome, RecolourOutcome}
+use Rattle.colours.specs.Calls.{intensity_refusal, IntensityOutcome, RecolourOutcome}
 use Rattle.colours.proofs.Frames.{length_intensity}
 use Rattle.colours.proofs.Calls.{intensity_accepts, recolour_accepts, recolour_given}
 use Rattle.model.specs.declared.Pass.{Pass}
