@@ -1,8 +1,8 @@
 /*
  * Morpho-local histogram equalisation (MLHE) of frames: the library's C functions.
  *
- * The library is libmlhe.a, for x86-64 Linux: what `rt staticlib capi` writes to target/staticlib/libcapi.a, under the
- * name to link it by. `make -C examples/c install PREFIX=/folder` puts header and library into /folder/include and
+ * The library is libmlhe.a, for x86-64 Linux: what `tools/staticlib capi` writes to target/staticlib/libcapi.a, under
+ * the name to link it by. `make -C examples/c install PREFIX=/folder` puts header and library into /folder/include and
  * /folder/lib; a program is then built with -I/folder/include -L/folder/lib -lmlhe, and needs nothing else. Every
  * function is proved to meet the contract that crates/capi states, and this page says the same in words.
  *

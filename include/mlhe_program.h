@@ -1,7 +1,7 @@
 /*
  * The program as a C function: what it writes to standard output for what it reads from standard input.
  *
- * This function is not in libmlhe.a. `rt staticlib frames` writes target/staticlib/libframes.a, which has it and
+ * This function is not in libmlhe.a. `tools/staticlib frames` writes target/staticlib/libframes.a, which has it and
  * nothing else; a program may link both libraries. It serves to test the program (tests/hostile). For frames, mlhe.h
  * has the calls: they tell refusals apart by number, leave the plane, and take larger frames.
  */

@@ -1,7 +1,8 @@
 #!/usr/bin/env bash
 # Runs the program on every file of the corpus. Each answer is the one that the manifest names, and byte for byte that
 # of the second implementation. Inputs at the limit of length, one that arrives in pieces, and an output that cannot be
-# written follow. Proves and builds the program first, unless nothing has changed since.
+# written follow. Proves and builds the program first, unless nothing has changed since or MLHE_PROGRAM=path/to/mlhe
+# names one that is there.
 set -euo pipefail
 cd "$(dirname "$0")/.."
 # shellcheck source=tests/common.sh
@@ -13,12 +14,16 @@ column=expected_after_request_1
 out=target/corpus
 mkdir -p "$out"
 export CARGO_TARGET_DIR=$PWD/target/cargo
-program=target/bin/mlhe
+program=${MLHE_PROGRAM:-crates/mlhe/out/mlhe}
 reference=target/cargo/release/program
 manifest=tests/corpus/MANIFEST.tsv
 
-rt check mlhe > "$out/check.log" 2>&1 ||
-    { cat "$out/check.log" && tools/next "$out/check.log" mlhe && fail "mlhe is not proved"; }
+if [ -z "${MLHE_PROGRAM:-}" ]; then
+    log=$PWD/$out/check.log
+    (cd crates/mlhe && rt run < stdin) 2> "$log" > "$out/answer" ||
+        { cat "$log" && tools/next "$log" mlhe && fail "mlhe is not proved"; }
+    cmp "$out/answer" crates/mlhe/stdout || fail "the program's stored run"
+fi
 cargo build --quiet --release --locked -p mlhe_reference
 
 # prints the name, length and expected answer of each file, separated by tabs

@@ -1,5 +1,5 @@
 //! Nothing in the languages holds the declarations of the C functions against their source. This does: the functions of
-//! `crates/capi`, `include/mlhe.h` and `src/ffi.rs` have the same names, parameters and types, in the same order, and
+//! `crates/capi_c`, `include/mlhe.h` and `src/ffi.rs` have the same names, parameters and types, in the same order, and
 //! the house setting has the same numbers in `crates/levels`, `include/mlhe.h` and `src/settings.rs`. Header and crate
 //! have the same version, refusals, reasons, sizes, rules, neighbours and counts.
 
@@ -43,7 +43,7 @@ fn number_type(rust: &str) -> &'static str {
 
 /// A slice is a pointer and its length.
 fn of_rattle() -> Functions {
-    let text = text("crates/capi/src/lib.rt");
+    let text = text("crates/capi_c/src/lib.rt");
     let mut functions = Functions::new();
     for (name, parameters) in parameter_lists(&text, "pub extern \"C\" fn ") {
         let mut listed = Vec::new();
@@ -104,10 +104,36 @@ fn the_declarations_agree() {
     assert_eq!(rattle, of_rust());
 }
 
+/// From each function's name to its body: parameters, type and contract.
+fn contracts(name: &str, mark: &str) -> BTreeMap<String, String> {
+    let text = text(name);
+    let heads = text.split(mark).skip(1);
+    let split = |head: &str| {
+        let (signature, _) = head.split_once("\n{\n").expect("a body");
+        let words = signature.split_whitespace().collect::<Vec<_>>().join(" ").replace("( ", "(").replace(", )", ")");
+        (words.split('(').next().expect("a name").to_string(), words)
+    };
+    heads.map(split).collect()
+}
+
+/// What is exported has the signatures and the contracts of the libraries' functions, which are those that the claims
+/// speak of.
+#[test]
+fn the_exports_have_the_contracts_of_the_library() {
+    let export = "pub extern \"C\" fn ";
+    let exported = contracts("crates/capi_c/src/lib.rt", export);
+    assert_eq!(exported.len(), 8);
+    assert!(exported.values().all(|words| words.contains("ensures {")));
+    assert_eq!(exported, contracts("crates/capi/src/lib.rt", "pub fn "));
+    let exported = contracts("crates/frames_c/src/lib.rt", export);
+    assert_eq!(exported.len(), 1);
+    assert_eq!(exported, contracts("crates/frames/src/export.rt", "pub fn "));
+}
+
 /// The program's function, which another library has.
 #[test]
 fn the_declarations_of_the_program_agree() {
-    let rattle = text("crates/frames/src/export.rt");
+    let rattle = text("crates/frames_c/src/lib.rt");
     assert!(rattle.contains("fn mlhe_program(input: &[u8], output: &mut [u8; 65536]) -> usize\n"));
     let header = text("include/mlhe_program.h");
     assert!(header.contains("\nsize_t mlhe_program(const uint8_t *input, size_t input_length, uint8_t *output);\n"));

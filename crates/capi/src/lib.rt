@@ -1,5 +1,5 @@
-// The library's calls for C and Rust callers: numbers and slices only. A slice is a pointer and then a length. Every
-// function answers one signed number, a refusal k as -k; include/mlhe.h describes each for its callers.
+// The library's calls for C and Rust callers: numbers and slices only. Every function answers one signed number, a
+// refusal k as -k; include/mlhe.h describes each for its callers, to whom the crate `capi_c` exports them.
 //
 // mlhe_intensity      0: the plane holds the intensities of the frame
 // mlhe_pass           0: both counts are in the lent numbers
@@ -23,8 +23,7 @@ use netpbm::Header;
 use planes::Shape;
 
 // Fills the plane with the intensities of the frame.
-#[unsafe(no_mangle)]
-pub extern "C" fn mlhe_intensity(frame: &[u8], w: usize, h: usize, plane: &mut [u8]) -> i64
+pub fn mlhe_intensity(frame: &[u8], w: usize, h: usize, plane: &mut [u8]) -> i64
     ensures { IntensityOutcome w h frame.now plane.old (done_reply result)
         plane.new }
 {
@@ -32,14 +31,7 @@ pub extern "C" fn mlhe_intensity(frame: &[u8], w: usize, h: usize, plane: &mut [
 }
 
 // Writes the frame, recoloured from the new intensities in the plane, to the output.
-#[unsafe(no_mangle)]
-pub extern "C" fn mlhe_recolour(
-    frame: &[u8],
-    w: usize,
-    h: usize,
-    plane: &[u8],
-    output: &mut [u8],
-) -> i64
+pub fn mlhe_recolour(frame: &[u8], w: usize, h: usize, plane: &[u8], output: &mut [u8]) -> i64
     ensures { RecolourOutcome w h frame.now plane.now output.old
         (done_reply result) output.new }
 {
@@ -47,8 +39,7 @@ pub extern "C" fn mlhe_recolour(
 }
 
 // A pass over the plane.
-#[unsafe(no_mangle)]
-pub extern "C" fn mlhe_pass(
+pub fn mlhe_pass(
     plane: &mut [u8],
     marks: &mut [u8],
     queue: &mut [u32],
@@ -92,8 +83,7 @@ pub extern "C" fn mlhe_pass(
 }
 
 // The passes of a list over the plane.
-#[unsafe(no_mangle)]
-pub extern "C" fn mlhe_run_list(
+pub fn mlhe_run_list(
     list: &[u8],
     plane: &mut [u8],
     marks: &mut [u8],
@@ -118,8 +108,7 @@ pub extern "C" fn mlhe_run_list(
 }
 
 // Writes a list in the other version.
-#[unsafe(no_mangle)]
-pub extern "C" fn mlhe_convert_list(list: &[u8], output: &mut [u8]) -> i64
+pub fn mlhe_convert_list(list: &[u8], output: &mut [u8]) -> i64
     ensures { ConvertOutcome list.now output.old (number_reply result)
         output.new }
 {
@@ -127,8 +116,7 @@ pub extern "C" fn mlhe_convert_list(list: &[u8], output: &mut [u8]) -> i64
 }
 
 // Enhances the frame.
-#[unsafe(no_mangle)]
-pub extern "C" fn mlhe_enhance(
+pub fn mlhe_enhance(
     frame: &[u8],
     w: usize,
     h: usize,
@@ -175,8 +163,7 @@ pub extern "C" fn mlhe_enhance(
 }
 
 // Reads the header of a frame.
-#[unsafe(no_mangle)]
-pub extern "C" fn mlhe_read(bytes: &[u8], numbers: &mut [usize]) -> i64
+pub fn mlhe_read(bytes: &[u8], numbers: &mut [usize]) -> i64
     ensures { ReadNumber bytes.now numbers.old result numbers.new }
 {
     let header = netpbm::read(bytes);
@@ -187,8 +174,7 @@ pub extern "C" fn mlhe_read(bytes: &[u8], numbers: &mut [usize]) -> i64
 }
 
 // Writes a frame.
-#[unsafe(no_mangle)]
-pub extern "C" fn mlhe_write(raster: &[u8], w: usize, h: usize, output: &mut [u8]) -> i64
+pub fn mlhe_write(raster: &[u8], w: usize, h: usize, output: &mut [u8]) -> i64
     ensures { WriteOutcome raster.now w h output.old (number_reply result)
         output.new }
 {

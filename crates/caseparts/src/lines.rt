@@ -1,91 +1,92 @@
-// The parts of a line, printed to standard output.
+// The parts of a line, written to an output.
 use colours::Status;
 use model::{Answer, Counts};
 use netpbm::Header;
+use std::io;
+use std::io::Write;
 use texts::Written;
 
 // Ends a line.
-pub fn end() {
-    io::write_all(1, b"\n");
+pub fn end<W: Write>(out: &mut W) -> io::Result<()> {
+    out.write_all(b"\n")
 }
 
 // A space before the next part.
-fn space() {
-    io::write_all(1, b" ");
+fn space<W: Write>(out: &mut W) -> io::Result<()> {
+    out.write_all(b" ")
 }
 
 // The number of an accepted call.
-fn accepted(number: u64) {
-    io::write_all(1, b"+");
-    io::print_decimal(1, number);
+fn accepted<W: Write>(out: &mut W, number: u64) -> io::Result<()> {
+    write!(out, "+{number}")
 }
 
 // The number of a refusal.
-fn refused(number: u8) {
-    io::write_all(1, b"-");
-    io::print_decimal(1, number as u64);
+fn refused<W: Write>(out: &mut W, number: u8) -> io::Result<()> {
+    write!(out, "-{number}")
 }
 
 // A count after a space.
-pub fn count(number: usize) {
-    space();
-    io::print_decimal(1, number as u64);
+pub fn count<W: Write>(out: &mut W, number: usize) -> io::Result<()> {
+    space(out)?;
+    write!(out, "{number}")
 }
 
 // A byte in two hexadecimal digits.
-fn byte(byte: u8) {
-    io::print_hex(1, byte as u64, 2);
+fn byte<W: Write>(out: &mut W, byte: u8) -> io::Result<()> {
+    write!(out, "{byte:02x}")
 }
 
 // Bytes in hexadecimal digits, after a space.
-pub fn bytes(bytes: &[u8]) {
-    space();
+pub fn bytes<W: Write>(out: &mut W, bytes: &[u8]) -> io::Result<()> {
+    space(out)?;
     for i in 0..bytes.len() {
-        byte(bytes[i]);
+        byte(out, bytes[i])?;
     }
+    Ok(())
 }
 
 // What a pass, a list or an enhancement answers.
-pub fn answer(answer: Answer) {
+pub fn answer<W: Write>(out: &mut W, answer: Answer) -> io::Result<()> {
     match answer {
-        Answer::Done(counts) => both(counts),
-        Answer::Refused(number) => refused(number),
+        Answer::Done(counts) => both(out, counts),
+        Answer::Refused(number) => refused(out, number),
     }
 }
 
 // How many components were retoned, and how many kept back.
-fn both(counts: Counts) {
-    accepted(counts.retoned as u64);
-    count(counts.kept as usize);
+fn both<W: Write>(out: &mut W, counts: Counts) -> io::Result<()> {
+    accepted(out, counts.retoned as u64)?;
+    count(out, counts.kept as usize)
 }
 
 // What intensity and recolouring answer.
-pub fn status(status: Status) {
+pub fn status<W: Write>(out: &mut W, status: Status) -> io::Result<()> {
     match status {
-        Status::Done => accepted(0),
-        Status::Refused(number) => refused(number),
+        Status::Done => accepted(out, 0),
+        Status::Refused(number) => refused(out, number),
     }
 }
 
 // What the reader answers.
-pub fn header(header: Header) {
+pub fn header<W: Write>(out: &mut W, header: Header) -> io::Result<()> {
     match header {
-        Header::Frame { w, h, offset } => frame(w, h, offset),
-        Header::Refused(number) => refused(number),
+        Header::Frame { w, h, offset } => frame(out, w, h, offset),
+        Header::Refused(number) => refused(out, number),
     }
 }
 
 // A frame that was read.
-fn frame(w: usize, h: usize, offset: usize) {
-    accepted(w as u64);
-    count(h);
-    count(offset);
+fn frame<W: Write>(out: &mut W, w: usize, h: usize, offset: usize) -> io::Result<()> {
+    accepted(out, w as u64)?;
+    count(out, h)?;
+    count(out, offset)
 }
 
 // What the writer answers.
-pub fn written(written: Written) {
+pub fn written<W: Write>(out: &mut W, written: Written) -> io::Result<()> {
     match written {
-        Written::Length(length) => accepted(length as u64),
-        Written::Refused(number) => refused(number),
+        Written::Length(length) => accepted(out, length as u64),
+        Written::Refused(number) => refused(out, number),
     }
 }

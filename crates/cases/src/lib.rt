@@ -13,6 +13,8 @@ mod records;
 
 use caseparts::head::{Case, HEAD};
 use caseparts::{head, lines, parts};
+use std::io;
+use std::io::{BufReader, BufWriter, Read, Write};
 
 // Room for a case's bytes and for its plane.
 const BYTES: usize = 16416;
@@ -30,20 +32,20 @@ enum Left {
 }
 
 // Makes the call of a case. Other kinds of cases are not run here; their line is empty.
-fn answer(case: Case, bytes: &[u8], plane: &mut [u8]) {
+fn answer<W: Write>(out: &mut W, case: Case, bytes: &[u8], plane: &mut [u8]) -> io::Result<()> {
     let kind = case.kind;
     match kind {
-        0 => calls::intensity(case, bytes, plane),
-        1 => calls::pass(case, plane),
-        2 => calls::recolour(case, bytes, plane),
-        3 => calls::enhance(case, bytes, plane),
-        4 => calls::list(case, bytes, plane),
-        5 => calls::passes(case, bytes, plane),
-        6 => calls::read(case, bytes),
-        7 => calls::write(case, bytes),
-        9 => calls::house(case, bytes, plane),
-        10 => calls::convert(case, bytes),
-        _ => lines::end(),
+        0 => calls::intensity(out, case, bytes, plane),
+        1 => calls::pass(out, case, plane),
+        2 => calls::recolour(out, case, bytes, plane),
+        3 => calls::enhance(out, case, bytes, plane),
+        4 => calls::list(out, case, bytes, plane),
+        5 => calls::passes(out, case, bytes, plane),
+        6 => calls::read(out, case, bytes),
+        7 => calls::write(out, case, bytes),
+        9 => calls::house(out, case, bytes, plane),
+        10 => calls::convert(out, case, bytes),
+        _ => lines::end(out),
     }
 }
 
@@ -53,43 +55,65 @@ fn plane_length(case: Case, left: usize) -> usize {
 }
 
 // Reads the bytes and the plane of a case and answers it. The length of the plane that it leaves.
-fn answer_next(case: Case, plane: &mut [u8], left: usize) -> usize {
+fn answer_next<R: Read, W: Write>(
+    input: &mut R,
+    out: &mut W,
+    case: Case,
+    plane: &mut [u8],
+    left: usize,
+) -> io::Result<usize> {
     let mut room = [0u8; BYTES];
-    io::read_full(0, parts::front(&mut room, case.bytes));
-    io::read_full(0, parts::front(plane, case.plane));
+    inputs::read_full(input, parts::front(&mut room, case.bytes));
+    inputs::read_full(input, parts::front(plane, case.plane));
     let length = plane_length(case, left);
     answer(
+        out,
         case,
         parts::front_shared(&room, case.bytes),
         parts::front(plane, length),
-    );
-    length
+    )?;
+    Ok(length)
 }
 
 // Reads the head of a case and answers the case.
-fn next(plane: &mut [u8], left: usize) -> Left {
+fn next<R: Read, W: Write>(
+    input: &mut R,
+    out: &mut W,
+    plane: &mut [u8],
+    left: usize,
+) -> io::Result<Left> {
     let mut bytes = [0u8; HEAD];
-    let got = io::read_full(0, &mut bytes);
+    let got = inputs::read_full(input, &mut bytes);
     if got < HEAD {
-        return Left::Nothing;
+        return Ok(Left::Nothing);
     }
     let case = head::case_of(&bytes);
-    Left::Plane(answer_next(case, plane, left))
+    let length = answer_next(input, out, case, plane, left)?;
+    Ok(Left::Plane(length))
 }
 
-// Answers all cases on standard input.
-pub fn run_cases() {
+// Answers all cases of the input.
+fn answer_all<R: Read, W: Write>(input: &mut R, out: &mut W) -> io::Result<()> {
     let mut plane = [0u8; PLANE];
     let mut left = 0;
     for _ in 0..CASES {
-        let now_left = next(&mut plane, left);
+        let now_left = next(input, out, &mut plane, left)?;
         match now_left {
             Left::Plane(length) => {
                 left = length;
             }
             Left::Nothing => {
-                return;
+                return Ok(());
             }
         }
     }
+    Ok(())
+}
+
+// Answers all cases on standard input.
+pub fn run_cases(rt: &(impl Input + Print + Alloc)) -> io::Result<()> {
+    let mut input = BufReader::new(rt.alloc(), rt.reader())?;
+    let mut out = BufWriter::new(rt.alloc(), io::writer(rt))?;
+    answer_all(&mut input, &mut out)?;
+    out.flush()
 }

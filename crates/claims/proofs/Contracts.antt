@@ -1,6 +1,6 @@
 -- The contracts as the crates declare them give the records of the claims: each is that record, and asks nothing.
 -- Assumes nothing.
-use Rattle.claims.specs.Contracts.{Contracts, CContracts}
+use Rattle.claims.specs.CallContracts.{Contracts, CContracts}
 
 pub contracts : Contracts
 contracts = record {

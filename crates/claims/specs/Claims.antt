@@ -1,7 +1,7 @@
 -- The demands on the library, stated in terms of the very records that the public calls ensure. Open this file first.
 -- That every call ends on every input is part of what it means that a function is proved; that the calls' contracts, as
--- their crates declare them, give these records is stated in Contracts.antt, and what C callers get in CFunctions.antt.
--- Definitions only.
+-- their crates declare them, give these records is stated in CallContracts.antt, and what C callers get in
+-- CFunctions.antt. Definitions only.
 --
 -- Glossary
 --   plane              the list of its pixels' values in reading order; a pixel is its index (planes/specs/Lists)

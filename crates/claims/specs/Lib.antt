@@ -1,4 +1,4 @@
 pub mod Before
 pub mod Claims
 pub mod CFunctions
-pub mod Contracts
+pub mod CallContracts

@@ -1,7 +1,7 @@
 // The program without its input and output: from the bytes that it read to the bytes that it writes.
 //
 // program_output   the enhanced frame, or the line of a refusal
-// mlhe_program     the same for callers in C and Rust, in `export`
+// mlhe_program     the same under the name that callers in C and Rust have
 #![tactic(auto)]
 
 ghost use Rattle.printing.specs.Printing.{Emitted};
@@ -9,6 +9,7 @@ ghost use Rattle.frames.specs.Program.{program_output};
 
 mod export;
 
+pub use export::mlhe_program;
 use netpbm::Header;
 use planes::refused;
 pub use printing::{OUTPUT, PIXELS};

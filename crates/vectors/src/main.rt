@@ -1,6 +1,8 @@
 // Answers the stored test cases on standard input, one line each.
 #![tactic(auto)]
 
-fn main() {
-    cases::run_cases();
+use std::io;
+
+fn main(rt: HostRuntime) -> io::Result<()> {
+    cases::run_cases(&rt)
 }
