@@ -6,11 +6,6 @@
 // is dropped, and a line on standard error says so; a pipe that nobody reads is such an output. The exit status is 0 in
 // all these cases: a refusal is told by the first bytes `refused `, with which no frame begins.
 #![tactic(auto)]
-<<<<<<< HEAD
-
-use libc::{STDERR_FILENO, STDIN_FILENO, STDOUT_FILENO};
-=======
->>>>>>> df15183ac8fb3d7d7d6dda5eeca130c1486c1639
 
 // One byte more than an input may have, so that a longer one is seen to be longer.
 const BUFFER: usize = frames::INPUT + 1;
