@@ -16,13 +16,10 @@ use Rattle.planes.specs.Replies.{refuses, replied}
 use Rattle.planes.proofs.Replies.{replied_refuses}
 use Rattle.colours.specs.Calls.{status_reply}
 use Rattle.colours.specs.declared.Status.{Status}
-use Rattle.colours.specs.declared.Status.TheVariants as Status
 use Rattle.model.specs.Outcomes.{answer_reply}
 use Rattle.model.specs.declared.Answer.{Answer}
-use Rattle.model.specs.declared.Answer.TheVariants as Answer
 use Rattle.texts.specs.Writing.{written_reply}
 use Rattle.texts.specs.declared.Written.{Written}
-use Rattle.texts.specs.declared.Written.TheVariants as Written
 use Rattle.cnumbers.specs.Numbers.{encoded, number_reply, done_reply, status_number, answer_number, written_number}
 use Rattle.cnumbers.specs.Numbers.{counts_after, counts_reply}
 
@@ -30,7 +27,7 @@ use Rattle.cnumbers.specs.Numbers.{counts_after, counts_reply}
 
 -- a result that is handed on is read back from its bits
 pub returned : {z v : ℤ} → mag z < 9223372036854775808 → z ≡ v → to_z w64 (of_z w64 z) ≡ v
-returned small e = to_z-of_z (record { sfits = small }) ∙ e
+returned small e = to_z-of_z {w = w64} (record { sfits = small }) ∙ e
 
 -- ## What is negated
 

@@ -12,18 +12,13 @@
 --   pass_of         the pass for its numbers
 --   settings_of     the settings for their numbers
 use Rattle.std.specs.Prelude.{ℕ, zero, suc, ◌<◌, cond, ◌≡◌, List, [], ◌∷◌, ℤ, pos, negsuc, length, take, drop, ltb}
-use Rattle.planes.specs.Lists.{at}
 use Rattle.planes.specs.Refusals.{when}
 use Rattle.planes.specs.Replies.{Reply, refuses, gives, overwritten}
 use Rattle.model.specs.declared.Pass.{Pass}
 use Rattle.colours.specs.declared.Status.{Status}
-use Rattle.colours.specs.declared.Status.TheVariants as Status
 use Rattle.model.specs.declared.Answer.{Answer}
-use Rattle.model.specs.declared.Answer.TheVariants as Answer
 use Rattle.netpbm.specs.declared.Header.{Header}
-use Rattle.netpbm.specs.declared.Header.TheVariants as Header
 use Rattle.texts.specs.declared.Written.{Written}
-use Rattle.texts.specs.declared.Written.TheVariants as Written
 use Rattle.levels.specs.declared.Settings.{Settings}
 use Rattle.tones.specs.Numbers.{rule_of}
 use Rattle.crules.specs.Rules.{numbers_for, neighbours_for}

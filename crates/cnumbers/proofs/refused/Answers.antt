@@ -6,23 +6,15 @@ use mir.Syntax.{w64}
 use mir.Val.{SFits, to_z, of_z}
 use mir.Facts.{to_z-of_z}
 use Rattle.cnumbers.proofs.Numbers.{minus, negated_fits}
-use borrow.Author.Rules.{rules}
-use Rattle.cnumbers.proofs.refused.Statement.{statement}
-use Rattle.cnumbers.proofs.refused.Tie as tie
+use Rattle.cnumbers.proofs.refused.Goals as goal
 
-cast-result : tie.Need-overflow-cast-result
-cast-result c = search rules
-
-sub-result : tie.Need-overflow-sub-result
-sub-result c =
+pub overflow_sub-result : goal.overflow_sub-result
+overflow_sub-result c =
     let small = c.ranges.k.fits in
     subst (SFits w64) (sym (minus c.args.k (omega arith))) (negated_fits c.args.k (omega arith))
 
-returns : tie.Need-returns
+pub returns : goal.returns
 returns c =
     let small = c.ranges.k.fits in
     ap (λ (z : ℤ). to_z w64 (of_z w64 z)) (minus c.args.k (omega arith))
     ∙ to_z-of_z (negated_fits c.args.k (omega arith))
-
-pub refused-spec : {M : Type 1} → statement M
-refused-spec = tie.close (tie.spec cast-result sub-result returns)

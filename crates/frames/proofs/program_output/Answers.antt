@@ -1,0 +1,25 @@
+-- `frames::program_output` meets its contract, in each of its three cases: the input is too long, reading refuses it,
+-- or reading accepts it. Assumes nothing.
+use mathlib.Core.Path.{sym, ◌∙◌}
+use Rattle.netpbm.proofs.Frames.{accepted_iff}
+use Rattle.netpbm.proofs.Replies.{read_back}
+use Rattle.frames.proofs.Program.{long_emitted, read_emitted}
+use Rattle.frames.proofs.program_output.Goals as goal
+
+pub returns-then-input-gt-INPUT : goal.returns-then-input-gt-INPUT
+returns-then-input-gt-INPUT c = long_emitted _ c.if-input-gt-INPUT.true c.put_refusal.ensures
+
+pub put_enhanced-requires : goal.put_enhanced-requires
+put_enhanced-requires c =
+    let answer = sym (read_back _ _ c.read_within-header.result c.read_within-header.ensures) in
+    (accepted_iff _ _ _ _ _).0 (answer ∙ c.in-Frame.is)
+
+pub returns-in-Refused : goal.returns-in-Refused
+returns-in-Refused c =
+    let answer = sym (read_back _ _ c.read_within-header.result c.read_within-header.ensures) in
+    read_emitted _ c.if-input-gt-INPUT.false (answer ∙ c.in-Refused.is) c.put_refusal-in-Refused.ensures
+
+pub returns-in-Frame : goal.returns-in-Frame
+returns-in-Frame c =
+    let answer = sym (read_back _ _ c.read_within-header.result c.read_within-header.ensures) in
+    read_emitted _ c.if-input-gt-INPUT.false (answer ∙ c.in-Frame.is) c.put_enhanced.ensures
