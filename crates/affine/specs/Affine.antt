@@ -8,8 +8,8 @@
 --   affine_kept     the rule keeps the old values back
 --   kept_at         the same, by the number of segments, b - a and the last height
 -- The lines:
---   line_tone       the tone of a value on the line between two points
---   joined         the tone of a value on the lines that join some points
+--   line_tone  the tone of a value on the line between two points
+--   joined     the tone of a value on the lines that join some points
 -- For the functions within:
 --   Drawn          measures and counts of some values
 use Rattle.std.specs.Prelude.{ℕ, ◌+◌, ◌-◌, ◌*◌, Bool, cond, ◌||◌, List, [], ◌∷◌, length, leb, ltb, eqb}

@@ -11,6 +11,7 @@
 // divided is a height, below 2^32, times two numbers of 8 bits. What fills takes a slice, for an array that is lent as
 // a slice is known to have all its entries.
 #![tactic(auto)]
+
 ghost use Rattle.std.specs.Prelude.{◌≡◌, ◌+◌, ◌^◌, ◌≤◌, ◌<◌, max, length};
 ghost use Rattle.planes.specs.Lists.{at};
 ghost use Rattle.histograms.specs.Histograms.{Confined, Refilled};

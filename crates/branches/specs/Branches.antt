@@ -1,14 +1,14 @@
 -- Branches, sections with the levels below them, by numbers in the marks. A pixel's mark is the number of the section
 -- that is due for it, and 0 where none is: those of an inert component are not entered again. Definitions only.
 --
---   pass_on     the pass on a section
+--   pass_on    the pass on a section
 --   Ready      a plane with room for it, and settings that are not refused
 --   Due        a section is due
 --   Halves     a section is treated, and its halves are due
 --   Apart      what a branch leaves of plane and marks
---   gone_on     the components of sufficient area that left before a section was due
+--   gone_on    the components of sufficient area that left before a section was due
 --   owing      an effect with more components that were kept back
---   all_told    the counts of a section, with those of the components that leave on the levels below
+--   all_told   the counts of a section, with those of the components that leave on the levels below
 --   Equalised  what `equalise` does, in terms of the model's recursion
 --   Halved     what `split` does
 use Rattle.std.specs.Prelude.{ℕ, suc, ◌+◌, ◌-◌, ◌*◌, ◌/◌, ◌^◌, ◌≤◌, ◌<◌, ◌≡◌, ◌⊎◌, Bool, false, List, ◌++◌}

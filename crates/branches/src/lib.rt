@@ -9,6 +9,7 @@
 // the theorem `enhanced_published` of the model. So one search for each section takes the place of one for each
 // component, and no sets are kept.
 #![tactic(auto)]
+
 ghost use Rattle.std.specs.Prelude.{◌≡◌, ◌≤◌, length};
 ghost use Rattle.branches.specs.Branches.{Ready, Due, Halves, all_told, Equalised, Halved};
 

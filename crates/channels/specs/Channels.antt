@@ -1,9 +1,9 @@
 -- The channels of one pixel: their intensity (Algorithm 1), and what they become for a new intensity (Algorithm 6).
 -- Definitions only.
 --
---   third, thirds   the rounded third of a channel sum, and the table of all of them
---   new_channel      what a channel becomes
---   new_pixel        what the three channels of a pixel become
+--   third, thirds  the rounded third of a channel sum, and the table of all of them
+--   new_channel    what a channel becomes
+--   new_pixel      what the three channels of a pixel become
 use Rattle.std.specs.Prelude.{ℕ, ◌+◌, ◌*◌, max, cond, List, map, leb, eqb}
 use Rattle.planes.specs.Lists.{from}
 use Rattle.planes.specs.Rounding.{rounded}

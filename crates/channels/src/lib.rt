@@ -8,6 +8,7 @@
 //
 // No channel costs a division: `nearest` multiplies by an inverse, and divides by a constant power of two.
 #![tactic(auto)]
+
 ghost use Rattle.std.specs.Prelude.{◌≡◌, ◌+◌, ◌*◌, max};
 ghost use Rattle.planes.specs.Rounding.{rounded};
 ghost use Rattle.channels.specs.Channels.{third, thirds, new_pixel};

@@ -2,15 +2,15 @@
 -- they might have 1,024 passes. The laws that those by 4 neighbours, lists of version 1 and lists of few passes are as
 -- before need this; nothing else does. Definitions only.
 --
---   numbers_before    5 to 8, 18, of a pass
---   settings_before   9, 6, 7, 8, 18, of settings
---   greatest_before   the greatest count of passes before
---   list_within, convert_within, passes_within   the refusals of a list, of its conversion and of passes in memory by a
---                    greatest count of passes
---   start_before, pass_before, record_before   a record of 12 bytes: where it starts, its pass, its refusal
---   head_before       16, 15 for every version but 1, 16
---   list_before       the refusal of a list
---   passes_before     its passes
+--   numbers_before                              5 to 8, 18, of a pass
+--   settings_before                             9, 6, 7, 8, 18, of settings
+--   greatest_before                             the greatest count of passes before
+--   list_within, convert_within, passes_within  the refusals of a list, of its conversion and of passes in memory by a
+--                                               greatest count of passes
+--   start_before, pass_before, record_before    a record of 12 bytes: where it starts, its pass, its refusal
+--   head_before                                 16, 15 for every version but 1, 16
+--   list_before                                 the refusal of a list
+--   passes_before                               its passes
 use Rattle.std.specs.Prelude.{ℕ, ◌+◌, ◌*◌, not, ◌||◌, List, map, length, ltb, eqb}
 use Rattle.planes.specs.Lists.{from, at}
 use Rattle.planes.specs.Refusals.{when, ◌▷◌, output_refusal}

@@ -4,18 +4,18 @@
 -- CFunctions.antt. Definitions only.
 --
 -- Glossary
---   plane              the list of its pixels' values in reading order; a pixel is its index (planes/specs/Lists)
---   Shape              the columns w and rows h of a plane; pixels z is their product (planes/specs/Shapes)
---   neighbours z       the four-neighbours in a plane of the shape z (planes/specs/Shapes, Neighbours)
---   adjacency z k      its neighbours by a number k of them: the eight for 8, the four for 4
---   pass_neighbours z   the neighbours by which a pass takes its components: by the number that it carries
---                      (model/specs/Neighbourhoods)
---   Carries, AcceptedCarry   a pass, and every accepted call of a chain, carries a number of neighbours
---                      (model/specs/Runs, Calls)
---   extreme ltb, gtb   a pixel's flat zone is a regional maximum, minimum (planes/specs/Extrema)
---   Contains           the flat zone of a pixel of one plane contains a whole regional extremum of another
---   maxima, minima     how many regional maxima and minima there are
---   Reply              what a call answers: refused with a number, or given with values (planes/specs/Replies)
+--   plane                   the list of its pixels' values in reading order; a pixel is its index (planes/specs/Lists)
+--   Shape                   the columns w and rows h of a plane; pixels z is their product (planes/specs/Shapes)
+--   neighbours z            the four-neighbours in a plane of the shape z (planes/specs/Shapes, Neighbours)
+--   adjacency z k           its neighbours by a number k of them: the eight for 8, the four for 4
+--   pass_neighbours z       the neighbours by which a pass takes its components: by the number that it carries
+--                           (model/specs/Neighbourhoods)
+--   Carries, AcceptedCarry  a pass, and every accepted call of a chain, carries a number of neighbours
+--                           (model/specs/Runs, Calls)
+--   extreme ltb, gtb        a pixel's flat zone is a regional maximum, minimum (planes/specs/Extrema)
+--   Contains                the flat zone of a pixel of one plane contains a whole regional extremum of another
+--   maxima, minima          how many regional maxima and minima there are
+--   Reply                   what a call answers: refused with a number, or given with values (planes/specs/Replies)
 --   after, overwritten lent memory after a call with such an answer; an output with new first bytes
 --   intensity          the plane of a frame's intensities, Algorithm 1 (colours/specs/Frames)
 --   recolour           the frame recoloured from a plane, Algorithm 6 (colours/specs/Frames)
@@ -60,9 +60,9 @@
 --                      records stand in listformat/specs/Format
 --   encode, decode     passes written as a list in an edition, and what a list of bytes is read as
 --   Storable, Listable passes that an edition can hold
---   converted          a list in the other edition (conversion/specs/Conversion)
---   places_refusal      20, for passes that an edition has no place for (listchecks/specs/Refusals)
---   Emitted            what the program's function ensures: some bytes at the beginning of the output (printing)
+--   converted       a list in the other edition (conversion/specs/Conversion)
+--   places_refusal  20, for passes that an edition has no place for (listchecks/specs/Refusals)
+--   Emitted         what the program's function ensures: some bytes at the beginning of the output (printing)
 use Rattle.std.specs.Prelude.{ℕ, suc, ◌+◌, ◌-◌, ◌*◌, ◌/◌, ◌^◌, ◌≤◌, ◌<◌, ◌≡◌, ◌↔◌, Bool, true, false, List, [], ◌∷◌, map, length, take, drop, ltb}
 use Rattle.std.proofs.Math.Option.{some}
 use Rattle.planes.specs.Lists.{at, Beyond}

@@ -1,6 +1,6 @@
 -- How the library's answers and settings are written as numbers for a C caller. Definitions only.
 --
---   encoded        an answer as one number: a refusal k as -k, and else the value
+--   encoded         an answer as one number: a refusal k as -k, and else the value
 --   number_reply    the reply that a number stands for, of a call that gives one value
 --   done_reply      the same of a call that gives none: 0 stands for done
 --   status_number   the answer of intensity or recolouring, encoded

@@ -1,9 +1,9 @@
 -- The calls `intensity` and `recolour`: their refusals in order, their answers, and what they do to each lent slice.
 -- n = w × h. Definitions only.
 --
---   intensity_refusal   the number of the first refusal that applies, of 1, 2, 3; 0 where none does
---   recolour_refusal    the same, of 1, 2, 3, 14
---   status_reply        the reply of each case of a status
+--   intensity_refusal  the number of the first refusal that applies, of 1, 2, 3; 0 where none does
+--   recolour_refusal   the same, of 1, 2, 3, 14
+--   status_reply       the reply of each case of a status
 --   IntensityOutcome   the contract of `intensity`
 --   RecolourOutcome    the contract of `recolour`
 use Rattle.std.specs.Prelude.{ℕ, ◌*◌, ◌≡◌, List, [], length}

@@ -1,13 +1,13 @@
 -- Frames: the intensity of a frame (Algorithm 1), and a frame recoloured from a new intensity (Algorithm 6).
 -- A frame of n pixels is the list of its 3 × n channels R, G, B, pixel after pixel in reading order. Definitions only.
 --
---   red, green, blue   the channels of a pixel
---   pixel_intensity     I: the intensity of a pixel
---   intensity          the plane of the intensities of a frame
---   greatest_channel    M: the greatest channel of a pixel
---   new_channel_at       what a channel becomes
---   recolour           the frame of what all channels become
---   Grey               a frame whose pixels are all grey
+--   red, green, blue  the channels of a pixel
+--   pixel_intensity   I: the intensity of a pixel
+--   intensity         the plane of the intensities of a frame
+--   greatest_channel  M: the greatest channel of a pixel
+--   new_channel_at    what a channel becomes
+--   recolour          the frame of what all channels become
+--   Grey              a frame whose pixels are all grey
 use Rattle.std.specs.Prelude.{ℕ, ◌+◌, ◌*◌, ◌/◌, max, ◌<◌, ◌≡◌, List, map, length}
 use Rattle.planes.specs.Lists.{from, at}
 use Rattle.channels.specs.Channels.{third, new_channel}

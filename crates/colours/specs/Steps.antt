@@ -1,8 +1,8 @@
 -- The steps of recolouring: what the loop over the pixels is lent, and what each step stores. Definitions only.
 --
 --   Fitting     what the loop is lent
---   with_pixel   the output after a step
---   with_frame   the output after the last one
+--   with_pixel  the output after a step
+--   with_frame  the output after the last one
 use Rattle.std.specs.Prelude.{ℕ, ◌+◌, ◌*◌, ◌≤◌, ◌≡◌, List, ◌++◌, length, drop, set}
 use Rattle.channels.specs.Channels.{thirds}
 use Rattle.channels.specs.Scales.{Inverses}

@@ -3,7 +3,7 @@
 --   Seen           one value more was counted and measured
 --   Floodable      what a flood requires of marks and queue
 --   Flooded        what a flood takes
---   region_values   the values of a component
+--   region_values  the values of a component
 --   Gauged         what a flood tells of them
 --   FloodAsks      what `flood` requires
 --   FloodGives     what `flood` does, by some neighbours

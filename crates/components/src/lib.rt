@@ -6,6 +6,7 @@
 // A pixel is taken with the run of its row, and its value is seen when the flood spreads from it. Which pixels of other
 // rows are neighbours, by 4 and by 8, is known to `spreading` alone.
 #![tactic(auto)]
+
 ghost use Rattle.std.specs.Prelude.{◌<◌, length};
 ghost use Rattle.planes.specs.Lists.{at};
 ghost use Rattle.planes.specs.Refusals.{greatest_pixels};

@@ -1,7 +1,7 @@
 -- A pass list turned into the other edition. Definitions only.
 --
 --   converted        the list of the same passes in the other edition
---   convert_refusal   16 for fewer bytes than a head has, 15, 16, then each record 17, 5 to 8, 18, 19, then 20, then 14
+--   convert_refusal  16 for fewer bytes than a head has, 15, 16, then each record 17, 5 to 8, 18, 19, then 20, then 14
 --   ConvertOutcome   the contract of `convert`: its answer, and the output after it
 use Rattle.std.specs.Prelude.{ℕ, List, length}
 use Rattle.planes.specs.Refusals.{◌▷◌, output_refusal}

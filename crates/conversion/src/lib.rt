@@ -5,6 +5,7 @@
 //
 // One walk checks all records, and one writes them. A record's first 12 bytes are the same in both editions.
 #![tactic(auto)]
+
 ghost use Rattle.std.specs.Prelude.{◌≡◌, ◌++◌, ◌+◌, ◌≤◌, length, take, drop};
 ghost use Rattle.texts.specs.Placing.{Put};
 ghost use Rattle.texts.specs.Writing.{written_reply};

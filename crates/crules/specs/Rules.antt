@@ -1,6 +1,6 @@
 -- The numbers that a caller in C lends for a rule and for the neighbours of a pass. Definitions only.
 --
---   ruled          so many numbers are lent for a rule
+--   ruled           so many numbers are lent for a rule
 --   numbers_for     the numbers of a rule, by the four or five that are lent
 --   neighbours_for  the number of neighbours, by the fifth of them
 --   rule_lent       the four numbers of a rule

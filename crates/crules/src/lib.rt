@@ -3,6 +3,7 @@
 // rule_numbers       the numbers of a rule, by the four or five that are lent
 // neighbour_number   the number of neighbours, by the fifth of them
 #![tactic(auto)]
+
 ghost use Rattle.std.specs.Prelude.{◌≡◌, min};
 ghost use Rattle.crules.specs.Rules.{ruled, numbers_for, neighbours_for};
 

@@ -5,9 +5,9 @@
 --   Gap s         s is one or more pieces
 --
 -- As parsers:
---   pieces        zero or more pieces, up to the first byte that begins none; fails where a comment does not end
---   comment_and_then   what is left of a comment that has begun, and then zero or more pieces
---   gap           one or more pieces
+--   pieces            zero or more pieces, up to the first byte that begins none; fails where a comment does not end
+--   comment_and_then  what is left of a comment that has begun, and then zero or more pieces
+--   gap               one or more pieces
 use Rattle.std.specs.Prelude.{ℕ, ◌≡◌, Bool, true, false, not, ◌||◌, cond, List, [], ◌∷◌, ◌++◌}
 use Rattle.planes.specs.Lists.{every}
 use Rattle.gaps.specs.Bytes.{is_white, is_sign, ends_comment}

@@ -1,10 +1,10 @@
 -- Parsers of lists of bytes, as small pieces that are put together by `do`. Definitions only.
 --
---   Parser A      fails on a list of bytes, or makes a value of its beginning and leaves the rest
---   p >>= f       p, and then, on what p leaves, f of p's value; `do` is written for it
---   pure a        the value a, of no bytes
---   check t       passes, on no bytes, where the test passes
---   byte b        the byte b
+--   Parser A       fails on a list of bytes, or makes a value of its beginning and leaves the rest
+--   p >>= f        p, and then, on what p leaves, f of p's value; `do` is written for it
+--   pure a         the value a, of no bytes
+--   check t        passes, on no bytes, where the test passes
+--   byte b         the byte b
 --   one_byte f     one byte that passes the test f
 --   take_while1 f  all bytes up to the first that fails the test f, or to the end; at least one
 use Rattle.std.specs.Prelude.{ℕ, Bool, cond, List, [], ◌∷◌, eqb}

@@ -1,7 +1,7 @@
 -- Headers as they were read before comments were: whitespace alone stands before each number. The law that headers
 -- without comments are read as before needs this; nothing else does. Definitions only.
 --
---   uncommented_header   the grammar of such a header
+--   uncommented_header  the grammar of such a header
 --   signless            no number sign stands in the header before a raster
 --   Uncommented         no number sign stands in a header that begins the bytes
 use Rattle.std.specs.Prelude.{ℕ, ◌-◌, ◌≡◌, Bool, true, List, length, take}

@@ -11,7 +11,7 @@ use borrow.Author.Tests.{ne_eqb}
 use Rattle.planes.specs.Lists.{from, count, at}
 use Rattle.planes.proofs.Counts.{count_map, count_same, count_none}
 use Rattle.planes.proofs.Enumerations.{count_indexes}
-use Rattle.histograms.specs.Values.{sum_to, greatest, least}
+use Rattle.histograms.specs.Values.{sum_to, greatest}
 use Rattle.histograms.specs.Histograms.{values, Component, Alike, Gathered}
 use Rattle.histograms.specs.Histograms.{Inside, Histogram, Ranged, Counted}
 use Rattle.histograms.specs.Sums.{SummedInPlace, Sums}

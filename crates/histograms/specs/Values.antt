@@ -1,8 +1,8 @@
 -- What is computed of a list of values, and of the terms of a function. Definitions only.
 --
---   greatest, least, spread   of a list of values
---   sum, sum_to                f i + f (i + 1) + .., by the number of terms, and up to a last one
---   scaled                    a + (b - a) * x / y, rounded
+--   greatest, least, spread  of a list of values
+--   sum, sum_to              f i + f (i + 1) + .., by the number of terms, and up to a last one
+--   scaled                   a + (b - a) * x / y, rounded
 use Rattle.std.specs.Prelude.{ℕ, zero, suc, ◌+◌, ◌-◌, ◌*◌, min, max, List, [], ◌∷◌}
 use Rattle.planes.specs.Rounding.{rounded}
 

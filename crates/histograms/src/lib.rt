@@ -13,6 +13,7 @@
 // Counts are lent all 0, and cleared after use: those of the values of [least, greatest], for those of all others stay
 // 0. What clears or fills takes a slice, for an array that is lent as a slice is known to have all its entries.
 #![tactic(auto)]
+
 ghost use Rattle.std.specs.Prelude.{◌≡◌, [], ◌+◌, ◌^◌, ◌≤◌, ◌<◌, min, max, length};
 ghost use Rattle.planes.specs.Lists.{at};
 ghost use Rattle.planes.specs.Rounding.{rounded};

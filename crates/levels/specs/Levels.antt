@@ -2,15 +2,15 @@
 -- sections of a branch, a section with all those below it, have an interval of numbers: the section's own first, then
 -- those of its lower half, then those of its upper half. Definitions only.
 --
---   house            the house setting
+--   house             the house setting
 --   level_refusal     9, by the last level
 --   settings_refusal  9, 6, 7, 8, 18, 19, by the settings
---   Wide             a section's width is a power of two, and so is the last level's
---   Below            how many levels there are below a section's own
---   Deeper           whether a section is split
---   NextIs           the numbers of a section's halves
---   Numbered         a section has its number, and its branch its interval of numbers
---   Away             a number outside the interval of a branch
+--   Wide              a section's width is a power of two, and so is the last level's
+--   Below             how many levels there are below a section's own
+--   Deeper            whether a section is split
+--   NextIs            the numbers of a section's halves
+--   Numbered          a section has its number, and its branch its interval of numbers
+--   Away              a number outside the interval of a branch
 use Rattle.std.specs.Prelude.{ℕ, ◌+◌, ◌-◌, ◌/◌, ◌^◌, ◌≤◌, ◌<◌, ◌≡◌, ◌⊎◌, Bool, true, false, ltb}
 use Rattle.planes.specs.Refusals.{when, ◌▷◌}
 use Rattle.tones.specs.declared.Rule.TheVariants.{Plain}

@@ -8,6 +8,7 @@
 // next_of            the numbers of a section's halves
 // sections           how many sections there are
 #![tactic(auto)]
+
 ghost use Rattle.std.specs.Prelude.{◌≡◌, true, ℕ, ◌+◌, ◌-◌, ◌^◌, ◌≤◌};
 ghost use Rattle.levels.specs.Levels.{house, level_refusal, settings_refusal, Below, Deeper, NextIs};
 

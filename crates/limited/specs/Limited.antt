@@ -3,13 +3,13 @@
 --
 -- For callers:
 --   clipped       a value's clipped count, in thousandths of a pixel
---   limited_tone   the sum of the clipped counts up to v, with its share of what the clipping left over, scaled
---   never_kept     the rule keeps nothing back
+--   limited_tone  the sum of the clipped counts up to v, with its share of what the clipping left over, scaled
+--   never_kept    the rule keeps nothing back
 -- For the functions within:
---   limited_by     the tone, by the sums of the clipped counts
---   clipped_at     an array's counts in thousandths, none above a limit
---   ClippedSums   what clipping the counts and summing them in place leaves
---   Filled        a table with new entries at the values of the listed pixels
+--   limited_by   the tone, by the sums of the clipped counts
+--   clipped_at   an array's counts in thousandths, none above a limit
+--   ClippedSums  what clipping the counts and summing them in place leaves
+--   Filled       a table with new entries at the values of the listed pixels
 use Rattle.std.specs.Prelude.{ℕ, ◌+◌, ◌-◌, ◌*◌, ◌≤◌, ◌<◌, min, ◌≡◌, Bool, false, List, length, eqb}
 use Rattle.planes.specs.Lists.{count, at}
 use Rattle.histograms.specs.Values.{sum_to, scaled}

@@ -10,6 +10,7 @@
 // [least, greatest] or each pixel, whichever are fewer. What fills takes a slice, for an array that is lent as a slice
 // is known to have all its entries.
 #![tactic(auto)]
+
 ghost use Rattle.std.specs.Prelude.{◌≡◌, ◌+◌, ◌*◌, ◌^◌, ◌≤◌, ◌<◌, min, length};
 ghost use Rattle.planes.specs.Lists.{at};
 ghost use Rattle.histograms.specs.Values.{sum_to};

@@ -5,6 +5,7 @@
 // records_refusal   those of its records, in order, then 20 for what an edition has no place for, or 0
 // record_at         a record: 17 for its form, or 0, and its pass
 #![tactic(auto)]
+
 ghost use Rattle.std.specs.Prelude.{◌≡◌, ◌≤◌, ◌<◌, length, eqb};
 ghost use Rattle.planes.specs.Refusals.{when, ◌▷◌};
 ghost use Rattle.model.specs.Calls.{numbers_refusal};

@@ -8,23 +8,23 @@
 --
 --   Layout, layout      what an edition lays down: version, length of a record, and places of what version 2 has
 --                       besides
---   upper_place, …       the places of the fields that both editions have
+--   upper_place, …      the places of the fields that both editions have
 --   number16, number32  the number that stands at an index of a byte list
 --   head_length, record_start
 --                       the length of a list's head, and where a record starts
 --   version_of, count_of  the numbers of a list's head
---   edition_of           the edition that a list's version names
+--   edition_of            the edition that a list's version names
 --   lower_end, upper_end, least_area, numbers_at, neighbours_at
 --                       the fields of the record that starts at an index; the fourth are the numbers of its rule
 --   pass_at              the pass of the record that starts at an index
 --   passes_of            the passes of a list, in order
 --   malformed_at, form_at a record that stands for no pass, and its refusal, 17
---   head_refusal         the refusal of a list's mark, version, count and length
---   decode              the passes of a list in this format, and nothing of any other list
---   encode              the list of some passes, in an edition
---   Bytes               a list of bytes
---   Storable            a pass whose numbers fit the fields of an edition's record
---   Listable            some passes that a list of an edition can hold
+--   head_refusal  the refusal of a list's mark, version, count and length
+--   decode        the passes of a list in this format, and nothing of any other list
+--   encode        the list of some passes, in an edition
+--   Bytes         a list of bytes
+--   Storable      a pass whose numbers fit the fields of an edition's record
+--   Listable      some passes that a list of an edition can hold
 use Rattle.std.specs.Prelude.{ℕ, ◌+◌, ◌*◌, ◌/◌, ◌%◌, ◌≤◌, ◌<◌, ◌≡◌, Bool, not, ◌&&◌, ◌||◌, cond, List, [], ◌∷◌, ◌++◌, map, length, ltb, eqb}
 use Rattle.std.proofs.Math.Option.{Option, none, some}
 use Rattle.planes.specs.Lists.{from, every, at}

@@ -1,13 +1,14 @@
 // The byte format of a pass list, in both editions: where its numbers stand, and what a record stands for.
 //
-// Edition          an edition of the format, by its version
-// version, record_length, other    its version, the length of its records, and the other edition
-// edition_of       the edition that a list names
-// count_of         how many records it says that it has
-// record_start     where a record starts
-// pass_at          the pass of a record
-// form_refusal     17 for a record that stands for no pass, or 0
+// Edition                        an edition of the format, by its version
+// version, record_length, other  its version, the length of its records, and the other edition
+// edition_of                     the edition that a list names
+// count_of                       how many records it says that it has
+// record_start                   where a record starts
+// pass_at                        the pass of a record
+// form_refusal                   17 for a record that stands for no pass, or 0
 #![tactic(auto)]
+
 ghost use Rattle.std.specs.Prelude.{◌≡◌, ◌+◌, ◌≤◌, ◌<◌, length};
 ghost use Rattle.listformat.specs.Format.{version, record_length, fields_length, number16, number32, head_length};
 ghost use Rattle.listformat.specs.Format.{record_start, count_of, edition_of, numbers_at, neighbours_at, pass_at};

@@ -1,15 +1,15 @@
 -- Calls of a pass: their refusals in order, their answers, and the model of a chain of calls. Definitions only.
 --
---   Call         what the model is fed of a call: the pass, and of marks and queue the lengths
---   pass_refusal  the number of the first refusal that applies, 1 to 8, 18, 19 in order; 0 where none does
---   retoned_in, kept_in   the counts of a reply
---   total        the sum of a count over some replies
---   AcceptedCarry   some calls with their replies: those that were accepted carry a number of neighbours
---   AllAccepted  replies of calls that were all accepted
---   State        the model's plane, and the replies so far
---   call, chain  the state after a call, and after a chain of calls
---   chain_effect  what a chain of calls comes to
---   chain_sufficient  the components of sufficient area, in the plane as each call finds it
+--   Call                 what the model is fed of a call: the pass, and of marks and queue the lengths
+--   pass_refusal         the number of the first refusal that applies, 1 to 8, 18, 19 in order; 0 where none does
+--   retoned_in, kept_in  the counts of a reply
+--   total                the sum of a count over some replies
+--   AcceptedCarry        some calls with their replies: those that were accepted carry a number of neighbours
+--   AllAccepted          replies of calls that were all accepted
+--   State                the model's plane, and the replies so far
+--   call, chain          the state after a call, and after a chain of calls
+--   chain_effect         what a chain of calls comes to
+--   chain_sufficient     the components of sufficient area, in the plane as each call finds it
 use Rattle.std.specs.Prelude.{ℕ, ◌+◌, ◌≡◌, cond, not, ◌||◌, List, [], ◌∷◌, ◌++◌, length, ltb, eqb}
 use Rattle.planes.specs.Refusals.{when, ◌▷◌, greatest_pixels}
 use Rattle.planes.specs.Shapes.{lent_refusal}

@@ -1,14 +1,14 @@
 -- What a pass, or a run of passes, comes to. `by` gives each pass the relation that its components are taken by.
 -- Definitions only.
 --
---   Effect      the plane that is left, and what is counted
---   counts      the values that a call with such an effect gives
---   nothing     the effect of no pass
---   then        one effect after another: the plane of the later one, and the sums
+--   Effect       the plane that is left, and what is counted
+--   counts       the values that a call with such an effect gives
+--   nothing      the effect of no pass
+--   then         one effect after another: the plane of the later one, and the sums
 --   pass_effect  the effect of a pass
 --   run_effect   the effect of passes, one after the other
---   Same        two lists of passes with one effect, whatever plane they start from
---   always      one relation for all passes
+--   Same         two lists of passes with one effect, whatever plane they start from
+--   always       one relation for all passes
 use Rattle.std.specs.Prelude.{ℕ, ◌+◌, ◌≡◌, List, [], ◌∷◌}
 use Rattle.planes.specs.Neighbours.{Near}
 use Rattle.model.specs.declared.Pass.{Pass}

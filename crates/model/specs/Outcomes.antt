@@ -4,7 +4,7 @@
 --
 --   came           the effect that a plane and counts stand for
 --   sums           the sums of both counts
---   answer_reply    the reply of each case of an answer
+--   answer_reply   the reply of each case of an answer
 --   Over           a call that had its effect
 --   Outcome        what a call answers and leaves
 --   OutputOutcome  the same of a call that is lent an output too

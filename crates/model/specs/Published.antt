@@ -2,11 +2,11 @@
 -- to 5 of the published account, under the names that they have there. A set of pixels is the list of them in reading
 -- order. Definitions only.
 --
---   Procedure    what is done with a set of pixels in a section [a, b]
---   Arrangement  the order in which the components of a level set are treated; Algorithm 4 leaves it open
+--   Procedure     what is done with a set of pixels in a section [a, b]
+--   Arrangement   the order in which the components of a level set are treated; Algorithm 4 leaves it open
 --   published_in  all pixels, treated by Algorithm 2 in [0, 255], with the levels 0 to `last`
---   published    the same, with components in reading order; every other order ends alike (`published_any_order`)
---   Connected    a plane of bytes that is one component
+--   published     the same, with components in reading order; every other order ends alike (`published_any_order`)
+--   Connected     a plane of bytes that is one component
 --
 --   histogram_equalization           Algorithm 5, or 7, and line 3 of Algorithm 2: the pixels of a set get the rule's
 --                                   tones, unless it is kept back

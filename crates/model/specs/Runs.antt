@@ -1,9 +1,9 @@
 -- Lists of passes. Definitions only.
 --
---   All                      every pass of a list has a property
---   Carries                  a pass carries a number of neighbours
---   Disjoint                 two passes are on disjoint intervals
---   run, run_count, run_kept   the plane and the counts of a run, by name
+--   All                       every pass of a list has a property
+--   Carries                   a pass carries a number of neighbours
+--   Disjoint                  two passes are on disjoint intervals
+--   run, run_count, run_kept  the plane and the counts of a run, by name
 --   run_sufficient            the components of sufficient area, in the plane as each pass finds it
 use Rattle.std.specs.Prelude.{ℕ, ◌+◌, ◌<◌, ◌≡◌, ◌⊎◌, List, [], ◌∷◌}
 use Rattle.planes.specs.Neighbours.{Near}

@@ -1,12 +1,12 @@
 -- Wrong turns, each beside what the published recursion does on the same small plane. These definitions are wrong, and
 -- nothing uses them but the examples that show it. Definitions only.
 --
---   recursion_by     the shape of Algorithm 2, with the procedures for a set and for a half left open (`Shape-is`)
---   original_tones   splits by the original tones
---   one_histogram    one histogram for a whole section
---   area_test        an area test at level 0
---   stop_at_kept      stops at a kept component
---   halves_to_even    rounds halves to even
+--   recursion_by    the shape of Algorithm 2, with the procedures for a set and for a half left open (`shape_is`)
+--   original_tones  splits by the original tones
+--   one_histogram   one histogram for a whole section
+--   area_test       an area test at level 0
+--   stop_at_kept    stops at a kept component
+--   halves_to_even  rounds halves to even
 --   Turned          what the published recursion leaves, and what a wrong turn leaves instead
 use Rattle.std.specs.Prelude.{ℕ, zero, suc, ◌+◌, ◌*◌, ◌/◌, ◌%◌, ◌≡◌, cond, List, [], ◌∷◌, map, length, leb, ltb}
 use Rattle.planes.specs.Lists.{from, count, at}

@@ -7,6 +7,7 @@
 // area_refusal        refusal 6 for a least area, or 0
 // neighbour_refusal   refusal 19 for a number of neighbours, or 0
 #![tactic(auto)]
+
 ghost use Rattle.std.specs.Prelude.{◌≡◌, ◌+◌, ◌<◌};
 ghost use Rattle.model.specs.Outcomes.{sums};
 ghost use Rattle.model.specs.Calls.{area_refusal, neighbour_refusal, numbers_refusal};

@@ -1,11 +1,11 @@
 -- What reading replies, by the parts of a frame. Assumes nothing.
 --
---   read_reply_lem, read-back   the reply of the answer, and the answer with that reply
---   malformed_reply         10 exactly where no header begins the bytes
---   headed_reply            after a header, the first refusal that applies to its numbers and to the raster, or its
---                           values
---   framed_reply            the values of a frame exactly where the bytes are one
---   refused_some            no refusal has the number 0
+--   read_reply_lem, read-back  the reply of the answer, and the answer with that reply
+--   malformed_reply            10 exactly where no header begins the bytes
+--   headed_reply               after a header, the first refusal that applies to its numbers and to the raster, or its
+--                              values
+--   framed_reply               the values of a frame exactly where the bytes are one
+--   refused_some               no refusal has the number 0
 use Prim.Native.Nat.{ℕ, zero, suc, ◌-◌}
 use mathlib.Core.Path.{◌≡◌, refl, sym, ap, ◌∙◌}
 use mathlib.Core.Logic.{◌↔◌}

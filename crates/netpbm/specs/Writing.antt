@@ -1,7 +1,7 @@
 -- The bytes of a written frame, and what writing answers and leaves. Definitions only.
 --
 --   encoding       the heading and the raster
---   write_refusal   1, 2, 3, 14
+--   write_refusal  1, 2, 3, 14
 --   WriteOutcome   the contract of writing: its answer, and the output after it
 use Rattle.std.specs.Prelude.{ℕ, ◌+◌, ◌*◌, List, ◌++◌, length}
 use Rattle.planes.specs.Refusals.{◌▷◌, size_refusal, length_refusal, output_refusal, greatest_pixels}

@@ -3,6 +3,7 @@
 // mark_section   marks a section's pixels
 // paint          gives the pixels of a component their new values and their next marks
 #![tactic(auto)]
+
 ghost use Rattle.std.specs.Prelude.{◌≡◌, cond, ◌≤◌, length};
 ghost use Rattle.planes.specs.Lists.{at};
 ghost use Rattle.histograms.specs.Histograms.{Distinct};

@@ -3,6 +3,7 @@
 // run_array   the first passes of an array, or the refusal that they meet with: 1 to 4, 16, then for each pass 5 to 8,
 //             18
 #![tactic(auto)]
+
 ghost use Rattle.std.specs.Prelude.{◌≡◌, ◌≤◌, min, take};
 ghost use Rattle.model.specs.Outcomes.{answer_reply};
 ghost use Rattle.passlists.specs.Outcomes.{PassesOutcome};

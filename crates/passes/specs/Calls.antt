@@ -1,9 +1,9 @@
 -- What a call of a pass does to its answer and to each lent slice. Definitions only.
 --
---   call_on           what the model is fed of a call
+--   call_on            what the model is fed of a call
 --   pass_call_refusal  the number of the refusal of a call
---   PassOutcome      the contract of `pass`
---   Sequence         a sequence of calls, each lent the plane as the one before left it
+--   PassOutcome        the contract of `pass`
+--   Sequence           a sequence of calls, each lent the plane as the one before left it
 use Rattle.std.specs.Prelude.{ℕ, List, [], ◌∷◌, length}
 use Rattle.planes.specs.Replies.{Reply}
 use Rattle.planes.specs.Shapes.{pixels}

@@ -3,6 +3,7 @@
 // pass    a pass over a lent plane, or the refusal that it meets with: refusals 1 to 8, 18 and 19
 // treat   the same for a pass and memory that are known to be accepted
 #![tactic(auto)]
+
 ghost use Rattle.std.specs.Prelude.{◌≡◌, ◌≤◌, length};
 ghost use Rattle.planes.specs.Shapes.{pixels, Lent};
 ghost use Rattle.model.specs.Neighbourhoods.{pass_neighbours};

@@ -1,9 +1,9 @@
 -- A list that is not refused is the model's chain of calls of its passes: each call has the lent marks and queue, and
 -- the list's answer is the sum of the calls' answers. Assumes nothing.
 --
---   passes_chain_lem   passes in memory
---   list_chain     a list of bytes
---   passes_taken, list_taken   none of the calls is refused
+--   passes_chain_lem          passes in memory
+--   list_chain                a list of bytes
+--   passes_taken, list_taken  none of the calls is refused
 use Prim.Native.Nat.{ℕ}
 use mathlib.Core.Path.{◌≡◌, refl, sym, ap, ap₂, subst, ◌∙◌}
 use mathlib.Core.List.{List, [], ◌∷◌, map}

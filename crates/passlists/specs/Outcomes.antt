@@ -1,10 +1,10 @@
 -- What a list of passes does to its answer and to each lent slice. Definitions only.
 --
---   slices_refusal     the refusal of the lent slices, by their lengths: 1 to 4
+--   slices_refusal      the refusal of the lent slices, by their lengths: 1 to 4
 --   run_list_refusal    the refusal that a list of bytes meets with: 1 to 4, then those of the list
 --   run_passes_refusal  the refusal that passes in memory meet with: 1 to 4, then those of the passes
---   ListOutcome       the contract of `run_list`
---   PassesOutcome     the contract of `run_passes`
+--   ListOutcome         the contract of `run_list`
+--   PassesOutcome       the contract of `run_passes`
 use Rattle.std.specs.Prelude.{ℕ, List, length}
 use Rattle.planes.specs.Refusals.{◌▷◌}
 use Rattle.planes.specs.Shapes.{pixels, lent_refusal}

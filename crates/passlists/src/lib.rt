@@ -9,6 +9,7 @@
 // A run is one walk: a run begins, takes a turn for each pass, first to check it and then to run it, and answers. All
 // passes are checked before the first one runs, so a refusal changes nothing.
 #![tactic(auto)]
+
 ghost use Rattle.std.specs.Prelude.{◌≡◌};
 ghost use Rattle.planes.specs.Refusals.{◌▷◌};
 ghost use Rattle.planes.specs.Shapes.{lent_refusal};

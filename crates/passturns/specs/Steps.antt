@@ -1,18 +1,18 @@
 -- The steps of a list's run. What a run has come to is an effect: the plane that it has left, and what it has counted.
 -- Definitions only.
 --
---   so_far        what a run has come to, on the plane that it has left
+--   so_far         what a run has come to, on the plane that it has left
 --   counts_so_far  the values that a run gives that has come to its end
---   further      what it comes to with one more pass
---   StepReady    what one pass requires
---   StepOutcome  what it does
---   Runnable     what all passes require
---   stopped      a run that has met with a refusal
---   started      a run of which the first pass is to be checked
---   begun        how a run begins
---   checked      the run after a pass has been checked
---   stepped      the run after a pass has run
---   TurnOutcome  the run after a pass has been checked or run
+--   further        what it comes to with one more pass
+--   StepReady      what one pass requires
+--   StepOutcome    what it does
+--   Runnable       what all passes require
+--   stopped        a run that has met with a refusal
+--   started        a run of which the first pass is to be checked
+--   begun          how a run begins
+--   checked        the run after a pass has been checked
+--   stepped        the run after a pass has run
+--   TurnOutcome    the run after a pass has been checked or run
 use Rattle.std.specs.Prelude.{ℕ, zero, suc, ◌+◌, ◌≤◌, ◌<◌, ◌≡◌, true, false, not, cond, List, [], length, ltb, eqb}
 use Rattle.planes.specs.Lists.{Beyond}
 use Rattle.planes.specs.Shapes.{pixels, Lent}

@@ -7,6 +7,7 @@
 // turn         the run after the pass that is due has been checked, or run
 // answer       the answer of a run that has come to its end
 #![tactic(auto)]
+
 ghost use Rattle.std.specs.Prelude.{◌≡◌, true, ◌<◌};
 ghost use Rattle.planes.specs.Refusals.{◌▷◌};
 ghost use Rattle.planes.specs.Shapes.{lent_refusal};

@@ -10,6 +10,7 @@
 // component's least value to its greatest, are read or written. The table divides once for each value that occurs. What
 // fills takes a slice, for an array that is lent as a slice is known to have all its entries.
 #![tactic(auto)]
+
 ghost use Rattle.std.specs.Prelude.{◌≡◌, List, ℕ, ◌+◌, ◌≤◌, ◌<◌, length};
 ghost use Rattle.planes.specs.Lists.{at};
 ghost use Rattle.histograms.specs.Values.{scaled};

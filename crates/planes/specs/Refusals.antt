@@ -2,12 +2,12 @@
 -- Definitions only.
 --
 --   when, ▷         a refusal where a test passes, and the first refusal that applies
---   side_refusal     1, by the sides
---   pixel_refusal    2, by the number of pixels
---   length_refusal   3, by the length of a plane or a frame
---   room_refusal     4, by the lengths of marks and queue
---   output_refusal   14, by the length of the output
---   size_refusal     1, 2
+--   side_refusal    1, by the sides
+--   pixel_refusal   2, by the number of pixels
+--   length_refusal  3, by the length of a plane or a frame
+--   room_refusal    4, by the lengths of marks and queue
+--   output_refusal  14, by the length of the output
+--   size_refusal    1, 2
 use Rattle.std.specs.Prelude.{ℕ, zero, suc, ◌*◌, ◌≤◌, Bool, true, false, not, ◌||◌, ltb, eqb}
 
 -- the refusal k where the test passes

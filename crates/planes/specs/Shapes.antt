@@ -1,15 +1,15 @@
 -- The shape of a plane: its pixels, its neighbours, and the refusals of a plane of that shape. Definitions only.
 --
 --   shape_of       the shape of so many columns and rows
---   pixels        the number of pixels
---   neighbours    the neighbours that the order and the regional extrema of every chain are about: the four
---   adjacency     the neighbours by a number of them, by which components are taken: 4 or 8
---   SizedShape    a shape that is not refused
---   Symmetric     a relation is the same seen from either side
---   Narrower      a relation holds only where another does
+--   pixels         the number of pixels
+--   neighbours     the neighbours that the order and the regional extrema of every chain are about: the four
+--   adjacency      the neighbours by a number of them, by which components are taken: 4 or 8
+--   SizedShape     a shape that is not refused
+--   Symmetric      a relation is the same seen from either side
+--   Narrower       a relation holds only where another does
 --   shape_refusal  1, 2
 --   lent_refusal   1, 2, 3, 4
---   Lent          a plane that is lent whole, with room in marks and queue
+--   Lent           a plane that is lent whole, with room in marks and queue
 use Rattle.std.specs.Prelude.{ℕ, ◌*◌, ◌≤◌, ◌≡◌, true, cond, eqb}
 use Rattle.planes.specs.Refusals.{◌▷◌, side_refusal, pixel_refusal, length_refusal, room_refusal, greatest_pixels}
 use Rattle.planes.specs.Refusals.{Sized}

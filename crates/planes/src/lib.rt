@@ -13,6 +13,7 @@
 //
 // Each test answers its number, or 0.
 #![tactic(auto)]
+
 ghost use Rattle.std.specs.Prelude.{◌≡◌, ◌^◌, ◌<◌};
 ghost use Rattle.planes.specs.Refusals.{side_refusal, pixel_refusal, length_refusal, room_refusal, output_refusal};
 ghost use Rattle.planes.specs.Refusals.{size_refusal};

@@ -5,16 +5,16 @@
 -- 1 / (100 × segments). Places and heights are whole numbers: nothing is rounded.
 --
 -- By the number c v of values that are no greater than v, and the number m of all values:
---   least_from      the least number from one on that passes a test
---   growth         how much higher a point is than the one before
---   place_of        a point's place
---   point_at        a point at a place, by the one before
---   next_point      a point, by the one before
---   start          point 0
---   points_after    some points after one
---   points         the points 1 to `segments`
---   top_of          the last of some points
---   up_to           c, for a list of values
+--   least_from    the least number from one on that passes a test
+--   growth        how much higher a point is than the one before
+--   place_of      a point's place
+--   point_at      a point at a place, by the one before
+--   next_point    a point, by the one before
+--   start         point 0
+--   points_after  some points after one
+--   points        the points 1 to `segments`
+--   top_of        the last of some points
+--   up_to         c, for a list of values
 -- For the functions:
 --   Cumulative     sums of a component's counts
 --   First          what a search for the least value of sufficient sum finds

@@ -10,6 +10,7 @@
 // The points are gone over without being stored. Heights are below 2^32 for any numbers of the rule, since slopes have
 // 16 bits, segments 8 and distances 8; so all products fit 64 bits.
 #![tactic(auto)]
+
 ghost use Rattle.std.specs.Prelude.{◌≡◌, ℕ, ◌+◌, ◌-◌, ◌*◌, ◌^◌, ◌≤◌, ◌<◌, min, max, length};
 ghost use Rattle.planes.specs.Lists.{at};
 ghost use Rattle.points.specs.Points.{growth, next_point, start, points, top_of, Cumulative, First, Reached};

@@ -1,8 +1,8 @@
 -- What the program writes: the line of a refusal, or an enhanced frame. Definitions only.
 --
---   greatest_frame   the greatest number of pixels of a frame
---   refusal_line N   `refused N` and LF
---   enhanced_frame   a frame enhanced with the house setting, as the writer emits it
+--   greatest_frame  the greatest number of pixels of a frame
+--   refusal_line N  `refused N` and LF
+--   enhanced_frame  a frame enhanced with the house setting, as the writer emits it
 --   Emitted         the contract of what is written into the output
 use Rattle.std.specs.Prelude.{ℕ, ◌≤◌, ◌≡◌, List, [], ◌∷◌, ◌++◌, length, take, drop}
 use Rattle.planes.specs.Shapes.{shape_of}

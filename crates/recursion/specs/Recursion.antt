@@ -1,6 +1,6 @@
 -- What the whole recursion does. Definitions only.
 --
---   levels_left        on how many levels below level 0 a plane is kept back that leaves there
+--   levels_left       on how many levels below level 0 a plane is kept back that leaves there
 --   RecursionOutcome  the recursion comes to that of the model
 use Rattle.std.specs.Prelude.{ℕ, ◌≡◌, cond, List, ltb}
 use Rattle.planes.specs.Shapes.{pixels}

@@ -2,6 +2,7 @@
 //
 // run_levels   level 0, which has no area test, then its halves with the levels below them
 #![tactic(auto)]
+
 ghost use Rattle.std.specs.Prelude.{◌≡◌, length};
 ghost use Rattle.branches.specs.Branches.{Ready};
 ghost use Rattle.recursion.specs.Recursion.{levels_left, RecursionOutcome};

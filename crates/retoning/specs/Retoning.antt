@@ -1,13 +1,13 @@
 -- The treatment of one component, found and measured: it is retoned, kept back or left alone, and given its next marks.
 -- Definitions only.
 --
---   small       a component below the least area: no pass with this area changes it
---   inert       a component that neither the pass nor any later one on a part of its section changes
---   leaves      an inert component of sufficient area: every one of these passes keeps it back
---   Toned       what becomes of its values
---   Done        what becomes of it, marks and all
---   DoneBy      the same, by any list of its values
---   alone_by     what is told of an inert one
+--   small     a component below the least area: no pass with this area changes it
+--   inert     a component that neither the pass nor any later one on a part of its section changes
+--   leaves    an inert component of sufficient area: every one of these passes keeps it back
+--   Toned     what becomes of its values
+--   Done      what becomes of it, marks and all
+--   DoneBy    the same, by any list of its values
+--   alone_by  what is told of an inert one
 use Rattle.std.specs.Prelude.{ℕ, ◌<◌, ◌≡◌, Bool, false, cond, ◌&&◌, ◌||◌, List, length, ltb}
 use Rattle.planes.specs.Lists.{at}
 use Rattle.histograms.specs.declared.Measures.{Measures}

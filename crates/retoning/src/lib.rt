@@ -10,6 +10,7 @@
 // of the section: it is left as it is, and gets no next marks. A lone one of sufficient area is kept back by all of
 // these passes: it is counted once here, and told of as one that leaves.
 #![tactic(auto)]
+
 ghost use Rattle.std.specs.Prelude.{◌≡◌, false, cond, List, ℕ, ◌≤◌, length, ltb};
 ghost use Rattle.histograms.specs.Histograms.{values, Measured, Gathered};
 ghost use Rattle.painting.specs.Painting.{Listed};

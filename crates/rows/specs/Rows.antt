@@ -1,9 +1,9 @@
 -- Rows of a plane of w columns, and the row of a pixel by multiplication with an inverse of the width. Definitions
 -- only.
 --
---   in_row       neighbours in a row; every neighbourhood has these
---   row_end      one past the last pixel of a pixel's row
---   inverse_of   the number that is multiplied with
+--   in_row      neighbours in a row; every neighbourhood has these
+--   row_end     one past the last pixel of a pixel's row
+--   inverse_of  the number that is multiplied with
 --   Width       what finding a row requires of the width
 use Rattle.std.specs.Prelude.{ℕ, ◌+◌, ◌*◌, ◌/◌, ◌≤◌, ◌≡◌, ◌&&◌, eqb}
 use Rattle.planes.specs.Neighbours.{Near, apart}

@@ -9,6 +9,7 @@
 //
 // Which pixels are neighbours is not known here, but for those of one row.
 #![tactic(auto)]
+
 ghost use Rattle.std.specs.Prelude.{◌+◌, ◌/◌, ◌≤◌, ◌<◌, ◌≡◌, length};
 ghost use Rattle.planes.specs.Refusals.{greatest_pixels};
 ghost use Rattle.rows.specs.Rows.{inverse_of, Width, row_end};

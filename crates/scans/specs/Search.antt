@@ -2,7 +2,7 @@
 --
 --   Searchable   what a search requires: marks of a plane, the inverse of its width, and a pixel of it
 --   FirstFrom    a pixel is the first from one on that has the code
---   found_reply   the reply of each case of what a search finds
+--   found_reply  the reply of each case of what a search finds
 --   NextPixel    what a search promises of its reply
 use Rattle.std.specs.Prelude.{ℕ, ◌≤◌, ◌<◌, ◌≡◌, List, [], ◌∷◌, length}
 use Rattle.planes.specs.Lists.{at}

@@ -4,6 +4,7 @@
 // take_plane   takes all pixels of a plane, and tells their number, their least and their greatest value; where they
 //              have one code, they are one component: nothing is searched
 #![tactic(auto)]
+
 ghost use Rattle.std.specs.Prelude.{length};
 ghost use Rattle.planes.specs.Shapes.{pixels, Lent};
 ghost use Rattle.histograms.specs.Histograms.{Measured};

@@ -3,11 +3,11 @@
 -- work that has a pixel's old value in an interval, and the run of all passes, give the pixel the tone that its pass
 -- gives it on the first plane. Assumes nothing.
 --
---   works_ordered    the passes of works were accepted
---   together_run     the copies put together are the run of all passes
---   works_answered, work_answered_is   each pass answers in its work what it answers on the first plane, and only that
---   copies_effect    plane and counts of the works are those of a run of their passes, in any order
---   rounds_effect    the same round by round
+--   works_ordered                     the passes of works were accepted
+--   together_run                      the copies put together are the run of all passes
+--   works_answered, work_answered_is  each pass answers in its work what it answers on the first plane, and only that
+--   copies_effect                     plane and counts of the works are those of a run of their passes, in any order
+--   rounds_effect                     the same round by round
 use Prim.Native.Nat.{ℕ, ◌+◌, ◌<◌}
 use mathlib.Core.Path.{◌≡◌, refl, sym, ap, ap₂, subst, ◌∙◌}
 use mathlib.Core.Logic.{inl, inr, ◌↔◌}

@@ -2,15 +2,15 @@
 --
 --   Work          what a worker did: its calls with their replies, and its copy of the plane as they left it
 --   Worked        all works are sequences of accepted calls of `pass` that start from one plane
---   work_passes    the passes of all works
+--   work_passes   the passes of all works
 --   WorkAnswered  a pass was called in one of the works, and its call had a reply
---   work_total     the sum of a count over all replies of all works
+--   work_total    the sum of a count over all replies of all works
 --   taken         one of some passes has a value in its interval
---   handed_back    the value of a pixel in the copy of the work that has its old value in an interval
+--   handed_back   the value of a pixel in the copy of the work that has its old value in an interval
 --   together      the copies put together
 --   Rounds        passes handed out round by round, each round from what the one before put together
---   rounds_total   the sum of a count over all rounds
---   level_rounds   the levels of an enhancement as rounds
+--   rounds_total  the sum of a count over all rounds
+--   level_rounds  the levels of an enhancement as rounds
 use Rattle.std.specs.Prelude.{ℕ, ◌+◌, Bool, false, ◌||◌, cond, List, [], ◌∷◌, ◌++◌, map, length}
 use Rattle.planes.specs.Lists.{from, at}
 use Rattle.planes.specs.Permutations.{Permutation}

@@ -1,7 +1,7 @@
 -- Calls of passes on pairwise disjoint intervals, in some order. Definitions only.
 --
 --   PairwiseDisjoint  any two passes of a list are on disjoint intervals
---   passes_in          the passes of some calls, first to last
+--   passes_in         the passes of some calls, first to last
 --   Answered          a pass was called, and its call had a reply
 use Rattle.std.specs.Prelude.{◌≡◌, List, [], ◌∷◌, map}
 use Rattle.planes.specs.Replies.{Reply}

@@ -4,6 +4,7 @@
 // treat_section   retones the components of the pixels that have a code, and gives them their next marks
 // treat_plane     the same for a plane whose pixels all have the code
 #![tactic(auto)]
+
 ghost use Rattle.std.specs.Prelude.{◌≡◌, true, cond, ℕ, ◌<◌};
 ghost use Rattle.planes.specs.Lists.{at};
 ghost use Rattle.planes.specs.Shapes.{pixels};

@@ -8,6 +8,7 @@
 //
 // Which pixels of other rows are neighbours is known here alone.
 #![tactic(auto)]
+
 ghost use Rattle.std.specs.Prelude.{◌*◌, ◌/◌, ◌≤◌, ◌<◌, ◌≡◌};
 ghost use Rattle.planes.specs.Shapes.{pixels};
 ghost use Rattle.spreading.specs.Spreads.{Above, Below, Left, Right, Reachable, ColumnReached};

@@ -1,10 +1,10 @@
 -- Texts and decimal numbers as bytes, in ASCII. Definitions only.
 --
---   ascii         the bytes of a text
---   is_digit       a byte is one of 0 to 9
---   value s       the number whose decimal digits are s
---   Numeral x s   s is 1 to 6 digits, of value x
---   decimal x     the digits of x, with no leading zeros
+--   ascii        the bytes of a text
+--   is_digit     a byte is one of 0 to 9
+--   value s      the number whose decimal digits are s
+--   Numeral x s  s is 1 to 6 digits, of value x
+--   decimal x    the digits of x, with no leading zeros
 use Rattle.std.specs.Prelude.{ℕ, zero, suc, ◌+◌, ◌-◌, ◌*◌, ◌/◌, ◌%◌, ◌≤◌, ◌≡◌, Bool, true, ◌&&◌, cond, List, [], ◌∷◌, ◌++◌, leb, ltb, length}
 use Prim.Native.Char.{code}
 use Prim.Native.String.{String, [] as none, ◌∷◌ as ◌then◌}

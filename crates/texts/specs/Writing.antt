@@ -1,7 +1,7 @@
 -- What a call that writes bytes into a lent output answers and leaves. Definitions only.
 --
---   written_reply     the reply of each case of what it answers
---   WritingOutcome   the contract of writing some bytes, or of the refusal: its answer, and the output after it
+--   written_reply   the reply of each case of what it answers
+--   WritingOutcome  the contract of writing some bytes, or of the refusal: its answer, and the output after it
 use Rattle.std.specs.Prelude.{ℕ, ◌≡◌, List, [], ◌∷◌, length}
 use Rattle.planes.specs.Replies.{Reply, refuses, gives, replied, after, overwritten}
 use Rattle.texts.specs.declared.Written.{Written}

@@ -1,7 +1,7 @@
 -- Components that a rule keeps back, and so does every later pass with this rule on a part of their section.
 -- Definitions only.
 --
---   one_value   all values are one
+--   one_value  all values are one
 --   lone       a component of one value under the plain rule
 use Rattle.std.specs.Prelude.{ℕ, Bool, false, List, eqb}
 use Rattle.planes.specs.Lists.{at, every}

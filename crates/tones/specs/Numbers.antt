@@ -1,9 +1,9 @@
 -- The numbers that stand for a tone rule in a record of a pass list and in a call from C. Definitions only.
 --
---   rule_of        the rule that some numbers stand for
+--   rule_of       the rule that some numbers stand for
 --   malformed     numbers that stand for no rule
---   form_refusal   the refusal of such numbers
---   numbers_of     the numbers of a rule
+--   form_refusal  the refusal of such numbers
+--   numbers_of    the numbers of a rule
 --   RuleFits      a rule whose numbers fit 16 bits, and its segments 8
 --   NumbersFit    numbers that fit their fields
 use Rattle.std.specs.Prelude.{ℕ, ◌<◌, Bool, not, cond, ◌&&◌, ◌||◌, ltb, eqb}

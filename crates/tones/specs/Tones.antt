@@ -1,7 +1,7 @@
 -- The tone rules: what the value v of a component in the section [a, b] becomes. A rule sees only the list vs of the
 -- component's values. Definitions only.
 --
---   slopes_of   the numbers of an affine rule
+--   slopes_of  the numbers of an affine rule
 --   tone       the tone of a rule
 --   kept       the rule keeps the old values back
 use Rattle.std.specs.Prelude.{ℕ, Bool, false, List}

@@ -13,6 +13,7 @@
 // least value to its greatest, are read or written: a component costs time in its pixels and in the spread of its
 // values.
 #![tactic(auto)]
+
 ghost use Rattle.std.specs.Prelude.{◌≡◌, List, ℕ, ◌≤◌, length};
 ghost use Rattle.histograms.specs.Histograms.{Measured, Gathered};
 ghost use Rattle.tones.specs.Tables.{ToneTabled};

@@ -11,7 +11,6 @@ use Rattle.points.specs.Points.{Cumulative}
 use Rattle.affine.specs.Affine.{affine_kept}
 use Rattle.points.proofs.Points.{cumulative}
 use Rattle.affine.proofs.Tables.{drawn_whole, not_kept, kept_same, affine_tabled}
-use borrow.Author.Rules.{rules}
 use native.Mathlib.Omega.{arith}
 use Rattle.affine.proofs.affine_tones.Goals as goal
 use Rattle.affine.proofs.affine_tones.Goals.{After-keeps, After-sum_up}

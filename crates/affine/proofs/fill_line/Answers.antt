@@ -1,10 +1,8 @@
 -- `affine::fill_line` meets its contract. The invariant: the entries from x to below v are tones. The measure is what
 -- is left up to q. Assumes nothing.
-use Prim.Native.Nat.{◌-◌, ◌≤◌, max}
+use Prim.Native.Nat.{max}
 use mathlib.Core.Path.{◌≡◌}
-use Rattle.histograms.specs.Histograms.{Refilled}
 use Rattle.histograms.proofs.Stores.{refilled_none, refilled_more}
-use Rattle.affine.specs.Affine.{line_tone}
 use native.Mathlib.Omega.{arith}
 use Rattle.affine.proofs.fill_line.Goals as goal
 

@@ -1,20 +1,18 @@
 -- `affine::fill_lines` meets its contract. The invariant: place and height are those of point i, and the entries from
 -- the least value to below the place are tones. The measure is what is left of the segments. Assumes nothing.
-use Prim.Native.Nat.{ℕ, ◌-◌, ◌≤◌, max}
+use Prim.Native.Nat.{ℕ, max}
 use mathlib.Core.Path.{◌≡◌, sym, ap, subst, ◌∙◌}
 use lib.ListN.{length-set}
 use Rattle.planes.specs.Lists.{at}
 use Rattle.histograms.specs.Values.{scaled}
-use Rattle.histograms.specs.Histograms.{Refilled}
 use Rattle.histograms.proofs.Scaled.{scaled_all}
 use Rattle.histograms.proofs.Stores.{refilled_none, refilled_more}
 use Rattle.points.specs.declared.Point.{Point}
-use Rattle.points.specs.Points.{start, points, Reached}
+use Rattle.points.specs.Points.{start, Reached}
 use Rattle.affine.specs.Affine.{joined}
 use Rattle.points.proofs.Points.{reached_first, reached_end}
 use Rattle.points.proofs.Ahead.{Ahead, ahead_first, end_top, Next, next_of}
 use Rattle.affine.proofs.Lines.{Onward, onward_first, onward_next, onward_line, end_tone, filled_next}
-use borrow.Author.Rules.{rules}
 use native.Mathlib.Omega.{arith}
 use Rattle.affine.proofs.fill_lines.Goals as goal
 use Rattle.affine.proofs.fill_lines.Goals.{After-next_point-q}

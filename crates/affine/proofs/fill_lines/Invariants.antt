@@ -1,21 +1,13 @@
 -- `affine::fill_lines` meets its contract. The invariant: place and height are those of point i, and the entries from
 -- the least value to below the place are tones. The measure is what is left of the segments. Assumes nothing.
-use Prim.Native.Nat.{ℕ, ◌-◌, ◌≤◌, max}
-use mathlib.Core.Path.{◌≡◌, sym, ap, subst, ◌∙◌}
-use lib.ListN.{length-set}
+use Prim.Native.Nat.{◌-◌, ◌≤◌, max}
 use Rattle.planes.specs.Lists.{at}
-use Rattle.histograms.specs.Values.{scaled}
 use Rattle.histograms.specs.Histograms.{Refilled}
-use Rattle.histograms.proofs.Scaled.{scaled_all}
-use Rattle.histograms.proofs.Stores.{refilled_none, refilled_more}
 use Rattle.points.specs.declared.Point.{Point}
 use Rattle.points.specs.Points.{start, points, Reached}
 use Rattle.affine.specs.Affine.{joined}
-use Rattle.points.proofs.Points.{reached_first, reached_end}
-use Rattle.points.proofs.Ahead.{Ahead, ahead_first, end_top, Next, next_of}
-use Rattle.affine.proofs.Lines.{Onward, onward_first, onward_next, onward_line, end_tone, filled_next}
-use borrow.Author.Rules.{rules}
-use native.Mathlib.Omega.{arith}
+use Rattle.points.proofs.Ahead.{Ahead}
+use Rattle.affine.proofs.Lines.{Onward}
 use Rattle.affine.proofs.fill_lines.Given as goal
 
 abbrev pub invariant-loop-i : goal.invariant-loop-i
@@ -23,9 +15,9 @@ invariant-loop-i l =
     let p : Point = record { place = l.place; height = l.height } in
     ((l.i ≤ l.n)
     × (Reached l.s l.sums l.c l.a l.i p × (Ahead l.s l.a l.b (at l.sums) l.c.size l.i p × Onward l.s l.a l.b l.y
-        (at l.sums) l.c.size l.i p)))
+    (at l.sums) l.c.size l.i p)))
     × Refilled (joined l.a l.b l.y (start l.a) (points l.s l.a l.b (at l.sums) l.c.size)) l.c.least
-        (max l.c.least l.place)
+    (max l.c.least l.place)
     l.initial.table l.table
 
 abbrev pub decreases-loop-i : goal.decreases-loop-i

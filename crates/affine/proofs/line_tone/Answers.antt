@@ -4,7 +4,6 @@ use Prim.Native.Nat.{ℕ, ◌+◌, ◌-◌, ◌*◌, ◌^◌, ◌≤◌, ◌<◌
 use native.Mathlib.Nat.{le_trans, mul-le-mul, mul-le-mul_right, mul-pos}
 use Rattle.points.specs.declared.Point.{Point}
 use Rattle.affine.proofs.Sound.{part_le}
-use borrow.Author.Rules.{rules}
 use native.Mathlib.Omega.{arith}
 use Rattle.affine.proofs.line_tone.Goals as goal
 use Rattle.affine.proofs.line_tone.Goals.{Start}

@@ -2,7 +2,6 @@
 use Prim.Native.Nat.{◌*◌, ◌≤◌}
 use native.Mathlib.Nat.{mul-le-mul}
 use native.Mathlib.Omega.{arith}
-use borrow.Author.Rules.{rules}
 use Rattle.branches.proofs.counts_of.Goals as goal
 use Rattle.branches.proofs.counts_of.Goals.{After-struct_known-1}
 

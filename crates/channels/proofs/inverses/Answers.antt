@@ -1,9 +1,9 @@
 -- `channels::inverses` meets its contract. The invariant: the entries from 1 to below m are inverses. The measure is
 -- the number of entries that are left. Assumes nothing.
-use Prim.Native.Nat.{◌-◌, ◌≤◌}
+use Prim.Native.Nat.{◌-◌}
 use mathlib.Core.Path.{◌≡◌, refl}
 use native.Mathlib.Omega.{arith}
-use Rattle.channels.specs.Scales.{inverse, InversesBelow}
+use Rattle.channels.specs.Scales.{inverse}
 use Rattle.channels.proofs.Quotients.{sum_fits, inverses_none, inverses_more}
 use Rattle.channels.proofs.inverses.Goals as goal
 

@@ -1,10 +1,7 @@
 -- `channels::inverses` meets its contract. The invariant: the entries from 1 to below m are inverses. The measure is
 -- the number of entries that are left. Assumes nothing.
 use Prim.Native.Nat.{◌-◌, ◌≤◌}
-use mathlib.Core.Path.{◌≡◌, refl}
-use native.Mathlib.Omega.{arith}
-use Rattle.channels.specs.Scales.{inverse, InversesBelow}
-use Rattle.channels.proofs.Quotients.{sum_fits, inverses_none, inverses_more}
+use Rattle.channels.specs.Scales.{InversesBelow}
 use Rattle.channels.proofs.inverses.Given as goal
 
 abbrev pub invariant-loop-m : goal.invariant-loop-m

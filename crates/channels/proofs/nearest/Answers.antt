@@ -1,7 +1,6 @@
 -- `channels::nearest` meets its contract: the whole part of the product with the inverse is the rounded quotient.
 -- Assumes nothing.
 use native.Mathlib.Omega.{arith}
-use borrow.Author.Rules.{rules}
 use Rattle.channels.proofs.Quotients.{product_le, rounded_by_inverse}
 use Rattle.channels.proofs.nearest.Goals as goal
 

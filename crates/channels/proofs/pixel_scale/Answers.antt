@@ -1,7 +1,6 @@
 -- `channels::pixel_scale` meets its contract, by those of its calls. Assumes nothing.
 use Prim.Native.Nat.{max}
 use mathlib.Core.Path.{ap, ◌∙◌}
-use borrow.Author.Rules.{rules}
 use Rattle.channels.proofs.pixel_scale.Goals as goal
 
 pub returns : goal.returns

@@ -2,7 +2,6 @@
 use Prim.Native.Nat.{ℕ, ◌*◌, ◌≤◌, max}
 use mathlib.Core.Path.{sym, ◌∙◌}
 use native.Mathlib.Omega.{arith}
-use borrow.Author.Rules.{rules}
 use Rattle.planes.specs.Lists.{at}
 use Rattle.channels.specs.Scales.{Quotient}
 use Rattle.channels.proofs.Scales.{scales_fit}

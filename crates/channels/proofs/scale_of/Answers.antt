@@ -2,7 +2,6 @@
 use Prim.Native.Nat.{◌*◌, ◌≤◌}
 use native.Mathlib.Nat.{mul-le-mul}
 use native.Mathlib.Omega.{arith}
-use borrow.Author.Rules.{rules}
 use Rattle.channels.proofs.Scales.{scales_black, scales_by_intensity, scales_by_greatest}
 use Rattle.channels.proofs.scale_of.Goals as goal
 

@@ -1,7 +1,6 @@
 -- `channels::scaled` meets its contract: the rounded quotient is a byte. Assumes nothing.
 use Prim.Native.Nat.{◌*◌}
 use native.Mathlib.Omega.{arith}
-use borrow.Author.Rules.{rules}
 use Rattle.planes.proofs.Rounding.{rounded_in}
 use Rattle.channels.proofs.scaled.Goals as goal
 

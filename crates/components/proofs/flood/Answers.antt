@@ -1,6 +1,5 @@
 -- `components::flood` meets its contract: the neighbours by 8 are the eight, by any other number those of the shape.
 -- `taken` is the place after either call, `test` that after the test. Assumes nothing.
-use borrow.Author.Rules.{rules}
 use borrow.Author.Tests.{eq-eqb, ne_eqb}
 use Rattle.planes.proofs.Shapes.{adjacency_eight, adjacency_other}
 use Rattle.components.proofs.flood.Goals as goal

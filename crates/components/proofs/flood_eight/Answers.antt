@@ -4,15 +4,13 @@
 use Prim.Native.Nat.{◌-◌, ◌<◌}
 use mathlib.Core.Path.{sym, subst}
 use native.Mathlib.Omega.{arith}
-use borrow.Author.Rules.{rules}
-use lib.ListN.{length}
 use Rattle.planes.specs.Lists.{at}
 use Rattle.planes.specs.Neighbours.{eight}
 use Rattle.planes.specs.Shapes.{pixels}
 use Rattle.spreading.specs.Spreads.{Begun}
 use Rattle.spreading.proofs.Around.{row_eight}
 use Rattle.components.proofs.Flooding.{may_begin, flood_begin}
-use Rattle.components.proofs.Turns.{FloodingTo, Going, going_none, head_inside, head_room, head_offset}
+use Rattle.components.proofs.Turns.{FloodingTo, going_none, head_inside, head_room, head_offset}
 use Rattle.components.proofs.Turns.{head_fits, spreadable, may_see, going_on, flooded}
 use Rattle.components.proofs.flood_eight.Goals as goal
 use Rattle.components.proofs.flood_eight.Goals.{At-loop-seen}
@@ -39,11 +37,10 @@ pub reach-tail-requires : goal.reach-tail-requires
 reach-tail-requires c = may_begin c.requires.0
 
 pub loop-seen-init : goal.loop-seen-init
-loop-seen-init c =
-    (
-      going_none _ c.args.shape c.args.code c.args.start c.args.plane.now _ _ _ c.requires.1.1,
-      λ h. absurd (omega (arith, c.pixels.ensures)),
-    )
+loop-seen-init c = (
+  going_none _ c.args.shape c.args.code c.args.start c.args.plane.now _ _ _ c.requires.1.1,
+  λ h. absurd (omega (arith, c.pixels.ensures)),
+)
 
 pub offset_bounds-queue-head : goal.offset_bounds-queue-head
 offset_bounds-queue-head c = head_offset (flooding (goal.at.offset_bounds-queue-head c).At-loop-seen)
@@ -61,20 +58,26 @@ spread-front-requires c =
     let a = c.args in (
       spreadable c.requires.0 (flooding (goal.at.spread-front-requires c).At-loop-seen) due,
       λ e. subst (Begun a.shape.w (pixels a.shape) a.code c.loop-seen.marks) (sym e)
-          (c.loop-seen.invariant.1 (omega (arith, head_inside (flooding
-              (goal.at.spread-front-requires c).At-loop-seen) due))),
+          (c.loop-seen.invariant.1 (omega (
+            arith,
+            head_inside (flooding
+                (goal.at.spread-front-requires c).At-loop-seen) due,
+          ))),
     )
 
 pub see-seen-requires : goal.see-seen-requires
 see-seen-requires c =
     may_see (flooding (goal.at.see-seen-requires c).At-loop-seen) c.loop-seen-test.true c.args.plane.now
-        c.loop-seen.counts _ _ c.requires.1.0
+    c.loop-seen.counts _ _ c.requires.1.0
     c.loop-seen.invariant.0.gauging
 
 pub loop-seen-smaller : goal.loop-seen-smaller
 loop-seen-smaller c =
-    omega (arith, head_room (flooding (goal.at.loop-seen-smaller c).At-loop-seen) c.loop-seen-test.true,
-        c.see-seen.ensures.size)
+    omega (
+      arith,
+      head_room (flooding (goal.at.loop-seen-smaller c).At-loop-seen) c.loop-seen-test.true,
+      c.see-seen.ensures.size,
+    )
 
 pub loop-seen-preserved : goal.loop-seen-preserved
 loop-seen-preserved c =
@@ -88,5 +91,5 @@ loop-seen-preserved c =
 pub returns : goal.returns
 returns c =
     flooded c.requires.0 c.loop-seen.seen (flooding
-        (goal.at.returns c).At-loop-seen) c.loop-seen-test.false c.args.plane.now
+    (goal.at.returns c).At-loop-seen) c.loop-seen-test.false c.args.plane.now
     c.loop-seen.invariant.0.gauging

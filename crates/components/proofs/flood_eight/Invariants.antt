@@ -2,24 +2,17 @@
 -- begun; l is the place where the loop begins a turn, i that after its test, `on` that after `spread`. The measure is
 -- what the head has left of the queue. Assumes nothing.
 use Prim.Native.Nat.{◌-◌, ◌<◌}
-use mathlib.Core.Path.{sym, subst}
-use native.Mathlib.Omega.{arith}
-use borrow.Author.Rules.{rules}
 use lib.ListN.{length}
-use Rattle.planes.specs.Lists.{at}
 use Rattle.planes.specs.Neighbours.{eight}
 use Rattle.planes.specs.Shapes.{pixels}
 use Rattle.spreading.specs.Spreads.{Begun}
-use Rattle.spreading.proofs.Around.{row_eight}
-use Rattle.components.proofs.Flooding.{may_begin, flood_begin}
-use Rattle.components.proofs.Turns.{FloodingTo, Going, going_none, head_inside, head_room, head_offset}
-use Rattle.components.proofs.Turns.{head_fits, spreadable, may_see, going_on, flooded}
+use Rattle.components.proofs.Turns.{Going}
 use Rattle.components.proofs.flood_eight.Given as goal
 
 abbrev pub invariant-loop-seen : goal.invariant-loop-seen
 invariant-loop-seen l =
     Going (eight l.shape.w) l.shape l.code l.start l.plane l.initial.marks l.initial.queue l.initial.seen.size
-        l.initial.front.tail l.marks l.queue l.counts l.seen
+    l.initial.front.tail l.marks l.queue l.counts l.seen
     l.front.tail
     × (l.front.reached < pixels l.shape → Begun l.shape.w (pixels l.shape) l.code l.marks l.front.reached)
 

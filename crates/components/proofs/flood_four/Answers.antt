@@ -3,13 +3,11 @@
 -- Assumes nothing.
 use Prim.Native.Nat.{◌-◌, ◌<◌}
 use native.Mathlib.Omega.{arith}
-use borrow.Author.Rules.{rules}
-use lib.ListN.{length}
 use Rattle.planes.specs.Lists.{at}
 use Rattle.planes.specs.Shapes.{neighbours}
 use Rattle.spreading.proofs.Around.{row_neighbours, spread_four}
 use Rattle.components.proofs.Flooding.{may_begin, flood_begin}
-use Rattle.components.proofs.Turns.{FloodingTo, Going, going_none, head_room, head_offset, head_fits}
+use Rattle.components.proofs.Turns.{FloodingTo, going_none, head_room, head_offset, head_fits}
 use Rattle.components.proofs.Turns.{spreadable, may_see, going_on, flooded}
 use Rattle.components.proofs.flood_four.Goals as goal
 use Rattle.components.proofs.flood_four.Goals.{At-loop-seen}
@@ -53,30 +51,33 @@ overflow_cast-p c = head_fits (flooding (goal.at.overflow_cast-p c).At-loop-seen
 pub reach_column-tail-requires : goal.reach_column-tail-requires
 reach_column-tail-requires c =
     (spreadable c.requires.0 (flooding (goal.at.reach_column-tail-requires c).At-loop-seen)
-        c.loop-seen-test.true).reachable
+    c.loop-seen-test.true).reachable
 
 pub see-seen-requires : goal.see-seen-requires
 see-seen-requires c =
     may_see (flooding (goal.at.see-seen-requires c).At-loop-seen) c.loop-seen-test.true c.args.plane.now
-        c.loop-seen.counts _ _ c.requires.1.0
+    c.loop-seen.counts _ _ c.requires.1.0
     c.loop-seen.invariant.gauging
 
 pub loop-seen-smaller : goal.loop-seen-smaller
 loop-seen-smaller c =
-    omega (arith, head_room (flooding (goal.at.loop-seen-smaller c).At-loop-seen) c.loop-seen-test.true,
-        c.see-seen.ensures.size)
+    omega (
+      arith,
+      head_room (flooding (goal.at.loop-seen-smaller c).At-loop-seen) c.loop-seen-test.true,
+      c.see-seen.ensures.size,
+    )
 
 pub loop-seen-preserved : goal.loop-seen-preserved
 loop-seen-preserved c =
     let due = c.loop-seen-test.true in
     let spread = spread_four (spreadable c.requires.0 (flooding
-        (goal.at.loop-seen-preserved c).At-loop-seen) due) c.reach_column-tail.ensures in
+    (goal.at.loop-seen-preserved c).At-loop-seen) due) c.reach_column-tail.ensures in
     going_on c.loop-seen.invariant due (head_room (flooding (goal.at.loop-seen-preserved c).At-loop-seen) due) (byte
-        (goal.at.loop-seen-preserved c).At-loop-seen) spread c.see-seen.ensures
+    (goal.at.loop-seen-preserved c).At-loop-seen) spread c.see-seen.ensures
     (omega arith) (omega arith)
 
 pub returns : goal.returns
 returns c =
     flooded c.requires.0 c.loop-seen.seen (flooding
-        (goal.at.returns c).At-loop-seen) c.loop-seen-test.false c.args.plane.now
+    (goal.at.returns c).At-loop-seen) c.loop-seen-test.false c.args.plane.now
     c.loop-seen.invariant.gauging

@@ -1,7 +1,6 @@
 -- `components::see` meets its contract: a value is a byte, so that it has a count. Assumes nothing.
 use Prim.Native.Nat.{◌<◌}
 use native.Mathlib.Omega.{arith}
-use borrow.Author.Rules.{rules}
 use Rattle.planes.specs.Lists.{at}
 use Rattle.components.proofs.see.Goals as goal
 use Rattle.components.proofs.see.Goals.{After-shared_slice_known-2-1}

@@ -2,7 +2,6 @@
 -- beginning on. Assumes nothing.
 use mathlib.Core.Path.{sym, ◌∙◌}
 use Rattle.texts.proofs.Writing.{wrote_refused, wrote_accepted}
-use borrow.Author.Rules.{rules}
 use Rattle.conversion.proofs.convert.Goals as goal
 
 pub returns-then-refusal-ne0 : goal.returns-then-refusal-ne0

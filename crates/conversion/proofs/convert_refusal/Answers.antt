@@ -4,7 +4,6 @@ use native.Mathlib.Omega.{arith}
 use Rattle.listformat.specs.Format.{other}
 use Rattle.listformat.proofs.Format.{headed, headed_long}
 use Rattle.conversion.proofs.Refusals.{refused_head, refused_record, refused_short, refused_none}
-use borrow.Author.Rules.{rules}
 use Rattle.conversion.proofs.convert_refusal.Goals as goal
 
 pub returns-then-head-ne0 : goal.returns-then-head-ne0

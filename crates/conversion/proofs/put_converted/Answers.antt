@@ -1,16 +1,14 @@
 -- `conversion::put_converted` meets its contract. The invariant: where the loop began with the head put into a lent
 -- output, the first j records are put (`Putting`). The measure is what is left of the count. Assumes nothing.
-use Prim.Native.Nat.{ℕ, ◌-◌, ◌≤◌, ◌<◌}
+use Prim.Native.Nat.{◌-◌, ◌≤◌, ◌<◌}
 use mathlib.Core.Path.{ap, subst, ◌∙◌}
-use mathlib.Core.List.{List}
 use native.Mathlib.Omega.{arith}
-use borrow.Author.Rules.{rules}
 use lib.ListN.{length}
 use Rattle.texts.specs.Placing.{Put}
 use Rattle.listformat.specs.declared.Edition.{Edition}
 use Rattle.listformat.specs.Format.{other, count_of, encode_head, Bytes}
 use Rattle.listformat.proofs.Format.{headed, headed_long}
-use Rattle.conversion.proofs.Refusals.{length_converted, Convertible, convertible, head_sound}
+use Rattle.conversion.proofs.Refusals.{length_converted, convertible, head_sound}
 use Rattle.conversion.proofs.Putting.{Putting, putting_none, putting_all, put_same, turn_asks, turn_puts}
 use Rattle.conversion.proofs.put_converted.Goals as goal
 use Rattle.conversion.proofs.put_converted.Goals.{After-put_head-at}
@@ -59,7 +57,7 @@ put_record-at-requires c =
     let due : c.loop-j.j < count_of list =
     omega (arith, c.loop-j-test.true, c.count_of-count.ensures) in
     turn_asks fine named turned c.record_start-i.ensures due (c.loop-j.invariant lent fine (begun
-        (goal.at.put_record-at-requires c).After-put_head-at))
+    (goal.at.put_record-at-requires c).After-put_head-at))
 
 pub overflow_add-j : goal.overflow_add-j
 overflow_add-j c =

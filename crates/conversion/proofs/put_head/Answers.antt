@@ -5,7 +5,6 @@ use mathlib.Core.List.{List}
 use native.Mathlib.Omega.{arith}
 use Rattle.texts.specs.Placing.{Put}
 use Rattle.conversion.proofs.Putting.{version_low, head_put}
-use borrow.Author.Rules.{rules}
 use Rattle.conversion.proofs.put_head.Goals as goal
 
 pub overflow_cast-version : goal.overflow_cast-version

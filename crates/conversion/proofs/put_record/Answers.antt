@@ -7,7 +7,6 @@ use Rattle.texts.specs.Placing.{Put}
 use Rattle.texts.proofs.Placing.{put_more}
 use Rattle.listformat.specs.Format.{encode_rest}
 use Rattle.conversion.proofs.Putting.{rest_long, fields_long, fields_taken}
-use borrow.Author.Rules.{rules}
 use Rattle.conversion.proofs.put_record.Goals as goal
 
 pub put_bytes-rest-requires : goal.put_bytes-rest-requires

@@ -7,7 +7,6 @@ use Rattle.texts.specs.Placing.{Put}
 use Rattle.listformat.specs.declared.Edition.{Edition}
 use Rattle.listformat.specs.Format.{encode_rest}
 use Rattle.conversion.proofs.Putting.{put_nothing}
-use borrow.Author.Rules.{rules}
 use Rattle.conversion.proofs.put_rest.Goals as goal
 
 pub put_bytes-requires : goal.put_bytes-requires

@@ -1,5 +1,4 @@
 -- `crules::neighbour_number` meets its contract: the fifth number, or 4. Assumes nothing.
-use borrow.Author.Rules.{rules}
 use borrow.Author.Tests.{eq-eqb, ne_eqb}
 use Rattle.crules.proofs.neighbour_number.Goals as goal
 

@@ -2,7 +2,6 @@
 use mathlib.Core.Path.{refl, sym}
 use native.Mathlib.Omega.{arith}
 use Rattle.histograms.proofs.Stores.{refilled_none, refilled_more}
-use borrow.Author.Rules.{rules}
 use Rattle.histograms.proofs.clear.Goals as goal
 
 pub returns-then-first-last : goal.returns-then-first-last

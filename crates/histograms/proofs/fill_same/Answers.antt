@@ -1,8 +1,7 @@
 -- `histograms::fill_same` meets its contract. The invariant: the entries from first to below v are the values
 -- themselves. The measure is what is left up to last. Assumes nothing.
-use Prim.Native.Nat.{◌+◌, ◌-◌, ◌≤◌}
+use Prim.Native.Nat.{◌+◌}
 use mathlib.Core.Path.{◌≡◌, refl}
-use Rattle.histograms.specs.Histograms.{Refilled}
 use Rattle.histograms.proofs.Stores.{refilled_none, refilled_more}
 use native.Mathlib.Omega.{arith}
 use Rattle.histograms.proofs.fill_same.Goals as goal

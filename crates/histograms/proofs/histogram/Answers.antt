@@ -1,12 +1,11 @@
 -- `histograms::histogram` meets its contract. The invariant: the counts are those of the plane's first i values. The
 -- measure is what is left of the plane. Assumes nothing.
-use Prim.Native.Nat.{◌-◌, ◌≤◌, ◌<◌}
+use Prim.Native.Nat.{◌<◌}
 use mathlib.Core.Path.{◌≡◌}
 use native.Mathlib.Omega.{arith}
-use lib.ListN.{length, take}
+use lib.ListN.{length}
 use lib.Seq.{length-take-le, take-length}
 use Rattle.planes.specs.Lists.{at}
-use Rattle.histograms.specs.Histograms.{Tally}
 use Rattle.histograms.proofs.Measured.{tally_taken, tally_few}
 use Rattle.histograms.proofs.histogram.Goals as goal
 use Rattle.histograms.proofs.histogram.Goals.{After-shared_slice_known-1}
@@ -39,9 +38,11 @@ bounds-counts-v-in-loop-i c = byte (goal.at.bounds-counts-v-in-loop-i c).After-s
 
 pub loop-i-preserved : goal.loop-i-preserved
 loop-i-preserved c =
-    let s = c.loop-i in
-    (omega arith, tally_taken _ s.i s.invariant.1 (omega arith) (byte
-        (goal.at.loop-i-preserved c).After-shared_slice_known-1))
+    let s = c.loop-i in (
+      omega arith,
+      tally_taken _ s.i s.invariant.1 (omega arith) (byte
+          (goal.at.loop-i-preserved c).After-shared_slice_known-1),
+    )
 
 pub returns : goal.returns
 returns c =

@@ -1,13 +1,8 @@
 -- `histograms::histogram` meets its contract. The invariant: the counts are those of the plane's first i values. The
 -- measure is what is left of the plane. Assumes nothing.
-use Prim.Native.Nat.{◌-◌, ◌≤◌, ◌<◌}
-use mathlib.Core.Path.{◌≡◌}
-use native.Mathlib.Omega.{arith}
+use Prim.Native.Nat.{◌-◌, ◌≤◌}
 use lib.ListN.{length, take}
-use lib.Seq.{length-take-le, take-length}
-use Rattle.planes.specs.Lists.{at}
 use Rattle.histograms.specs.Histograms.{Tally}
-use Rattle.histograms.proofs.Measured.{tally_taken, tally_few}
 use Rattle.histograms.proofs.histogram.Given as goal
 
 abbrev pub invariant-loop-i : goal.invariant-loop-i

@@ -1,14 +1,10 @@
 -- `histograms::measure` meets its contract. The invariant: the measures are those of the plane's first i values. The
 -- measure is what is left of the plane. Assumes nothing.
-use Prim.Native.Nat.{◌-◌, ◌≤◌}
 use mathlib.Core.Path.{◌≡◌}
 use native.Mathlib.Omega.{arith}
-use lib.ListN.{length, take}
+use lib.ListN.{length}
 use lib.Seq.{take-length}
-use Rattle.planes.specs.Lists.{at}
-use Rattle.histograms.specs.Histograms.{Measured}
 use Rattle.histograms.proofs.Measured.{measured_first, measured_more}
-use borrow.Author.Rules.{rules}
 use Rattle.histograms.proofs.measure.Goals as goal
 
 pub loop-i-init : goal.loop-i-init
@@ -20,7 +16,7 @@ loop-i-preserved c =
     let s = c.loop-i in
     let lesser = c.lesser-least.ensures in
     let measured = measured_more _ s.i s.invariant.0.0
-        (omega arith) s.invariant.1 lesser c.greater-greatest.ensures in
+    (omega arith) s.invariant.1 lesser c.greater-greatest.ensures in
     ((omega arith, omega arith), measured)
 
 pub returns : goal.returns

@@ -1,14 +1,8 @@
 -- `histograms::measure` meets its contract. The invariant: the measures are those of the plane's first i values. The
 -- measure is what is left of the plane. Assumes nothing.
 use Prim.Native.Nat.{◌-◌, ◌≤◌}
-use mathlib.Core.Path.{◌≡◌}
-use native.Mathlib.Omega.{arith}
 use lib.ListN.{length, take}
-use lib.Seq.{take-length}
-use Rattle.planes.specs.Lists.{at}
 use Rattle.histograms.specs.Histograms.{Measured}
-use Rattle.histograms.proofs.Measured.{measured_first, measured_more}
-use borrow.Author.Rules.{rules}
 use Rattle.histograms.proofs.measure.Given as goal
 
 abbrev pub invariant-loop-i : goal.invariant-loop-i

@@ -2,7 +2,6 @@
 use Prim.Native.Nat.{◌-◌, ◌*◌, ◌≤◌}
 use native.Mathlib.Nat.{mul-le-mul_right}
 use Rattle.planes.proofs.Rounding.{rounded_le}
-use borrow.Author.Rules.{rules}
 use native.Mathlib.Omega.{arith}
 use Rattle.histograms.proofs.scale.Goals as goal
 use Rattle.histograms.proofs.scale.Goals.{After-nearest-t, Start}

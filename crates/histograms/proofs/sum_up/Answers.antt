@@ -1,11 +1,9 @@
 -- `histograms::sum_up` meets its contract. The invariant: the entries from a to below v are sums, and the others are as
 -- they were. The measure is what is left up to b. Assumes nothing.
-use Prim.Native.Nat.{◌+◌, ◌-◌, ◌≤◌, ◌<◌}
+use Prim.Native.Nat.{◌+◌}
 use mathlib.Core.Path.{◌≡◌}
 use native.Mathlib.Omega.{arith}
 use Rattle.planes.specs.Lists.{at}
-use Rattle.histograms.specs.Values.{sum_to}
-use Rattle.histograms.specs.Histograms.{Refilled}
 use Rattle.histograms.proofs.Sums.{sum_to_mono}
 use Rattle.histograms.proofs.Stores.{refilled_more, summing_first, summing_next, summed_of}
 use Rattle.histograms.proofs.sum_up.Goals as goal

@@ -1,6 +1,5 @@
 -- `levels::below` meets its contract: the level of the section against the last. Assumes nothing.
 use native.Mathlib.Omega.{arith}
-use borrow.Author.Rules.{rules}
 use Rattle.levels.proofs.Widths.{below_some, below_none}
 use Rattle.levels.proofs.below.Goals as goal
 

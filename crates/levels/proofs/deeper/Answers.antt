@@ -1,5 +1,4 @@
 -- `levels::deeper` meets its contract: there are halves where there is a level below. Assumes nothing.
-use borrow.Author.Rules.{rules}
 use Rattle.levels.proofs.Widths.{deeper_yes, deeper_no}
 use Rattle.levels.proofs.deeper.Goals as goal
 

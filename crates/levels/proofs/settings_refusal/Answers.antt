@@ -1,6 +1,5 @@
 -- `levels::settings_refusal` meets its contract: what the tests answer, in order. Assumes nothing.
 use mathlib.Core.Path.{sym, ◌∙◌}
-use borrow.Author.Rules.{rules}
 use Rattle.planes.proofs.Refusals.{▷_left, ▷_right}
 use Rattle.levels.specs.Levels.{settings_refusal}
 use Rattle.levels.proofs.settings_refusal.Goals as goal

@@ -1,9 +1,7 @@
 -- `limited::fill_limited` meets its contract. The invariant: the entries from the least value to below v are tones. The
 -- measure is what is left up to the greatest value. Assumes nothing.
-use Prim.Native.Nat.{◌+◌, ◌-◌, ◌≤◌}
+use Prim.Native.Nat.{◌+◌}
 use mathlib.Core.Path.{◌≡◌}
-use Rattle.histograms.specs.Histograms.{Refilled}
-use Rattle.limited.specs.Limited.{limited_by}
 use Rattle.histograms.proofs.Stores.{refilled_none, refilled_more}
 use native.Mathlib.Omega.{arith}
 use Rattle.limited.proofs.fill_limited.Goals as goal

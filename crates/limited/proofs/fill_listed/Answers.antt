@@ -1,10 +1,8 @@
 -- `limited::fill_listed` meets its contract. The invariant: the entries at the values of the queue's first i pixels are
 -- tones, and no entry outside [least, greatest] changes. The measure is what is left of m. Assumes nothing.
-use Prim.Native.Nat.{ℕ, ◌-◌, ◌≤◌}
+use Prim.Native.Nat.{ℕ, ◌≤◌}
 use mathlib.Core.Path.{◌≡◌}
 use Rattle.planes.specs.Lists.{at}
-use Rattle.histograms.specs.Histograms.{Outside}
-use Rattle.limited.specs.Limited.{Filled, limited_by}
 use Rattle.limited.proofs.Stores.{filled_none, filled_more}
 use Rattle.histograms.proofs.Stores.{outside_none, outside_more}
 use native.Mathlib.Omega.{arith}
@@ -31,13 +29,26 @@ pub overflow_cast-value : goal.overflow_cast-value
 overflow_cast-value c = omega (arith, within (goal.at.overflow_cast-value c).After-shared_slice_known-in-loop-i-2-1)
 
 pub limited_tone-requires : goal.limited_tone-requires
-limited_tone-requires c = (c.requires.1.0, (omega (arith,
-    within (goal.at.limited_tone-requires c).After-shared_slice_known-in-loop-i-2-1), omega (arith,
-    within (goal.at.limited_tone-requires c).After-shared_slice_known-in-loop-i-2-1)))
+limited_tone-requires c = (
+  c.requires.1.0,
+  (
+    omega (
+      arith,
+      within (goal.at.limited_tone-requires c).After-shared_slice_known-in-loop-i-2-1,
+    ),
+    omega (
+      arith,
+      within (goal.at.limited_tone-requires c).After-shared_slice_known-in-loop-i-2-1,
+    ),
+  ),
+)
 
 pub bounds-table-value : goal.bounds-table-value
-bounds-table-value c = omega (arith, within (goal.at.bounds-table-value c).After-shared_slice_known-in-loop-i-2-1,
-    c.requires.1.1)
+bounds-table-value c = omega (
+  arith,
+  within (goal.at.bounds-table-value c).After-shared_slice_known-in-loop-i-2-1,
+  c.requires.1.1,
+)
 
 pub loop-i-preserved : goal.loop-i-preserved
 loop-i-preserved c =

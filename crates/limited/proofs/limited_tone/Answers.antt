@@ -4,7 +4,6 @@ use native.Mathlib.Nat.{mul-le-mul_right}
 use Rattle.planes.specs.Lists.{at}
 use Rattle.limited.proofs.Sound.{shares_le}
 use native.Mathlib.Omega.{arith}
-use borrow.Author.Rules.{rules}
 use Rattle.limited.proofs.limited_tone.Goals as goal
 use Rattle.limited.proofs.limited_tone.Goals.{Start}
 

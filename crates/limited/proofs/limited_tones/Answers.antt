@@ -4,7 +4,6 @@ use Rattle.limited.proofs.Stores.{filled_all}
 use Rattle.histograms.proofs.Stores.{refilled_outside}
 use Rattle.histograms.proofs.Histograms.{gathered_range, gathered_own, gathered_counted}
 use Rattle.limited.proofs.Histograms.{clipped_rise, limited_tables}
-use borrow.Author.Rules.{rules}
 use native.Mathlib.Omega.{arith}
 use Rattle.limited.proofs.limited_tones.Goals as goal
 

@@ -3,7 +3,6 @@
 use mathlib.Core.Path.{◌∙◌}
 use native.Mathlib.Nat.{mul-le-mul_left}
 use Rattle.limited.proofs.Histograms.{clips_le, clips_sum, clipped_of}
-use borrow.Author.Rules.{rules}
 use native.Mathlib.Omega.{arith}
 use Rattle.limited.proofs.sum_clipped.Goals as goal
 

@@ -7,7 +7,6 @@ use lib.ListN.{length}
 use borrow.Author.Tests.{lt-ltb, le-ltb, ne_eqb, eq-eqb}
 use Rattle.planes.specs.Refusals.{when}
 use Rattle.listformat.specs.Format.{record_start, count_of, edition_of, greatest_count, miscounted, head_refusal}
-use borrow.Author.Rules.{rules}
 use Rattle.listchecks.proofs.head_refusal.Goals as goal
 
 -- the tests of the count, as one flag
@@ -58,7 +57,7 @@ returns-then-list-record_start c =
     let fine = sym c.is_misnamed.ensures ∙ c.if-is_misnamed.false in
     let same = placed ∙ ap (λ e. record_start e c.count_of-count.result) edition in
     let counted = uneven _ _ c.count_of-count.ensures c.if-count-gt-COUNT.false (λ z. c.if-list-record_start.true
-        (z ∙ sym same)) in
+    (z ∙ sym same)) in
     simp (long, fine) (sym (ap (λ t. when t 16) counted))
 
 pub returns : goal.returns

@@ -2,7 +2,6 @@
 use mathlib.Core.Path.{sym, ap, ◌∙◌}
 use borrow.Author.Tests.{ne_eqb, eq-eqb}
 use Rattle.listformat.specs.Format.{version, misnamed}
-use borrow.Author.Rules.{rules}
 use Rattle.listchecks.proofs.is_misnamed.Goals as goal
 
 pub returns-then-list-ne77 : goal.returns-then-list-ne77

@@ -7,7 +7,6 @@ use Rattle.listformat.specs.Format.{passes_of}
 use Rattle.listchecks.specs.Refusals.{first_refusal, record_refusals, list_refusal}
 use Rattle.listchecks.proofs.First.{▷_zero}
 use Rattle.listchecks.proofs.Refusals.{places_second}
-use borrow.Author.Rules.{rules}
 use Rattle.listchecks.proofs.list_refusal.Goals as goal
 
 pub returns-then-head-ne0 : goal.returns-then-head-ne0

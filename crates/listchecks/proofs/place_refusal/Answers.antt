@@ -2,7 +2,6 @@
 use mathlib.Core.Path.{sym, ap, ◌∙◌}
 use Rattle.listformat.specs.declared.Edition.{Edition}
 use Rattle.listchecks.specs.Refusals.{place_refusal}
-use borrow.Author.Rules.{rules}
 use Rattle.listchecks.proofs.place_refusal.Goals as goal
 
 pub returns-in-First : goal.returns-in-First

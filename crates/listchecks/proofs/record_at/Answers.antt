@@ -20,8 +20,11 @@ module _ (bs : List ℕ) (j : ℕ) where
       → p ≡ pass_at e bs i → record { form = form; pass = p } ≡ record_at bs j
   reads {e} {i} d f g h =
       let k : i ≡ record_start (edition_of bs) j = f ∙ ap (λ (e : Edition). record_start e j) d in
-      ap₂ (λ (n : ℕ) (q : Pass). record { form = n; pass =
-          q }) (g ∙ ap₂ (λ (e : Edition) (i : ℕ). form_at e bs i) d k)
+      ap₂ (λ (n : ℕ) (q : Pass). record {
+        form = n;
+        pass =
+            q;
+      }) (g ∙ ap₂ (λ (e : Edition) (i : ℕ). form_at e bs i) d k)
       (h ∙ ap₂ (λ (e : Edition) (i : ℕ). pass_at e bs i) d k)
 
   -- it stands in the list, and so do its fields

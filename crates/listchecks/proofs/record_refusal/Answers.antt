@@ -1,7 +1,6 @@
 -- `listchecks::record_refusal` meets its contract: the refusal of the record's form, then those of its pass. Assumes
 -- nothing.
 use mathlib.Core.Path.{ap, ◌∙◌}
-use borrow.Author.Rules.{rules}
 use Rattle.planes.specs.Refusals.{◌▷◌}
 use Rattle.listchecks.proofs.record_refusal.Goals as goal
 

@@ -2,7 +2,6 @@
 use mathlib.Core.Path.{sym, ◌∙◌}
 use borrow.Author.Tests.{ne_eqb, eq-eqb}
 use Rattle.listformat.specs.Format.{edition_of}
-use borrow.Author.Rules.{rules}
 use Rattle.listformat.proofs.edition_of.Goals as goal
 
 pub returns-then-number16_at-eq2 : goal.returns-then-number16_at-eq2

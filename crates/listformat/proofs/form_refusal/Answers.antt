@@ -3,7 +3,6 @@
 use mathlib.Core.Path.{sym, ap, ◌∙◌}
 use Rattle.tones.specs.Numbers.{form_refusal}
 use Rattle.listformat.proofs.Format.{form_set, form_unset}
-use borrow.Author.Rules.{rules}
 use Rattle.listformat.proofs.form_refusal.Goals as goal
 
 pub returns-then-is_zero_set : goal.returns-then-is_zero_set

@@ -1,7 +1,6 @@
 -- `listformat::is_second_zero_set` meets its contract: each answer follows from the tests that led to it. Assumes
 -- nothing.
 use borrow.Author.Tests.{ne_eqb, eq-eqb}
-use borrow.Author.Rules.{rules}
 use Rattle.listformat.proofs.is_second_zero_set.Goals as goal
 
 pub returns-then-list-i-ne0 : goal.returns-then-list-i-ne0

@@ -4,7 +4,6 @@ use mathlib.Core.Path.{sym, ap, subst, ◌∙◌}
 use lib.ListN.{length}
 use Rattle.listformat.specs.declared.Edition.{Edition}
 use Rattle.listformat.specs.Format.{record_length, zero_set}
-use borrow.Author.Rules.{rules}
 use Rattle.listformat.proofs.is_zero_set.Goals as goal
 
 pub is_second_zero_set-requires : goal.is_second_zero_set-requires

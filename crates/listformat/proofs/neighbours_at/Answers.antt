@@ -5,7 +5,6 @@ use native.Mathlib.Omega.{arith}
 use lib.ListN.{length}
 use Rattle.listformat.specs.declared.Edition.{Edition}
 use Rattle.listformat.specs.Format.{record_length, neighbours_at}
-use borrow.Author.Rules.{rules}
 use Rattle.listformat.proofs.neighbours_at.Goals as goal
 
 pub bounds-list-i : goal.bounds-list-i

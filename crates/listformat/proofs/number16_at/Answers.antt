@@ -1,7 +1,6 @@
 -- `listformat::number16_at` meets its contract: two bytes, each below 256, make a number below 65,536. Assumes nothing.
 use Prim.Native.Nat.{◌+◌}
 use native.Mathlib.Omega.{arith}
-use borrow.Author.Rules.{rules}
 use Rattle.listformat.proofs.number16_at.Goals as goal
 
 pub overflow_cast-low : goal.overflow_cast-low

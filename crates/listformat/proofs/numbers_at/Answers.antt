@@ -1,6 +1,5 @@
 -- `listformat::numbers_at` meets its contract: its fields are the bytes, and what the calls answer. Assumes nothing.
 use mathlib.Core.Path.{refl}
-use borrow.Author.Rules.{rules}
 use Rattle.listformat.proofs.numbers_at.Goals as goal
 
 pub returns : goal.returns

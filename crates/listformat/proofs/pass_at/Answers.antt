@@ -1,7 +1,6 @@
 -- `listformat::pass_at` meets its contract: its fields are what the calls answer. Assumes nothing.
 use mathlib.Core.Path.{refl}
 use Rattle.listformat.specs.Format.{pass_at}
-use borrow.Author.Rules.{rules}
 use Rattle.listformat.proofs.pass_at.Goals as goal
 
 pub returns : goal.returns

@@ -4,7 +4,6 @@ use mathlib.Core.Path.{sym, ap, subst}
 use native.Mathlib.Omega.{arith}
 use Rattle.listformat.specs.Format.{head_length}
 use Rattle.listformat.proofs.Format.{most_bytes, records_low}
-use borrow.Author.Rules.{rules}
 use Rattle.listformat.proofs.record_start.Goals as goal
 use Rattle.listformat.proofs.record_start.Goals.{After-record_length}
 

@@ -9,8 +9,10 @@ returns-then-area-eq0 c = simp (eq-eqb _ _ c.if-area-eq0.true)
 
 pub returns-then-area-gt-GREATEST_AREA : goal.returns-then-area-gt-GREATEST_AREA
 unfolding area_refusal
-returns-then-area-gt-GREATEST_AREA c = simp (ne_eqb _ _ c.if-area-eq0.false,
-    lt-ltb _ _ c.if-area-gt-GREATEST_AREA.true)
+returns-then-area-gt-GREATEST_AREA c = simp (
+  ne_eqb _ _ c.if-area-eq0.false,
+  lt-ltb _ _ c.if-area-gt-GREATEST_AREA.true,
+)
 
 pub returns : goal.returns
 unfolding area_refusal

@@ -9,8 +9,10 @@ returns-then-neighbours-eq-FOUR c = simp (eq-eqb _ _ c.if-neighbours-eq-FOUR.tru
 
 pub returns-then-neighbours-eq-EIGHT : goal.returns-then-neighbours-eq-EIGHT
 unfolding neighbour_refusal
-returns-then-neighbours-eq-EIGHT c = simp (ne_eqb _ _ c.if-neighbours-eq-FOUR.false,
-    eq-eqb _ _ c.if-neighbours-eq-EIGHT.true)
+returns-then-neighbours-eq-EIGHT c = simp (
+  ne_eqb _ _ c.if-neighbours-eq-FOUR.false,
+  eq-eqb _ _ c.if-neighbours-eq-EIGHT.true,
+)
 
 pub returns : goal.returns
 unfolding neighbour_refusal

@@ -1,6 +1,5 @@
 -- `model::pass_refusal` meets its contract: each answer follows from the tests that led to it. Assumes nothing.
 use mathlib.Core.Path.{sym, ◌∙◌}
-use borrow.Author.Rules.{rules}
 use borrow.Author.Tests.{lt-ltb, le-ltb}
 use Rattle.planes.proofs.Refusals.{▷_left, ▷_right}
 use Rattle.model.specs.Calls.{numbers_refusal}

@@ -1,11 +1,7 @@
 -- `painting::mark_section` meets its contract. The invariant: the first p pixels are marked, and the other marks are as
 -- they were. The measure is what is left of n. Assumes nothing.
-use mathlib.Core.Path.{◌≡◌}
 use Prim.Native.Nat.{◌-◌, ◌≤◌}
-use native.Mathlib.Omega.{arith}
-use borrow.Author.Rules.{rules}
 use Rattle.painting.specs.Painting.{Marked}
-use Rattle.painting.proofs.Painting.{marked_none, marked_more}
 use Rattle.painting.proofs.mark_section.Given as goal
 
 abbrev pub invariant-loop-p : goal.invariant-loop-p

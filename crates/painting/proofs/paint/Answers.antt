@@ -1,11 +1,9 @@
 -- `painting::paint` meets its contract. The invariant: the queue's first i pixels have their values and next marks, and
 -- the flags tell of their sides. The measure is what is left of m. Assumes nothing.
 use mathlib.Core.Path.{◌≡◌, refl}
-use Prim.Native.Nat.{◌-◌, ◌≤◌}
+use Prim.Native.Nat.{◌-◌}
 use native.Mathlib.Omega.{arith}
-use borrow.Author.Rules.{rules}
 use Rattle.planes.specs.Lists.{at}
-use Rattle.painting.specs.Painting.{Painted}
 use Rattle.painting.proofs.Painting.{painted_none, painted_more}
 use Rattle.painting.proofs.paint.Goals as goal
 

@@ -19,7 +19,7 @@ take_min count n xs e = ⊎_elim
     (λ (below : count < n). ap (λ (k : ℕ). take k xs) (min-eq_left (le_of_lt below)))
     (λ (all : n ≤ count).
     ap (λ (k : ℕ). take k xs) (min-eq_right all) ∙ take_all n xs (omega arith) ∙ sym (take_all count xs
-        (omega arith)))
+    (omega arith)))
     (less_or_not count n)
 
 pub returns : goal.returns

@@ -1,7 +1,6 @@
 -- `passes::pass` meets its contract: refused with the first number that applies and nothing changed, or treated.
 -- Assumes nothing.
 use mathlib.Core.Path.{sym, ◌∙◌}
-use borrow.Author.Rules.{rules}
 use Rattle.model.proofs.Outcomes.{refused_by, done_by}
 use Rattle.model.proofs.Chains.{accepted, ordered}
 use Rattle.passes.proofs.pass.Goals as goal

@@ -1,6 +1,5 @@
 -- `passes::refusal_of` meets its contract: what the callees answer, in order. Assumes nothing.
 use mathlib.Core.Path.{sym, ◌∙◌}
-use borrow.Author.Rules.{rules}
 use Rattle.planes.proofs.Refusals.{▷_left, ▷_right}
 use Rattle.model.specs.Calls.{pass_refusal}
 use Rattle.passes.proofs.refusal_of.Goals as goal

@@ -1,7 +1,6 @@
 -- `passes::treat` meets its contract: the section is marked with 1 and treated. Assumes nothing.
 use mathlib.Core.Path.{subst}
 use native.Mathlib.Omega.{arith}
-use borrow.Author.Rules.{rules}
 use Rattle.model.specs.Neighbourhoods.{pass_neighbours}
 use Rattle.painting.specs.Painting.{Marked}
 use Rattle.sections.proofs.Marked.{marked_section}

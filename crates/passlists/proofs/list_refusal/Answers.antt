@@ -1,7 +1,6 @@
 -- `passlists::list_refusal` meets its contract: what the callees answer, in order. Assumes nothing.
 use mathlib.Core.Path.{sym, ◌∙◌}
 use Rattle.planes.proofs.Refusals.{▷_left, ▷_right}
-use borrow.Author.Rules.{rules}
 use Rattle.passlists.proofs.list_refusal.Goals as goal
 
 pub returns-then-lent-ne0 : goal.returns-then-lent-ne0

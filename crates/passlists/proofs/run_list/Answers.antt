@@ -1,9 +1,8 @@
 -- `passlists::run_list` meets its contract. The loop's invariant is `Inv` of the list's plan, and its measure `μ`.
 -- Assumes nothing.
 use native.Mathlib.Omega.{arith}
-use borrow.Author.Rules.{rules}
-use Rattle.passlists.proofs.Turns.{Inv, μ, inv_sizes}
-use Rattle.passlists.proofs.Plans.{file_plan, file_begins, file_stands, file_asks, file_turns, file_ends}
+use Rattle.passlists.proofs.Turns.{inv_sizes}
+use Rattle.passlists.proofs.Plans.{file_begins, file_stands, file_asks, file_turns, file_ends}
 use Rattle.passlists.proofs.run_list.Goals as goal
 
 pub loop-s-init : goal.loop-s-init

@@ -1,9 +1,7 @@
 -- `passlists::run_list` meets its contract. The loop's invariant is `Inv` of the list's plan, and its measure `μ`.
 -- Assumes nothing.
-use native.Mathlib.Omega.{arith}
-use borrow.Author.Rules.{rules}
-use Rattle.passlists.proofs.Turns.{Inv, μ, inv_sizes}
-use Rattle.passlists.proofs.Plans.{file_plan, file_begins, file_stands, file_asks, file_turns, file_ends}
+use Rattle.passlists.proofs.Turns.{Inv, μ}
+use Rattle.passlists.proofs.Plans.{file_plan}
 use Rattle.passlists.proofs.run_list.Given as goal
 
 abbrev pub invariant-loop-s : goal.invariant-loop-s

@@ -1,7 +1,7 @@
 -- `passlists::run_passes` meets its contract. A pass that is read is the same whatever stands for one past the end.
 -- Assumes nothing.
 use Prim.Native.Nat.{ℕ, ◌<◌}
-use mathlib.Core.Path.{refl, subst}
+use mathlib.Core.Path.{subst}
 use mathlib.Core.List.{List}
 use native.Mathlib.Omega.{arith}
 use lib.ListN.{length, get_or}
@@ -10,7 +10,7 @@ use Rattle.model.specs.declared.Pass.{Pass}
 use Rattle.model.specs.Calls.{numbers_refusal}
 use Rattle.listformat.proofs.Format.{no_pass}
 use Rattle.passturns.specs.Steps.{StepReady, so_far, TurnOutcome}
-use Rattle.passlists.proofs.Turns.{Inv, μ, begins, asks, within}
+use Rattle.passlists.proofs.Turns.{begins, asks, within}
 use Rattle.passlists.proofs.Plans.{memory_plan, memory_turns, memory_ends}
 use Rattle.passlists.proofs.run_passes.Goals as goal
 
@@ -26,13 +26,12 @@ pub turn-s-requires : goal.turn-s-requires
 turn-s-requires c =
     let plan = memory_plan c.args.shape c.args.passes.now c.args.plane.now c.args.marks.now c.args.queue.now in
     let inside : c.loop-s.s.at < length c.args.passes.now =
-    omega (arith, within plan _ _ _ _ c.loop-s.invariant) in
-    (
+    omega (arith, within plan _ _ _ _ c.loop-s.invariant) in (
       c.loop-s-test.true,
       λ y. as_read
-      (λ (p : Pass). StepReady c.args.shape p (so_far c.loop-s.s c.loop-s.plane) c.loop-s.marks c.loop-s.queue)
-      c.args.passes.now c.loop-s.s.at no_pass _ inside
-      (asks plan _ _ _ _ c.loop-s.invariant c.loop-s-test.true y),
+          (λ (p : Pass). StepReady c.args.shape p (so_far c.loop-s.s c.loop-s.plane) c.loop-s.marks c.loop-s.queue)
+          c.args.passes.now c.loop-s.s.at no_pass _ inside
+          (asks plan _ _ _ _ c.loop-s.invariant c.loop-s-test.true y),
     )
 
 pub loop-s-smaller : goal.loop-s-smaller
@@ -43,7 +42,7 @@ loop-s-smaller c =
     (memory_turns _ _ _ _ _ _ _ _ _ c.loop-s.invariant c.loop-s-test.true _ _ _ _
     (as_read
     (λ (p : Pass). TurnOutcome c.args.shape (numbers_refusal p) p c.loop-s.s c.loop-s.plane c.loop-s.marks
-        c.loop-s.queue
+    c.loop-s.queue
     c.turn-s.result c.turn-s.new.plane c.turn-s.new.marks c.turn-s.new.queue)
     c.args.passes.now c.loop-s.s.at _ no_pass inside c.turn-s.ensures)).1
 
@@ -55,7 +54,7 @@ loop-s-preserved c =
     (memory_turns _ _ _ _ _ _ _ _ _ c.loop-s.invariant c.loop-s-test.true _ _ _ _
     (as_read
     (λ (p : Pass). TurnOutcome c.args.shape (numbers_refusal p) p c.loop-s.s c.loop-s.plane c.loop-s.marks
-        c.loop-s.queue
+    c.loop-s.queue
     c.turn-s.result c.turn-s.new.plane c.turn-s.new.marks c.turn-s.new.queue)
     c.args.passes.now c.loop-s.s.at _ no_pass inside c.turn-s.ensures)).0
 

@@ -1,6 +1,5 @@
 -- `passturns::begin_list` meets its contract: each answer follows from the tests that led to it. Assumes nothing.
 use mathlib.Core.Path.{sym, ap, ◌∙◌}
-use borrow.Author.Rules.{rules}
 use Rattle.planes.proofs.Refusals.{▷_both}
 use Rattle.listformat.proofs.Format.{headed_long}
 use Rattle.passturns.specs.Steps.{started}

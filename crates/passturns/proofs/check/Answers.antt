@@ -1,6 +1,5 @@
 -- `passturns::check` meets its contract: each answer follows from the tests that led to it. Assumes nothing.
 use mathlib.Core.Path.{refl, sym, ◌∙◌}
-use borrow.Author.Rules.{rules}
 use borrow.Author.Tests.{lt-ltb, le-ltb}
 use Rattle.planes.proofs.Refusals.{▷_both}
 use Rattle.passturns.proofs.States.{applies, passes_on, stopped_checked, checked_next}

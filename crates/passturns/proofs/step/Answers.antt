@@ -4,7 +4,6 @@ use Prim.Native.Nat.{◌+◌}
 use mathlib.Core.Path.{ap}
 use mathlib.Core.Bool.{true}
 use native.Mathlib.Omega.{arith}
-use borrow.Author.Rules.{rules}
 use Rattle.model.specs.Effects.{Effect}
 use Rattle.passturns.specs.declared.Progress.{Progress}
 use Rattle.passturns.proofs.step.Goals as goal

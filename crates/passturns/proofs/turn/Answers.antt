@@ -3,7 +3,6 @@ use Prim.Native.Nat.{ℕ}
 use mathlib.Core.Path.{◌≡◌, sym, subst}
 use mathlib.Core.Bool.{false}
 use mathlib.Core.List.{List}
-use borrow.Author.Rules.{rules}
 use Rattle.planes.specs.declared.Shape.{Shape}
 use Rattle.model.specs.declared.Pass.{Pass}
 use Rattle.passturns.specs.Steps.{checked, TurnOutcome, checks, steps}

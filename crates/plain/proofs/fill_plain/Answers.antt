@@ -1,10 +1,8 @@
 -- `plain::fill_plain` meets its contract. The invariant: the entries from the least value to below v are tones, and
 -- `tone` is that of the sum `last`. The measure is what is left up to the greatest value. Assumes nothing.
-use Prim.Native.Nat.{◌+◌, ◌-◌, ◌≤◌}
+use Prim.Native.Nat.{◌+◌, ◌≤◌}
 use mathlib.Core.Path.{◌≡◌}
 use Rattle.planes.specs.Lists.{at}
-use Rattle.histograms.specs.Values.{scaled}
-use Rattle.histograms.specs.Histograms.{Refilled}
 use Rattle.histograms.proofs.Scaled.{scaled_none}
 use Rattle.histograms.proofs.Stores.{refilled_none, refilled_more}
 use native.Mathlib.Omega.{arith}
@@ -28,9 +26,10 @@ sum_le c =
 
 pub next_tone-tone-requires : goal.next_tone-tone-requires
 next_tone-tone-requires c =
-    let range = (start (goal.at.next_tone-tone-requires c).In-loop-v).requires.0.range in
-    (((omega arith, (sum_le (goal.at.next_tone-tone-requires c).In-loop-v, (range.some, range.few)))),
-        c.loop-v.invariant.1.0.1)
+    let range = (start (goal.at.next_tone-tone-requires c).In-loop-v).requires.0.range in (
+      ((omega arith, (sum_le (goal.at.next_tone-tone-requires c).In-loop-v, (range.some, range.few)))),
+      c.loop-v.invariant.1.0.1,
+    )
 
 pub bounds-table-v : goal.bounds-table-v
 bounds-table-v c = omega (arith, c.loop-v.invariant.1.1.size)
@@ -38,9 +37,13 @@ bounds-table-v c = omega (arith, c.loop-v.invariant.1.1.size)
 pub loop-v-preserved : goal.loop-v-preserved
 loop-v-preserved c =
     let inv = c.loop-v.invariant in
-    let tone = c.next_tone-tone.ensures in
-    (omega arith, ((sum_le (goal.at.loop-v-preserved c).In-loop-v, tone),
-        refilled_more inv.1.1 inv.0.0 (omega arith) tone))
+    let tone = c.next_tone-tone.ensures in (
+      omega arith,
+      (
+        (sum_le (goal.at.loop-v-preserved c).In-loop-v, tone),
+        refilled_more inv.1.1 inv.0.0 (omega arith) tone,
+      ),
+    )
 
 pub shape_of-table : goal.shape_of-table
 shape_of-table c = c.loop-v.invariant.1.1.size

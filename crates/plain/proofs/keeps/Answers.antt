@@ -1,7 +1,6 @@
 -- `plain::keeps` meets its contract: each test is the definition's. Assumes nothing.
 use native.Mathlib.Nat.{mul-le-mul_left}
 use borrow.Author.Tests.{eq-eqb, ne_eqb, lt-ltb, le-ltb}
-use borrow.Author.Rules.{rules}
 use native.Mathlib.Omega.{arith}
 use Rattle.plain.proofs.keeps.Goals as goal
 

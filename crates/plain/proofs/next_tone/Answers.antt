@@ -1,7 +1,6 @@
 -- `plain::next_tone` meets its contract: equal sums have equal tones. Assumes nothing.
 use mathlib.Core.Path.{sym, ap, ◌∙◌}
 use Rattle.histograms.specs.Values.{scaled}
-use borrow.Author.Rules.{rules}
 use Rattle.plain.proofs.next_tone.Goals as goal
 
 pub returns-then-x-last : goal.returns-then-x-last

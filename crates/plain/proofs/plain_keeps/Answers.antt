@@ -8,7 +8,6 @@ use Rattle.histograms.proofs.Sums.{term_le}
 use Rattle.histograms.proofs.Scaled.{scaled_below}
 use Rattle.plain.proofs.Histograms.{kept_by_ends}
 use native.Mathlib.Omega.{arith}
-use borrow.Author.Rules.{rules}
 use Rattle.plain.proofs.plain_keeps.Goals as goal
 use Rattle.plain.proofs.plain_keeps.Goals.{After-scale-arg-1}
 
@@ -32,8 +31,12 @@ pub overflow_sub-t : goal.overflow_sub-t
 overflow_sub-t c =
     let a = c.args in
     let count = at a.counts.now a.c.least in
-    omega (arith, c.scale-tone.ensures, scaled_below a.a a.b count a.c.size (omega arith) (few
-        (goal.at.overflow_sub-t c).After-scale-arg-1))
+    omega (
+      arith,
+      c.scale-tone.ensures,
+      scaled_below a.a a.b count a.c.size (omega arith) (few
+          (goal.at.overflow_sub-t c).After-scale-arg-1),
+    )
 
 pub returns : goal.returns
 returns c =

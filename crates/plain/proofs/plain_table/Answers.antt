@@ -3,7 +3,6 @@ use Rattle.histograms.proofs.Stores.{refilled_outside}
 use Rattle.histograms.proofs.Histograms.{summed_rise}
 use Rattle.plain.proofs.Histograms.{plain_tabled}
 use Rattle.planes.specs.Lists.{at}
-use borrow.Author.Rules.{rules}
 use native.Mathlib.Omega.{arith}
 use Rattle.plain.proofs.plain_table.Goals as goal
 

@@ -2,7 +2,6 @@
 -- values or their tones. Assumes nothing.
 use Rattle.histograms.proofs.Stores.{outside_none, refilled_outside}
 use Rattle.histograms.proofs.Tables.{ruled_kept, ruled_toned}
-use borrow.Author.Rules.{rules}
 use native.Mathlib.Omega.{arith}
 use Rattle.plain.proofs.plain_tones.Goals as goal
 

@@ -1,4 +1,4 @@
-use Rattle.std.proofs.Common.{rules, ◌≡◌, ℕ, sym, ap, ◌∙◌, arith}
+use Rattle.std.proofs.Common.{◌≡◌, ℕ, sym, ap, ◌∙◌, arith}
 use Rattle.planes.specs.Refusals.{length_refusal, room_refusal}
 use Rattle.planes.specs.Shapes.{shape_refusal, lent_refusal}
 use Rattle.planes.proofs.Refusals.{▷_left, ▷_right}

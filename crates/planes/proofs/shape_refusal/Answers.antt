@@ -2,7 +2,6 @@
 -- Sides that are not refused have a product that fits. Assumes nothing.
 use mathlib.Core.Path.{sym, ap, ◌∙◌}
 use native.Mathlib.Omega.{arith}
-use borrow.Author.Rules.{rules}
 use Prim.Native.Nat.{ℕ}
 use Rattle.planes.specs.Refusals.{pixel_refusal, greatest_pixels}
 use Rattle.planes.specs.Shapes.{shape_refusal}

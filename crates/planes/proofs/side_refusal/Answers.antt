@@ -14,8 +14,11 @@ returns-then-w-gt-SIDE c = simp (ne_eqb _ _ c.before.if-w-eq0.false, lt-ltb _ _ 
 pub returns-then-h-eq0 : goal.returns-then-h-eq0
 unfolding side_refusal
 returns-then-h-eq0 c =
-    simp (ne_eqb _ _ c.before.before.if-w-eq0.false, le-ltb _ _ c.before.if-w-gt-SIDE.false,
-        eq-eqb _ _ c.if-h-eq0.true)
+    simp (
+      ne_eqb _ _ c.before.before.if-w-eq0.false,
+      le-ltb _ _ c.before.if-w-gt-SIDE.false,
+      eq-eqb _ _ c.if-h-eq0.true,
+    )
 
 pub returns-then-h-gt-SIDE : goal.returns-then-h-gt-SIDE
 unfolding side_refusal

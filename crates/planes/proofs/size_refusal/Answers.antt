@@ -2,7 +2,6 @@
 -- Sides that are not refused have a product that fits. Assumes nothing.
 use mathlib.Core.Path.{sym, ◌∙◌}
 use native.Mathlib.Omega.{arith}
-use borrow.Author.Rules.{rules}
 use Rattle.planes.specs.Refusals.{size_refusal}
 use Rattle.planes.proofs.Refusals.{▷_left, ▷_right, pixels_fit}
 use Rattle.planes.proofs.size_refusal.Goals as goal

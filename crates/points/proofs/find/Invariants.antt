@@ -1,12 +1,7 @@
 -- `points::find` meets its contract. The invariant: the sums of the values from x to below v are too small. The measure
 -- is what is left up to y. Assumes nothing.
 use Prim.Native.Nat.{ℕ, ◌-◌, ◌*◌, ◌≤◌, ◌<◌}
-use mathlib.Core.Path.{◌≡◌, sym, subst}
-use mathlib.Core.Logic.{⊎_elim}
-use native.Mathlib.Nat.{mul-le-mul}
 use Rattle.planes.specs.Lists.{at}
-use Rattle.planes.proofs.Tests.{eq_or_not}
-use native.Mathlib.Omega.{arith}
 use Rattle.points.proofs.find.Given as goal
 
 abbrev pub invariant-loop-v : goal.invariant-loop-v

@@ -1,7 +1,6 @@
 -- `points::grown` meets its contract: a slope of 16 bits, times segments of 8 bits, times a distance of 8 bits, fits.
 -- Assumes nothing.
 use Rattle.points.proofs.Sizes.{two_few, three_few}
-use borrow.Author.Rules.{rules}
 use native.Mathlib.Omega.{arith}
 use Rattle.points.proofs.grown.Goals as goal
 

@@ -7,7 +7,6 @@ use Rattle.points.specs.declared.Point.{Point}
 use Rattle.points.specs.Points.{growth, First}
 use Rattle.points.proofs.Sizes.{three_few}
 use Rattle.points.proofs.Points.{sums_few, next_is}
-use borrow.Author.Rules.{rules}
 use native.Mathlib.Omega.{arith}
 use Rattle.points.proofs.next_point.Goals as goal
 use Rattle.points.proofs.next_point.Goals.{After-find-place}
@@ -66,8 +65,10 @@ overflow_add-height c =
       c.grown.ensures,
       min-le_left (slope * d) (max (a.s.smin * a.s.segments * d) more),
       c.requires.1.1.low,
-      three_few {x = a.s.smax} {n = a.s.segments} {d = d} (omega arith) (omega arith) (omega (arith,
-          (found (goal.at.overflow_add-height c).After-find-place).to)),
+      three_few {x = a.s.smax} {n = a.s.segments} {d = d} (omega arith) (omega arith) (omega (
+        arith,
+        (found (goal.at.overflow_add-height c).After-find-place).to,
+      )),
       three_few {x = a.s.smax} {n = a.s.segments} {d = a.p.place - a.a} (omega arith) (omega arith)
           (omega (arith, c.requires.1.1.to)),
     )
@@ -81,4 +82,4 @@ returns c =
     let growth-is : c.grown.result ≡ growth a.s d (100 * (a.b - a.a) * (a.i + 1) - a.p.height) =
     c.grown.ensures ∙ ap (growth a.s d) c.wanted-more.ensures in
     ap higher growth-is ∙ sym (next_is a.s pre.0.1 a.i pre.1.0 a.p pre.1.1 (found
-        (goal.at.returns c).After-find-place))
+    (goal.at.returns c).After-find-place))

@@ -1,14 +1,10 @@
 -- `points::top_height` meets its contract. The invariant: place and height are those of point i, and what is left of
 -- the points leads to the last. The measure is what is left of the segments. Assumes nothing.
-use Prim.Native.Nat.{ℕ, ◌-◌, ◌≤◌}
-use mathlib.Core.Path.{◌≡◌, ap, subst}
+use Prim.Native.Nat.{◌-◌, ◌≤◌}
 use Rattle.planes.specs.Lists.{at}
 use Rattle.points.specs.declared.Point.{Point}
 use Rattle.points.specs.Points.{Reached}
-use Rattle.points.proofs.Sizes.{three_few}
-use Rattle.points.proofs.Points.{reached_first}
-use Rattle.points.proofs.Ahead.{Ahead, ahead_first, end_top, next_of}
-use native.Mathlib.Omega.{arith}
+use Rattle.points.proofs.Ahead.{Ahead}
 use Rattle.points.proofs.top_height.Given as goal
 
 abbrev pub invariant-loop-i : goal.invariant-loop-i

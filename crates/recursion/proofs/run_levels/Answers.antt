@@ -5,7 +5,6 @@ use mathlib.Core.Logic.{inl, inr}
 use native.Mathlib.Nat.{mul-le-mul}
 use native.Mathlib.Omega.{arith}
 use lib.Dec.{ltb}
-use borrow.Author.Rules.{rules}
 use Rattle.planes.specs.Shapes.{pixels}
 use Rattle.planes.proofs.Tests.{decide}
 use Rattle.model.specs.declared.Counts.{Counts}
@@ -142,13 +141,13 @@ returns-then-more c =
     subst (RecursionOutcome z c.args.settings c.args.plane.now c.args.marks.now c.args.queue.now
     c.split-halves.new.plane c.split-halves.new.marks c.split-halves.new.queue)
     (sym (c.plus.ensures ∙ ap (λ (x : Counts). sums x c.split-halves.result) (counts
-        (goal.at.returns-then-more c).After-counts_of-counts))) R
+    (goal.at.returns-then-more c).After-counts_of-counts))) R
 
 pub returns : goal.returns
 returns c =
     let N = numbered (goal.at.returns c).After-deeper-more in
     let R = root_only c.args.shape c.args.settings (marking
-        (goal.at.returns c).After-treat_plane-t) c.treat_plane-t.ensures.treated
+    (goal.at.returns c).After-treat_plane-t) c.treat_plane-t.ensures.treated
     (c.deeper-more.ensures.none c.if-more.false _ N.k N.wide) in
     subst (RecursionOutcome c.args.shape c.args.settings c.args.plane.now c.args.marks.now
     c.args.queue.now c.treat_plane-t.new.plane c.treat_plane-t.new.marks c.treat_plane-t.new.queue)

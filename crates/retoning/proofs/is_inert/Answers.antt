@@ -1,7 +1,6 @@
 -- `retoning::is_inert` meets its contract: a component is inert where it is too small, and otherwise where it is lone.
 -- Assumes nothing.
 use mathlib.Core.Path.{sym, ◌∙◌}
-use borrow.Author.Rules.{rules}
 use Rattle.retoning.proofs.Steps.{small_inert, large_inert}
 use Rattle.retoning.proofs.is_inert.Goals as goal
 

@@ -1,6 +1,5 @@
 -- `retoning::is_small` meets its contract: each answer follows from the test that led to it. Assumes nothing.
 use mathlib.Core.Path.{sym}
-use borrow.Author.Rules.{rules}
 use borrow.Author.Tests.{lt-ltb, le-ltb}
 use Rattle.retoning.proofs.is_small.Goals as goal
 

@@ -2,7 +2,6 @@
 use mathlib.Core.Path.{ap, ◌∙◌}
 use Prim.Native.Nat.{ℕ}
 use mathlib.Core.Bool.{Bool, false, cond}
-use borrow.Author.Rules.{rules}
 use Rattle.retoning.specs.declared.Treatment.{Treatment}
 use Rattle.retoning.proofs.left_alone.Goals as goal
 

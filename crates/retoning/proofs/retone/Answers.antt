@@ -1,7 +1,6 @@
 -- `retoning::retone` meets its contract: the component gets the rule's tones and its next marks. Assumes nothing.
 use mathlib.Core.Path.{refl}
 use native.Mathlib.Omega.{arith}
-use borrow.Author.Rules.{rules}
 use Rattle.retoning.proofs.Steps.{done, lively_large, gathered_size}
 use Rattle.retoning.proofs.retone.Goals as goal
 

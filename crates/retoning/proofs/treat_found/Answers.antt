@@ -1,7 +1,6 @@
 -- `retoning::treat_found` meets its contract: a component that is too small or lone is left alone, another gets its
 -- tones and its next marks. Assumes nothing.
 use mathlib.Core.Path.{◌≡◌, sym, ◌∙◌}
-use borrow.Author.Rules.{rules}
 use Rattle.histograms.specs.Histograms.{values}
 use Rattle.histograms.proofs.Stores.{outside_none}
 use Rattle.retoning.specs.Retoning.{inert}

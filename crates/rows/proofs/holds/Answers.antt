@@ -1,9 +1,8 @@
 -- `rows::holds` meets its contract. The invariant: `found` tells whether one of the marks passed has the code.
 -- The measure is the marks that are left. Assumes nothing.
-use Prim.Native.Nat.{ℕ, ◌+◌, ◌-◌, ◌≤◌}
+use Prim.Native.Nat.{ℕ, ◌+◌, ◌-◌}
 use mathlib.Core.Path.{◌≡◌, subst}
 use native.Mathlib.Omega.{arith}
-use borrow.Author.Rules.{rules}
 use Rattle.rows.specs.Stretches.{Tells}
 use Rattle.rows.proofs.Stretches.{tells_none, tells_more}
 use Rattle.rows.proofs.holds.Goals as goal

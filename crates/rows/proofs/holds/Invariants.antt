@@ -1,11 +1,7 @@
 -- `rows::holds` meets its contract. The invariant: `found` tells whether one of the marks passed has the code.
 -- The measure is the marks that are left. Assumes nothing.
-use Prim.Native.Nat.{ℕ, ◌+◌, ◌-◌, ◌≤◌}
-use mathlib.Core.Path.{◌≡◌, subst}
-use native.Mathlib.Omega.{arith}
-use borrow.Author.Rules.{rules}
+use Prim.Native.Nat.{◌+◌, ◌-◌, ◌≤◌}
 use Rattle.rows.specs.Stretches.{Tells}
-use Rattle.rows.proofs.Stretches.{tells_none, tells_more}
 use Rattle.rows.proofs.holds.Given as goal
 
 abbrev pub invariant-loop-i : goal.invariant-loop-i

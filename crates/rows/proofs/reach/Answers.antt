@@ -3,7 +3,6 @@
 use Prim.Native.Nat.{◌*◌}
 use mathlib.Core.Path.{ap}
 use native.Mathlib.Omega.{arith}
-use borrow.Author.Rules.{rules}
 use Rattle.rows.proofs.Rows.{row_bounds}
 use Rattle.rows.proofs.Taken.{room_less}
 use Rattle.rows.proofs.Runs.{not_reached, reached}

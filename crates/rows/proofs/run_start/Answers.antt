@@ -1,6 +1,6 @@
 -- `rows::run_start` meets its contract. The invariant: all pixels from `first` on and before q have the code. The
 -- measure is what is left of the row before `first`. Assumes nothing.
-use Prim.Native.Nat.{ℕ, ◌-◌, ◌≤◌, ◌<◌}
+use Prim.Native.Nat.{◌-◌}
 use mathlib.Core.Path.{◌≡◌, sym, ap, ◌∙◌}
 use mathlib.Core.Logic.{inl, inr}
 use native.Mathlib.Omega.{arith}

@@ -1,11 +1,8 @@
 -- `rows::run_start` meets its contract. The invariant: all pixels from `first` on and before q have the code. The
 -- measure is what is left of the row before `first`. Assumes nothing.
 use Prim.Native.Nat.{ℕ, ◌-◌, ◌≤◌, ◌<◌}
-use mathlib.Core.Path.{◌≡◌, sym, ap, ◌∙◌}
-use mathlib.Core.Logic.{inl, inr}
-use native.Mathlib.Omega.{arith}
+use mathlib.Core.Path.{◌≡◌}
 use Rattle.planes.specs.Lists.{at}
-use Rattle.planes.proofs.Tests.{less_or_not}
 use Rattle.rows.proofs.run_start.Given as goal
 
 abbrev pub invariant-loop-first : goal.invariant-loop-first

@@ -3,8 +3,6 @@
 use Prim.Native.Nat.{◌-◌}
 use mathlib.Core.Path.{refl}
 use native.Mathlib.Omega.{arith}
-use borrow.Author.Rules.{rules}
-use Rattle.rows.specs.Stretches.{Skipped}
 use Rattle.rows.proofs.Stretches.{skipped_none, skipped_more}
 use Rattle.rows.proofs.skip.Goals as goal
 

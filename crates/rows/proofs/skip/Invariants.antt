@@ -1,11 +1,7 @@
 -- `rows::skip` meets its contract. The invariant: no pixel from `at` on and before p has the code. The measure is
 -- what is left before `end`. Assumes nothing.
 use Prim.Native.Nat.{◌-◌}
-use mathlib.Core.Path.{refl}
-use native.Mathlib.Omega.{arith}
-use borrow.Author.Rules.{rules}
 use Rattle.rows.specs.Stretches.{Skipped}
-use Rattle.rows.proofs.Stretches.{skipped_none, skipped_more}
 use Rattle.rows.proofs.skip.Given as goal
 
 abbrev pub invariant-loop-p : goal.invariant-loop-p

@@ -1,11 +1,10 @@
 -- `rows::take_run` meets its contract. The invariant: the pixels from `at` on and before p were taken. The
 -- measure is what is left before `end`. Assumes nothing.
-use Prim.Native.Nat.{◌-◌, ◌≤◌}
-use mathlib.Core.Path.{◌≡◌, refl}
+use Prim.Native.Nat.{◌-◌}
+use mathlib.Core.Path.{refl}
 use native.Mathlib.Omega.{arith}
-use borrow.Author.Rules.{rules}
-use lib.ListN.{length, length-set}
-use Rattle.rows.specs.Runs.{RunUpTo, start, more}
+use lib.ListN.{length-set}
+use Rattle.rows.specs.Runs.{start, more}
 use Rattle.rows.proofs.Taken.{room_for}
 use Rattle.rows.proofs.Runs.{run_room}
 use Rattle.rows.proofs.take_run.Goals as goal

@@ -1,13 +1,9 @@
 -- `rows::take_run` meets its contract. The invariant: the pixels from `at` on and before p were taken. The
 -- measure is what is left before `end`. Assumes nothing.
 use Prim.Native.Nat.{◌-◌, ◌≤◌}
-use mathlib.Core.Path.{◌≡◌, refl}
-use native.Mathlib.Omega.{arith}
-use borrow.Author.Rules.{rules}
-use lib.ListN.{length, length-set}
-use Rattle.rows.specs.Runs.{RunUpTo, start, more}
-use Rattle.rows.proofs.Taken.{room_for}
-use Rattle.rows.proofs.Runs.{run_room}
+use mathlib.Core.Path.{◌≡◌}
+use lib.ListN.{length}
+use Rattle.rows.specs.Runs.{RunUpTo}
 use Rattle.rows.proofs.take_run.Given as goal
 
 abbrev pub invariant-loop-p : goal.invariant-loop-p

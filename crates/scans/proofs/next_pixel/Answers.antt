@@ -1,11 +1,10 @@
 -- `scans::next_pixel` meets its contract. The invariant of both loops: nothing is found yet, and no pixel from
 -- `from` on and before the present one has the code. Their measures are the rows and the columns that are left. s is
 -- the function's entry, `row` and `column` the turns of the loops. Assumes nothing.
-use Prim.Native.Nat.{◌+◌, ◌*◌, ◌-◌, ◌≤◌}
-use mathlib.Core.Path.{◌≡◌, ap}
+use Prim.Native.Nat.{◌+◌, ◌*◌, ◌-◌}
+use mathlib.Core.Path.{ap}
 use native.Mathlib.Omega.{arith}
 use borrow.Author.Rules.{rules}
-use Rattle.rows.specs.Stretches.{Skipped}
 use Rattle.rows.proofs.Rows.{next_row, row_inside, past_rows, row_bounds, width_of}
 use Rattle.rows.proofs.Stretches.{skipped_none, skipped_one, skipped_more, skipped_less}
 use Rattle.scans.proofs.next_pixel.Goals as goal
@@ -85,7 +84,7 @@ search-preserved c =
 pub returns-then-at-n : goal.returns-then-at-n
 returns-then-at-n c =
     elim c.search-test.branch [
-      else-search-test w ↦ absurd (omega arith)
+      | else-search-test w ↦ absurd (omega arith)
       | then-search-test+then-loop-x-test+then-marks-p w ↦
           let inside = row_inside c.search.y c.args.shape.w c.args.shape.h w.search-test.true in
           let passed = w.loop-x.invariant.1 in
@@ -100,7 +99,7 @@ returns-then-at-n c =
 pub returns-else-at-n : goal.returns-else-at-n
 returns-else-at-n c =
     elim c.search-test.branch [
-      else-search-test w ↦ λ p l h.
+      | else-search-test w ↦ λ p l h.
           let past = past_rows c.search.y c.args.shape.w c.args.shape.h w.search-test.false in
           c.search.invariant.1.1.none p l (omega arith)
       | then-search-test+then-loop-x-test+then-marks-p w ↦

@@ -2,13 +2,8 @@
 -- `from` on and before the present one has the code. Their measures are the rows and the columns that are left. s is
 -- the function's entry, `row` and `column` the turns of the loops. Assumes nothing.
 use Prim.Native.Nat.{◌+◌, ◌*◌, ◌-◌, ◌≤◌}
-use mathlib.Core.Path.{◌≡◌, ap}
-use mathlib.Core.Logic.{⊎_elim}
-use native.Mathlib.Omega.{arith}
-use borrow.Author.Rules.{rules}
+use mathlib.Core.Path.{◌≡◌}
 use Rattle.rows.specs.Stretches.{Skipped}
-use Rattle.rows.proofs.Rows.{next_row, row_inside, past_rows, row_bounds, width_of}
-use Rattle.rows.proofs.Stretches.{skipped_none, skipped_one, skipped_more, skipped_less}
 use Rattle.scans.proofs.next_pixel.Given as goal
 
 abbrev pub invariant-loop-x : goal.invariant-loop-x

@@ -1,12 +1,10 @@
 -- `scans::take_plane` meets its contract. The invariant: the first k pixels were taken. The measure is what is
 -- left of n. What is told of the plane is what `measure` tells. Assumes nothing.
-use Prim.Native.Nat.{◌-◌, ◌≤◌}
+use Prim.Native.Nat.{◌-◌}
 use mathlib.Core.Path.{◌≡◌}
 use native.Mathlib.Nat.{mul-le-mul}
 use native.Mathlib.Omega.{arith}
-use borrow.Author.Rules.{rules}
 use Rattle.planes.specs.Shapes.{pixels}
-use Rattle.scans.specs.Taking.{PlaneTaken}
 use Rattle.scans.proofs.Taking.{taking_none, taking_more}
 use Rattle.scans.proofs.take_plane.Goals as goal
 

@@ -4,7 +4,6 @@ use Prim.Native.Nat.{◌*◌, ◌≤◌}
 use mathlib.Core.Path.{◌≡◌, refl, sym, ap, ◌∙◌}
 use native.Mathlib.Nat.{mul-le-mul}
 use native.Mathlib.Omega.{arith}
-use borrow.Author.Rules.{rules}
 use Rattle.planes.specs.Shapes.{pixels}
 use Rattle.histograms.specs.Histograms.{values}
 use Rattle.histograms.proofs.Measured.{blank}
@@ -47,8 +46,11 @@ values_are c =
 -- the test is that of the plane
 told : (c : After-is_inert) → c.is_inert.result ≡ inert c.args.pass c.args.plane.now
 told c =
-    c.is_inert.ensures _ (omega (arith, mul-le-mul c.requires.0.lent.size.wide c.requires.0.lent.size.high,
-        c.requires.0.lent.whole)) c.take_plane-c.ensures.1
+    c.is_inert.ensures _ (omega (
+      arith,
+      mul-le-mul c.requires.0.lent.size.wide c.requires.0.lent.size.high,
+      c.requires.0.lent.whole,
+    )) c.take_plane-c.ensures.1
 
 pub take_plane-c-requires : goal.take_plane-c-requires
 take_plane-c-requires c = c.requires.0.lent
@@ -59,7 +61,7 @@ returns-then-is_inert c =
     let h = some (goal.at.returns-then-is_inert c).Start in
     let F = flooded (goal.at.returns-then-is_inert c).After-take_plane-c in
     let A = plane_alike c.take_plane-c.result d h (c.requires.1 0 h) F (values_are
-        (goal.at.returns-then-is_inert c).After-take_plane-c) in
+    (goal.at.returns-then-is_inert c).After-take_plane-c) in
     let R = left_alone c.args.pass c.args.next A _ (A.size ∙ sym c.take_plane-c.ensures.1.size)
     c.left_alone.ensures (sym (told (goal.at.returns-then-is_inert c).After-is_inert) ∙ c.if-is_inert.true) in
     one_component d h (c.requires.1 0 h)

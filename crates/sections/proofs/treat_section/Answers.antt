@@ -2,22 +2,16 @@
 use mathlib.Core.Path.{◌≡◌, refl, ap, subst, ◌∙◌}
 use Prim.Native.Nat.{ℕ, ◌+◌, ◌-◌, ◌≤◌, ◌<◌}
 use mathlib.Core.Bool.{cond}
-use mathlib.Core.List.{List, []}
+use mathlib.Core.List.{List}
 use native.Mathlib.Omega.{arith}
-use borrow.Author.Rules.{rules}
-use lib.ListN.{length}
 use Rattle.planes.specs.Shapes.{pixels}
-use Rattle.histograms.specs.Histograms.{Tally, Gathered}
+use Rattle.histograms.specs.Histograms.{Gathered}
 use Rattle.histograms.proofs.Measured.{blank, tally_byte, cleared}
 use Rattle.histograms.proofs.Histograms.{gathered_range}
 use Rattle.scans.specs.Search.{found_reply, FirstFrom, NextPixel}
 use Rattle.scans.specs.declared.Found.{Found}
 use Rattle.scans.specs.declared.Found.TheVariants.{At}
-use Rattle.model.specs.Neighbourhoods.{pass_neighbours}
-use Rattle.model.specs.Passes.{component_values}
-use Rattle.retoning.specs.Retoning.{Done}
-use Rattle.retoning.specs.declared.Treatment.{Treatment}
-use Rattle.sections.proofs.Passing.{Treatable, Passing, treatable, pass_start, size_le, go_on, pass_end}
+use Rattle.sections.proofs.Passing.{treatable, pass_start, size_le, go_on, pass_end}
 use Rattle.retoning.proofs.Steps.{gathered_some}
 use Rattle.sections.proofs.Passing.{by_pass, gauged_by_pass, gathered}
 use Rattle.sections.proofs.Passing.{alike, listed, at_most_one, take_one}

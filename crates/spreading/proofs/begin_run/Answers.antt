@@ -1,7 +1,6 @@
 -- `spreading::begin_run` meets its contract: the columns of the pixel to the left and of the pixel itself are reached,
 -- unless they are clear already. s is the function's entry, `lefts` and `own` are the places after the two calls of
 -- `reach_column`. Assumes nothing.
-use borrow.Author.Rules.{rules}
 use Rattle.spreading.proofs.Around.{left_line, still_spreadable, beside_reachable, begun_before, run_begun}
 use Rattle.spreading.proofs.begin_run.Goals as goal
 

@@ -1,6 +1,5 @@
 -- `spreading::reach_column` meets its contract: the pixels above and below are reached, one after the other. s is the
 -- function's entry, `first` and `second` the places after the two calls of `reach`. Assumes nothing.
-use borrow.Author.Rules.{rules}
 use Rattle.spreading.proofs.Columns.{may_above, may_below, column_reached}
 use Rattle.spreading.proofs.reach_column.Goals as goal
 

@@ -4,7 +4,6 @@ use Prim.Native.Nat.{◌*◌}
 use mathlib.Core.Path.{ap}
 use native.Mathlib.Nat.{div-add-mod'}
 use native.Mathlib.Omega.{arith}
-use borrow.Author.Rules.{rules}
 use Rattle.spreading.proofs.Around.{right_line, still_spreadable, beside_reachable, spread_on}
 use Rattle.spreading.proofs.spread.Goals as goal
 

@@ -9,14 +9,19 @@ returns-then-segments-eq0 c = simp (eq-eqb _ _ c.if-segments-eq0.true)
 
 pub returns-then-segments-gt-GREATEST_SEGMENTS : goal.returns-then-segments-gt-GREATEST_SEGMENTS
 unfolding rule_refusal
-returns-then-segments-gt-GREATEST_SEGMENTS c = simp (ne_eqb _ _ c.if-segments-eq0.false,
-    lt-ltb _ _ c.if-segments-gt-GREATEST_SEGMENTS.true)
+returns-then-segments-gt-GREATEST_SEGMENTS c = simp (
+  ne_eqb _ _ c.if-segments-eq0.false,
+  lt-ltb _ _ c.if-segments-gt-GREATEST_SEGMENTS.true,
+)
 
 pub returns-then-smax-smin : goal.returns-then-smax-smin
 unfolding rule_refusal
 returns-then-smax-smin c =
-    simp (ne_eqb _ _ c.if-segments-eq0.false, le-ltb _ _ c.if-segments-gt-GREATEST_SEGMENTS.false,
-        lt-ltb _ _ c.if-smax-smin.true)
+    simp (
+      ne_eqb _ _ c.if-segments-eq0.false,
+      le-ltb _ _ c.if-segments-gt-GREATEST_SEGMENTS.false,
+      lt-ltb _ _ c.if-smax-smin.true,
+    )
 
 pub returns-then-smax-gt-GREATEST_SLOPE : goal.returns-then-smax-gt-GREATEST_SLOPE
 unfolding rule_refusal

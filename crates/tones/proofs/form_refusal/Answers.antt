@@ -13,8 +13,14 @@ unfolding malformed
 returns-then-numbers-eq-AFFINE c =
     let code = c.args.numbers.code in
     let known = le-ltb 2 code c.if-numbers-gt-AFFINE.false in
-    simp (known, le-ltb code 2 (omega (arith, c.if-numbers-eq-AFFINE.true)), ne_eqb code 1 (omega (arith,
-        c.if-numbers-eq-AFFINE.true)))
+    simp (
+      known,
+      le-ltb code 2 (omega (arith, c.if-numbers-eq-AFFINE.true)),
+      ne_eqb code 1 (omega (
+        arith,
+        c.if-numbers-eq-AFFINE.true,
+      )),
+    )
 
 pub returns-then-numbers-ne0 : goal.returns-then-numbers-ne0
 unfolding malformed

@@ -5,7 +5,6 @@ use lib.Dec.{eqb}
 use Rattle.tones.specs.declared.Rule.{Rule}
 use Rattle.tones.specs.Lone.{lone}
 use Rattle.tones.proofs.Lone.{one_measured}
-use borrow.Author.Rules.{rules}
 use Rattle.tones.proofs.is_lone.Goals as goal
 
 pub returns-in-Plain : goal.returns-in-Plain

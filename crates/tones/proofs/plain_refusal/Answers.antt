@@ -9,8 +9,10 @@ returns-then-high-low c = simp (lt-ltb _ _ c.if-high-low.true)
 
 pub returns-then-high-gt-GREATEST_HIGH : goal.returns-then-high-gt-GREATEST_HIGH
 unfolding rule_refusal
-returns-then-high-gt-GREATEST_HIGH c = simp (le-ltb _ _ c.if-high-low.false,
-    lt-ltb _ _ c.if-high-gt-GREATEST_HIGH.true)
+returns-then-high-gt-GREATEST_HIGH c = simp (
+  le-ltb _ _ c.if-high-low.false,
+  lt-ltb _ _ c.if-high-gt-GREATEST_HIGH.true,
+)
 
 pub returns : goal.returns
 unfolding rule_refusal

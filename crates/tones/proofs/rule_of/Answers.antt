@@ -6,8 +6,10 @@ pub returns-then-numbers-eq-PLAIN : goal.returns-then-numbers-eq-PLAIN
 returns-then-numbers-eq-PLAIN c = simp (eq-eqb _ _ c.if-numbers-eq-PLAIN.true)
 
 pub returns-then-numbers-eq-LIMITED : goal.returns-then-numbers-eq-LIMITED
-returns-then-numbers-eq-LIMITED c = simp (ne_eqb _ _ c.if-numbers-eq-PLAIN.false,
-    eq-eqb _ _ c.if-numbers-eq-LIMITED.true)
+returns-then-numbers-eq-LIMITED c = simp (
+  ne_eqb _ _ c.if-numbers-eq-PLAIN.false,
+  eq-eqb _ _ c.if-numbers-eq-LIMITED.true,
+)
 
 pub returns : goal.returns
 returns c = simp (ne_eqb _ _ c.if-numbers-eq-PLAIN.false, ne_eqb _ _ c.if-numbers-eq-LIMITED.false)

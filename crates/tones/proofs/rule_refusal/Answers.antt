@@ -1,6 +1,5 @@
 -- `tones::rule_refusal` meets its contract: each answer follows from the tests that led to it. Assumes nothing.
 use mathlib.Core.Path.{sym, ap, ◌∙◌}
-use borrow.Author.Rules.{rules}
 use Rattle.tones.specs.Refusals.{rule_refusal}
 use Rattle.tones.proofs.rule_refusal.Goals as goal
 

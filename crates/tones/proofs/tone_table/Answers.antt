@@ -3,7 +3,6 @@ use Rattle.histograms.specs.Histograms.{values}
 use Rattle.histograms.proofs.Histograms.{gathered_range, gathered_counted}
 use Rattle.histograms.proofs.Tables.{tables_of}
 use Rattle.tones.specs.Tones.{tone, kept}
-use borrow.Author.Rules.{rules}
 use Rattle.tones.proofs.tone_table.Goals as goal
 
 pub plain_tones-requires : goal.plain_tones-requires
