@@ -14,7 +14,7 @@ mod records;
 use caseparts::head::{Case, HEAD};
 use caseparts::{head, lines, parts};
 use std::io;
-use std::io::{BufReader, BufWriter, Read, Write};
+use std::io::{Read, Write};
 
 // Room for a case's bytes and for its plane.
 const BYTES: usize = 16416;
@@ -111,9 +111,6 @@ fn answer_all<R: Read, W: Write>(input: &mut R, out: &mut W) -> io::Result<()> {
 }
 
 // Answers all cases on standard input.
-pub fn run_cases(rt: &(impl Input + Print + Alloc)) -> io::Result<()> {
-    let mut input = BufReader::new(rt.alloc(), rt.reader())?;
-    let mut out = BufWriter::new(rt.alloc(), io::writer(rt))?;
-    answer_all(&mut input, &mut out)?;
-    out.flush()
+pub fn run_cases(rt: &(impl Input + Print)) -> io::Result<()> {
+    answer_all(&mut rt.reader(), &mut io::writer(rt))
 }
