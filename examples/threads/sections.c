@@ -11,7 +11,7 @@
  * and on copies of one plane: a pass looks at the pixels of its own section alone, and leaves them in its section. So a
  * pixel's new value is the one that it has in the copy of the thread that ran the section of its old value, and each
  * pass counts what it counts on the plane that the level began with. This is a theorem about the calls
- * (`sections-in-parallel` in docs/CLAIMS.md). Levels may not overlap: each begins with what the one before put
+ * (`sections_in_parallel` in docs/CLAIMS.md). Levels may not overlap: each begins with what the one before put
  * together.
  */
 #define _XOPEN_SOURCE 700

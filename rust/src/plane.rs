@@ -84,7 +84,7 @@ impl Plane {
     }
 
     /// Runs the passes of a list and answers the sums of their counts. A list is the chain of its passes, one after the
-    /// other (theorem `lists-are-chains`), and was checked whole when it was made, so that all of it runs.
+    /// other (theorem `lists_are_chains`), and was checked whole when it was made, so that all of it runs.
     pub fn run(&mut self, list: &PassList, memory: &mut Memory) -> Counts {
         let (marks, queue) = memory.lend(self.values.len());
         lent::run_list(list.bytes(), &mut self.values, marks, queue, self.w, self.h).expect("plane and list are sound")

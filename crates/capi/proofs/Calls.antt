@@ -43,7 +43,8 @@ use Rattle.conversion.specs.Conversion.{ConvertOutcome}
 use Rattle.conversion.proofs.Refusals.{length_converted, convertible, head_sound}
 use Rattle.netpbm.specs.Writing.{WriteOutcome}
 use Rattle.netpbm.proofs.Writing.{wrote_writable}
-use Rattle.cnumbers.specs.Numbers.{encoded, number_reply, done_reply, status_number, answer_number, written_number, Short}
+use Rattle.cnumbers.specs.Numbers.{encoded, number_reply, done_reply, status_number, answer_number, written_number}
+use Rattle.cnumbers.specs.Numbers.{Short}
 use Rattle.passlists.specs.Outcomes.{run_list_refusal, ListOutcome}
 use Rattle.crules.specs.Rules.{numbers_for, neighbours_for}
 use Rattle.cnumbers.specs.Numbers.{pass_of, settings_of, counts_after, counts_refusal}

@@ -32,7 +32,8 @@ use Rattle.levels.specs.Levels.{level_refusal, settings_refusal}
 use Rattle.enhance.specs.Published.{published_of}
 use Rattle.listformat.specs.declared.Edition.{Edition}
 use Rattle.listformat.specs.declared.Edition.TheVariants.{First, Second}
-use Rattle.listformat.specs.Format.{other, version, head_length, record_start, version_of, count_of, edition_of, numbers_at}
+use Rattle.listformat.specs.Format.{other, version, head_length, record_start, version_of, count_of, edition_of}
+use Rattle.listformat.specs.Format.{numbers_at}
 use Rattle.listformat.specs.Format.{pass_at}
 use Rattle.listformat.specs.Format.{passes_of, greatest_count, misnamed, miscounted, head_refusal}
 use Rattle.listchecks.specs.Refusals.{first_refusal, record_refusal, record_refusals, list_refusal, passes_refusal}
@@ -98,7 +99,8 @@ many_passes ss h =
 
 -- what a list is refused for, its conversion is refused for
 pub convert_by : (list : List ℕ) {number : ℕ} → list_refusal list ≡ number → (output : ℕ) → convert_refusal list output
-    ≡ number ▷ places_refusal (other (edition_of list)) (passes_of list) ▷ output_refusal output (length (converted list))
+    ≡ number ▷ places_refusal (other (edition_of list)) (passes_of list)
+    ▷ output_refusal output (length (converted list))
 unfolding convert_refusal
 convert_by list e output =
     ap (λ (k : ℕ). k ▷ places_refusal (other (edition_of list)) (passes_of list)
@@ -134,7 +136,8 @@ version_before : (list : List ℕ) → (version_of list ≡ 2 → ⊥) → list_
 unfolding misnamed record_refusals
 version_before list other =
     ap (λ (e : Edition). head_in e list
-    ▷ first_refusal (map (λ j. record_refusal e list (record_start e j)) (from 0 (count_of list)))) (of_first list other)
+    ▷ first_refusal (map (λ j. record_refusal e list (record_start e j)) (from 0 (count_of list))))
+    (of_first list other)
     ∙ ap (λ (ks : List ℕ). head_before list ▷ first_refusal ks) (records_before list (from 0 (count_of list)))
 
 pub refusal_before : (list : List ℕ) → (version_of list ≡ 2 → ⊥) → count_of list ≤ greatest_count
@@ -154,7 +157,8 @@ before_carries list = go (from 0 (count_of list))
     go (j ∷ js) = more refl (go js)
 
 pub list_before_lem : (z : Shape) (list plane : List ℕ) → (version_of list ≡ 2 → ⊥)
-    → run_effect (pass_neighbours z) (passes_of list) plane ≡ run_effect (always (neighbours z)) (passes_before list) plane
+    → run_effect (pass_neighbours z) (passes_of list) plane
+    ≡ run_effect (always (neighbours z)) (passes_before list) plane
 list_before_lem z list plane other =
     ap (λ (ss : List Pass). run_effect (pass_neighbours z) ss plane) (passes_before_lem list other)
     ∙ run_carries z 4 (before_carries list) plane

@@ -324,7 +324,8 @@ c_functions = record {
   of_write = λ raster w h {output} {output'} r O.
       stands_written (λ y. WriteOutcome raster w h output y output') r O;
   of_read_refused = λ bytes numbers r k e R. read-refuses bytes numbers r R k (refused_answer bytes greatest_pixels e);
-  of_read = λ bytes numbers r w h offset e R. reads bytes numbers r R w h offset (framed_answer bytes greatest_pixels e);
+  of_read = λ bytes numbers r w h offset e R. reads bytes numbers r R w h offset
+      (framed_answer bytes greatest_pixels e);
   of_read_short = λ bytes numbers r w h offset e R. short bytes numbers r R w h offset
       (framed_answer bytes greatest_pixels e);
 }

@@ -21,7 +21,8 @@ use Rattle.model.specs.declared.Pass.{Pass}
 use Rattle.model.specs.Effects.{Effect, counts}
 use Rattle.model.specs.Outcomes.{Outcome, OutputOutcome}
 use Rattle.model.specs.Neighbourhoods.{pass_neighbours}
-use Rattle.model.specs.Calls.{retoned_in, kept_in, total, AllAccepted, State, start, chain, chain_effect, chain_sufficient}
+use Rattle.model.specs.Calls.{retoned_in, kept_in, total, AllAccepted, State, start, chain, chain_effect}
+use Rattle.model.specs.Calls.{chain_sufficient}
 use Rattle.model.specs.Runs.{All, Carries}
 use Rattle.model.specs.Enhancement.{passes, call_of, enhanced}
 use Rattle.model.proofs.Outcomes.{outcome_given, outcome_stays, output_given}

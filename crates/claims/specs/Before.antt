@@ -20,7 +20,8 @@ use Rattle.model.specs.declared.Pass.{Pass}
 use Rattle.model.specs.Calls.{interval_refusal, area_refusal, numbers_refusal}
 use Rattle.levels.specs.declared.Settings.{Settings}
 use Rattle.levels.specs.Levels.{level_refusal}
-use Rattle.listformat.specs.Format.{other, number32, head_length, record_start, version_of, count_of, edition_of, numbers_at}
+use Rattle.listformat.specs.Format.{other, number32, head_length, record_start, version_of, count_of, edition_of}
+use Rattle.listformat.specs.Format.{numbers_at}
 use Rattle.listformat.specs.Format.{passes_of, misnamed}
 use Rattle.listchecks.specs.Refusals.{first_refusal, record_refusals, places_refusal}
 use Rattle.conversion.specs.Conversion.{converted}
@@ -73,7 +74,8 @@ record_before bs i = form_refusal (numbers_at bs i) ▷ numbers_before (pass_bef
 abbrev pub head_before : List ℕ → ℕ
 head_before bs =
     when (ltb (length bs) 7) 16
-    ▷ when (not (eqb (at bs 0) 77) || not (eqb (at bs 1) 76) || not (eqb (at bs 2) 80) || not (eqb (version_of bs) 1)) 15
+    ▷ when (not (eqb (at bs 0) 77) || not (eqb (at bs 1) 76) || not (eqb (at bs 2) 80)
+    || not (eqb (version_of bs) 1)) 15
     ▷ when (ltb greatest_before (count_of bs) || not (eqb (length bs) (start_before (count_of bs)))) 16
 
 abbrev pub list_before : List ℕ → ℕ

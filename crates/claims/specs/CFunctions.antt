@@ -103,7 +103,8 @@ pub record CFunctions : Type 0 where
       → EnhanceNumber w h last area rule frame plane marks queue output numbers r
       plane' marks' queue' output' numbers'
       → (number_reply r
-      ≡ refuses (memory_refusal (shape_of w h) (length frame) (length plane) (length marks) (length queue) (length output)
+      ≡ refuses (memory_refusal (shape_of w h) (length frame) (length plane) (length marks) (length queue)
+      (length output)
       ▷ 17))
       × (((plane' ≡ plane) × ((marks' ≡ marks) × ((queue' ≡ queue) × (output' ≡ output)))) × (numbers' ≡ numbers))
   -- 14 after all others, and nothing changes

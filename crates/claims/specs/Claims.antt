@@ -52,9 +52,10 @@
 --   rule_before, malformed_before   the same before the affine rule was there (tones/specs/Before)
 --   numbers_before, settings_before   the refusals of a pass and of settings before they had neighbours (specs/Before)
 --   greatest_count      the most passes of a list, in a file and in memory (listformat/specs/Format)
---   greatest_before     the most that it might have before; list_within, convert_within, passes_within: the refusals of a
---                      list, of its conversion and of passes in memory by the most (specs/Before)
---   list_before, passes_before   the refusal of a list, and its passes, before there was a second version (specs/Before)
+--   greatest_before     the most that it might have before; list_within, convert_within, passes_within: the refusals of
+--                       a list, of its conversion and of passes in memory by the most (specs/Before)
+--   list_before, passes_before   the refusal of a list, and its passes, before there was a second version
+--                                (specs/Before)
 --   Bytes              every member is a byte (listformat/specs/Format)
 --   Edition            version 1 or version 2 of a pass list (listformat/src); its version and the layout of its
 --                      records stand in listformat/specs/Format
@@ -63,7 +64,8 @@
 --   converted       a list in the other edition (conversion/specs/Conversion)
 --   places_refusal  20, for passes that an edition has no place for (listchecks/specs/Refusals)
 --   Emitted         what the program's function ensures: some bytes at the beginning of the output (printing)
-use Rattle.std.specs.Prelude.{ℕ, suc, ◌+◌, ◌-◌, ◌*◌, ◌/◌, ◌^◌, ◌≤◌, ◌<◌, ◌≡◌, ◌↔◌, Bool, true, false, List, [], ◌∷◌, map, length, take, drop, ltb}
+use Rattle.std.specs.Prelude.{ℕ, suc, ◌+◌, ◌-◌, ◌*◌, ◌/◌, ◌^◌, ◌≤◌, ◌<◌, ◌≡◌, ◌↔◌, Bool, true, false, List, [], ◌∷◌}
+use Rattle.std.specs.Prelude.{map, length, take, drop, ltb}
 use Rattle.std.proofs.Math.Option.{some}
 use Rattle.planes.specs.Lists.{at, Beyond}
 use Rattle.planes.specs.Permutations.{Permutation}
@@ -87,7 +89,8 @@ use Rattle.model.specs.Calls.{chain_sufficient, AcceptedCarry, numbers_refusal}
 use Rattle.passes.specs.Calls.{call_on, pass_call_refusal, PassOutcome, Sequence}
 use Rattle.schedules.specs.Orders.{PairwiseDisjoint, passes_in, Answered}
 use Rattle.schedules.specs.Components.{IsComponent, Ringed}
-use Rattle.schedules.specs.Copies.{Work, Worked, work_passes, WorkAnswered, together, Rounds, rounds_total, level_rounds}
+use Rattle.schedules.specs.Copies.{Work, Worked, work_passes, WorkAnswered, together, Rounds, rounds_total}
+use Rattle.schedules.specs.Copies.{level_rounds}
 use Rattle.levels.specs.declared.Settings.{Settings}
 use Rattle.enhance.specs.Calls.{settings_refusal, chain_of, sufficient_of, enhance_call_refusal, EnhanceOutcome}
 use Rattle.enhance.specs.Published.{published_of}
@@ -103,7 +106,8 @@ use Rattle.netpbm.specs.Frames.{IsFrame}
 use Rattle.netpbm.specs.Writing.{encoding, write_refusal, WriteOutcome}
 use Rattle.listformat.specs.declared.Edition.{Edition}
 use Rattle.listformat.specs.declared.Edition.TheVariants.{First, Second}
-use Rattle.listformat.specs.Format.{other, version, head_length, version_of, count_of, edition_of, passes_of, greatest_count}
+use Rattle.listformat.specs.Format.{other, version, head_length, version_of, count_of, edition_of, passes_of}
+use Rattle.listformat.specs.Format.{greatest_count}
 use Rattle.listformat.specs.Format.{misnamed, decode, encode, Bytes, Storable, Listable}
 use Rattle.listchecks.specs.Refusals.{list_refusal, passes_refusal, places_refusal}
 use Rattle.conversion.specs.Conversion.{converted, convert_refusal, ConvertOutcome}
@@ -455,7 +459,8 @@ pub record HandedOut : Type 0 where
       → EnhanceOutcome z t frame plane marks queue output (gives values) plane' marks' queue' output'
       → {works : List (List Work)} {last : List ℕ}
       → Rounds z (level_rounds t.last t.area t.rule t.neighbours) works first last
-      → AsEnhanced z frame values plane' output' (gives (rounds_total retoned_in works ∷ rounds_total kept_in works ∷ []))
+      → AsEnhanced z frame values plane' output'
+      (gives (rounds_total retoned_in works ∷ rounds_total kept_in works ∷ []))
       last
 
 -- two planes of one size that agree on a component C of [a, b] in the first; in both all pixels next to C, by the
@@ -501,7 +506,8 @@ pub record AsBefore : Type 0 where
   pub of_few : (list : List ℕ) → count_of list ≤ greatest_count
       → (list_refusal list ≡ list_within greatest_before list)
       × ((output : ℕ) → convert_refusal list output ≡ convert_within greatest_before list output)
-  pub of_few_passes : (ss : List Pass) → length ss ≤ greatest_count → passes_refusal ss ≡ passes_within greatest_before ss
+  pub of_few_passes : (ss : List Pass) → length ss ≤ greatest_count
+      → passes_refusal ss ≡ passes_within greatest_before ss
   pub many : (list : List ℕ) → greatest_count < count_of list → head_length ≤ length list → misnamed list ≡ false
       → (list_refusal list ≡ 16) × ((output : ℕ) → convert_refusal list output ≡ 16)
   pub many_passes : (ss : List Pass) → greatest_count < length ss → passes_refusal ss ≡ 16

@@ -23,7 +23,8 @@ module _ (bs : List ℕ) where
   pub length_converted : length (converted bs) ≡ record_start (other (edition_of bs)) (count_of bs)
   unfolding converted
   length_converted =
-      length_encode (other (edition_of bs)) (passes_of bs) ∙ ap (record_start (other (edition_of bs))) (length_passes_of bs)
+      length_encode (other (edition_of bs)) (passes_of bs)
+      ∙ ap (record_start (other (edition_of bs))) (length_passes_of bs)
 
   -- 20, by the passes
   abbrev pub unplaced : ℕ

@@ -16,7 +16,8 @@ converted bs = encode (other (edition_of bs)) (passes_of bs)
 -- those of the list; 20 where a pass with eight neighbours is to become version 1; 14 for an output of so many bytes
 unfoldable pub convert_refusal : List ℕ → ℕ → ℕ
 convert_refusal bs output =
-    list_refusal bs ▷ places_refusal (other (edition_of bs)) (passes_of bs) ▷ output_refusal output (length (converted bs))
+    list_refusal bs ▷ places_refusal (other (edition_of bs)) (passes_of bs)
+    ▷ output_refusal output (length (converted bs))
 
 -- the output has the list in the other edition from its beginning on, and beyond it what it had; a refusal changes
 -- nothing

@@ -9,7 +9,8 @@
 ghost use Rattle.std.specs.Prelude.{◌≡◌, ◌++◌, ◌+◌, ◌≤◌, length, take, drop};
 ghost use Rattle.texts.specs.Placing.{Put};
 ghost use Rattle.texts.specs.Writing.{written_reply};
-ghost use Rattle.listformat.specs.Format.{record_length, fields_length, head_length, count_of, encode_head, encode_rest};
+ghost use Rattle.listformat.specs.Format.{record_length, fields_length, head_length, count_of, encode_head};
+ghost use Rattle.listformat.specs.Format.{encode_rest};
 ghost use Rattle.conversion.specs.Conversion.{converted, convert_refusal, ConvertOutcome};
 
 use listformat::{COUNT_AT, Edition, FIELDS_LENGTH};

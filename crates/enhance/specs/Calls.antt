@@ -2,7 +2,8 @@
 --
 --   house, level_refusal, settings_refusal   of the settings
 --   memory_refusal    1, 2, 3, 4, 14, by the shape and by what is lent
---   enhance_refusal   the number of the first refusal that applies, of 1, 2, 3, 4, 14, 9, 6, 7, 8, 18; 0 where none does
+--   enhance_refusal   the number of the first refusal that applies, of 1, 2, 3, 4, 14, 9, 6, 7, 8, 18; 0 where none
+--                     does
 --   chain_of          the chain of passes that an enhancement stands for, from the frame's intensity
 --   sufficient_of     the components of sufficient area that the passes of this chain find
 --   Enhances         an accepted enhancement
@@ -61,5 +62,6 @@ enhance_call_refusal z t frame plane marks queue output =
 abbrev pub EnhanceOutcome : (z : Shape) (t : Settings) (frame plane marks queue output : List ℕ) (reply : Reply)
     (plane' marks' queue' output' : List ℕ) → Type 0
 EnhanceOutcome z t frame plane marks queue output =
-    OutputOutcome (pixels z) (enhance_call_refusal z t frame plane marks queue output) (chain_effect (chain_of z t frame))
+    OutputOutcome (pixels z) (enhance_call_refusal z t frame plane marks queue output)
+    (chain_effect (chain_of z t frame))
     (recolour frame (chain_of z t frame).plane) plane marks queue output

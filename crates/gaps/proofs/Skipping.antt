@@ -42,7 +42,8 @@ rest_then : (bytes : List ℕ) → comment_and_then bytes ≡ next (rest_of_comm
 rest_then [] = rw (comment_unended, rest_none)
 rest_then (b ∷ bytes) = go (ends_comment b) refl (rest_then bytes)
   where
-    go : (t : Bool) → ends_comment b ≡ t → comment_and_then bytes ≡ next (rest_of_comment bytes) (λ (u : Unit {0}). pieces)
+    go : (t : Bool) → ends_comment b ≡ t → comment_and_then bytes
+        ≡ next (rest_of_comment bytes) (λ (u : Unit {0}). pieces)
         → comment_and_then (b ∷ bytes) ≡ next (rest_of_comment (b ∷ bytes)) (λ (u : Unit {0}). pieces)
     go true e h = rw (comment_end b bytes e, rest_end b bytes e)
     go false e h = rw (comment_text b bytes e, rest-text b bytes e) h

@@ -27,7 +27,8 @@ number_of (suc k) v rest = cond (leb (suc k) 6) (parsed v rest) failed
 
 unfoldable pub number_after : ℕ → ℕ → Parser ℕ
 number_after k v bytes =
-    number_of (k + length (take_while is_digit bytes)) (value_after v (take_while is_digit bytes)) (drop_while is_digit bytes)
+    number_of (k + length (take_while is_digit bytes)) (value_after v (take_while is_digit bytes))
+    (drop_while is_digit bytes)
 
 pub number_begins : (bytes : List ℕ) → numeral bytes ≡ number_after 0 0 bytes
 unfolding numeral number_after
@@ -54,7 +55,8 @@ module _ (bytes : List ℕ) (i k v : ℕ) where
   unfolding number_after
   number_more h e =
       let rest = drop (i + 1) bytes in
-      let counted : k + suc (length (take_while is_digit rest)) ≡ k + 1 + length (take_while is_digit rest) = omega arith in
+      let counted : k + suc (length (take_while is_digit rest))
+      ≡ k + 1 + length (take_while is_digit rest) = omega arith in
       rw (drop_here bytes i h, e, counted)
 
   -- a seventh digit

@@ -1,7 +1,7 @@
 -- Headers without comments are read as before, and no others were read.
 --
---   uncommented_header_lem   where no number sign stands in a header that begins the bytes, the grammar makes of them what
---                        the grammar with whitespace alone makes of them
+--   uncommented_header_lem   where no number sign stands in a header that begins the bytes, the grammar makes of them
+--                            what the grammar with whitespace alone makes of them
 --   commented_header     where one does, the grammar with whitespace alone fails
 --
 -- Assumes nothing.

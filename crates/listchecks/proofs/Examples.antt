@@ -8,7 +8,8 @@ use Rattle.listchecks.specs.Refusals.{record_refusal, record_refusals, list_refu
 use Rattle.listchecks.specs.Examples.{ListRefusals}
 
 pub list_refusals : ListRefusals
-unfolding list_refusal head_refusal edition_of misnamed miscounted malformed record_refusals record_refusal pass_at numbers_refusal
+unfolding list_refusal head_refusal edition_of misnamed miscounted malformed record_refusals record_refusal pass_at
+    numbers_refusal
     area_refusal rule_refusal neighbour_refusal
 list_refusals = record {
   no_passes = refl;

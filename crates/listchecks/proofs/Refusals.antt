@@ -25,7 +25,8 @@ use Rattle.model.specs.Calls.{numbers_refusal}
 use Rattle.model.specs.Runs.{All}
 use Rattle.listformat.specs.declared.Edition.{Edition}
 use Rattle.listformat.specs.declared.Edition.TheVariants.{Second}
-use Rattle.listformat.specs.Format.{edition_of, record_start, count_of, pass_here, passes_of, greatest_count, malformed_at}
+use Rattle.listformat.specs.Format.{edition_of, record_start, count_of, pass_here, passes_of, greatest_count}
+use Rattle.listformat.specs.Format.{malformed_at}
 use Rattle.listformat.specs.Format.{well, head_refusal, decode, encode, Storable}
 use Rattle.listformat.proofs.Format.{headed, decoded, length_passes_of, head_encode, passes_encode}
 use Rattle.listchecks.specs.declared.Record.{Record}
@@ -136,7 +137,8 @@ places_second [] = refl
 places_second (s ∷ ss) = places_second ss
 
 module _ (e : Edition) (bs : List ℕ) where
-  compose : (js : List ℕ) → map (place_refusal e) (map (pass_here bs) js) ≡ map (λ j. place_refusal e (pass_here bs j)) js
+  compose : (js : List ℕ) → map (place_refusal e) (map (pass_here bs) js)
+      ≡ map (λ j. place_refusal e (pass_here bs j)) js
   compose [] = refl
   compose (j ∷ js) = ap (place_refusal e (pass_here bs j) ∷◌) (compose js)
 

@@ -15,7 +15,8 @@ record_q = 0 ∷ 127 ∷ 0 ∷ 0 ∷ 1 ∷ 0 ∷ 0 ∷ 0 ∷ 0 ∷ 0 ∷ 156 ∷
 abbrev pub record_s : List ℕ
 record_s = 0 ∷ 255 ∷ 2 ∷ 2 ∷ 1 ∷ 0 ∷ 0 ∷ 0 ∷ 100 ∷ 0 ∷ 16 ∷ 39 ∷ []
 
--- the head of a list of version 2 of n records, n below 256, the record of example Q in it, and that of example J with 8
+-- the head of a list of version 2 of n records, n below 256, the record of example Q in it, and that of example J with
+-- 8
 abbrev pub head2 : ℕ → List ℕ
 head2 n = 77 ∷ 76 ∷ 80 ∷ 2 ∷ 0 ∷ n ∷ 0 ∷ []
 

@@ -384,7 +384,8 @@ module _ (e : Edition) (ss : List Pass) where
   counted-encode h =
       let n = count_encode h in
       let size = length_encode ∙ ap₂ record_start (sym edition_encode) (sym n) in
-      let same = eq-eqb (length (encode e ss)) (record_start (edition_of (encode e ss)) (count_of (encode e ss))) size in
+      let same = eq-eqb (length (encode e ss))
+      (record_start (edition_of (encode e ss)) (count_of (encode e ss))) size in
       ap₂ (λ (s t : Bool). s || not t) (ap (ltb greatest_count) n) same ∙ or-false (ltb greatest_count (length ss))
 
   -- of a list's head, only the count may be refused
@@ -400,7 +401,8 @@ module _ (e : Edition) (ss : List Pass) where
   unfolding encode
   records-encode = go e
     where
-      go : (d : Edition) → drop (record_start d 0) (encode_head e (length ss) ++ encode_passes e ss) ≡ encode_passes e ss
+      go : (d : Edition) → drop (record_start d 0) (encode_head e (length ss) ++ encode_passes e ss)
+          ≡ encode_passes e ss
       go First = refl
       go Second = refl
 

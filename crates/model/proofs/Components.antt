@@ -47,7 +47,8 @@ module _ (near : Near) (s : Pass) (p : List ℕ) (i : ℕ) (f : ℕ → Bool) wh
 
 -- what a pixel becomes, by whether it is in the section
 module _ (near : Near) (s : Pass) (p : List ℕ) where
-  pub in_tone : (i : ℕ) → within s (at p i) ≡ true → new_tone near s p i ≡ retone s (component_values near s p i) (at p i)
+  pub in_tone : (i : ℕ) → within s (at p i) ≡ true
+      → new_tone near s p i ≡ retone s (component_values near s p i) (at p i)
   unfolding new_tone
   in_tone i e = ap (λ t. cond t (retone s (component_values near s p i) (at p i)) (at p i)) e
 

@@ -14,7 +14,8 @@
 --   process_level_set                 Algorithm 3: each component of a level set that has the least area is treated
 --   recursive_histogram_equalization  Algorithm 2: a set is equalised; then its lower and its upper half are processed,
 --                                   unless this is the last level
-use Rattle.std.specs.Prelude.{ℕ, zero, suc, ◌+◌, ◌/◌, ◌≤◌, ◌<◌, ◌≡◌, Bool, true, false, ◌&&◌, ◌||◌, cond, List, [], ◌∷◌, map, length, leb, eqb}
+use Rattle.std.specs.Prelude.{ℕ, zero, suc, ◌+◌, ◌/◌, ◌≤◌, ◌<◌, ◌≡◌, Bool, true, false, ◌&&◌, ◌||◌, cond, List, [], ◌∷◌}
+use Rattle.std.specs.Prelude.{map, length, leb, eqb}
 use Rattle.planes.specs.Lists.{from, keep, at}
 use Rattle.planes.specs.Permutations.{Permutation}
 use Rattle.planes.specs.Neighbours.{Near, linked, component, first}

@@ -106,7 +106,8 @@ pub record WrongTurns : Type 0 where
       (128 ∷ 255 ∷ []) 1 0
       (10 ∷ 20 ∷ []) 0 0
   -- kept back on the levels 0 to 4, retoned on level 5
-  pub stop_at_kept_lem : Turned (published (four 3) 5 1 (Plain 80 300) ramp) (stop_at_kept (four 3) 5 1 (Plain 80 300) ramp)
+  pub stop_at_kept_lem : Turned (published (four 3) 5 1 (Plain 80 300) ramp)
+      (stop_at_kept (four 3) 5 1 (Plain 80 300) ramp)
       (10 ∷ 13 ∷ 15 ∷ []) 1 5
       (10 ∷ 11 ∷ 12 ∷ []) 0 1
   pub halves_to_even_lem : Turned (published (four 6) 0 1 any_ratio sixth) (halves_to_even sixth)

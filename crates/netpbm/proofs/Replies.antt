@@ -42,7 +42,8 @@ header_same : (x y : Header) → header_reply x ≡ header_reply y → x ≡ y
 header_same x (Refused k) e = header_refuses x e
 header_same x (Frame w h offset) e = header_gives x e
 
-framed_replied : (number w h offset : ℕ) → header_reply (framed number w h offset) ≡ replied number (w ∷ h ∷ offset ∷ [])
+framed_replied : (number w h offset : ℕ) → header_reply (framed number w h offset)
+    ≡ replied number (w ∷ h ∷ offset ∷ [])
 framed_replied zero w h offset = refl
 framed_replied (suc k) w h offset = refl
 

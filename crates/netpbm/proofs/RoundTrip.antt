@@ -76,7 +76,8 @@ unfolding heading is_sign
 heading_plain w h wide high =
     let end : List ℕ = 10 ∷ (decimal 255 ++ (10 ∷ [])) in
     let nested : heading w h ≡ 80 ∷ 54 ∷ 10 ∷ (decimal w ++ (32 ∷ (decimal h ++ end))) = simp append_assoc in
-    let maxval = every_append not_sign (decimal 255) (10 ∷ []) (digits_plain (decimal_numeral 255 (omega arith))) refl in
+    let maxval = every_append not_sign (decimal 255) (10 ∷ [])
+    (digits_plain (decimal_numeral 255 (omega arith))) refl in
     let from-h = every_append not_sign (decimal h) end (digits_plain (decimal_numeral h high)) maxval in
     let from-w = every_append not_sign (decimal w) (32 ∷ (decimal h ++ end)) (digits_plain (decimal_numeral w wide))
     from-h in

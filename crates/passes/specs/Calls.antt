@@ -26,7 +26,8 @@ pass_call_refusal z s plane marks queue = pass_refusal z (length plane) (call_on
 abbrev pub PassOutcome : (z : Shape) (s : Pass) (plane marks queue : List ℕ) (reply : Reply)
     (plane' marks' queue' : List ℕ) → Type 0
 PassOutcome z s plane marks queue =
-    Outcome (pixels z) (pass_call_refusal z s plane marks queue) (pass_effect (pass_neighbours z) s plane) plane marks queue
+    Outcome (pixels z) (pass_call_refusal z s plane marks queue)
+    (pass_effect (pass_neighbours z) s plane) plane marks queue
 
 -- calls that each meet the contract of `pass`, from a first plane to a last, as the model is fed them, with their
 -- replies; marks and queue are lent anew for each call, with any length and content

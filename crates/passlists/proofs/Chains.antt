@@ -85,7 +85,8 @@ module _ (z : Shape) (plane marks queue : List ℕ) where
   module _ (reply : Reply) (plane' marks' queue' : List ℕ) where
     -- passes that are not refused, whatever the refusal's number is called
     accepted-chain : (number : ℕ) (ss : List Pass) → number ≡ 0 → unlent ≡ 0 → passes_refusal ss ≡ 0
-        → Outcome (pixels z) number (run_effect (pass_neighbours z) ss plane) plane marks queue reply plane' marks' queue'
+        → Outcome (pixels z) number (run_effect (pass_neighbours z) ss plane) plane marks queue
+        reply plane' marks' queue'
         → (plane' ≡ (chained ss).plane) × (reply ≡ gives (counts (chain_effect (chained ss))))
     accepted-chain number ss e l f out =
         let same = chained-runs l ss f in (
@@ -102,7 +103,8 @@ module _ (z : Shape) (plane marks queue : List ℕ) where
 
     pub list_chain : (list : List ℕ) → run_list_refusal z list plane marks queue ≡ 0
         → ListOutcome z list plane marks queue reply plane' marks' queue'
-        → (plane' ≡ (chained (passes_of list)).plane) × (reply ≡ gives (counts (chain_effect (chained (passes_of list)))))
+        → (plane' ≡ (chained (passes_of list)).plane)
+        × (reply ≡ gives (counts (chain_effect (chained (passes_of list)))))
     list_chain list e out =
         let tests = ▷_none unlent (list_refusal list) e in
         let fine = (accepted_list list tests.1).1 in

@@ -30,7 +30,8 @@ use Rattle.conversion.proofs.Editions.{stored, converted_passes, converted_sound
 use Rattle.passlists.specs.Outcomes.{slices_refusal, run_list_refusal, ListOutcome}
 
 -- two runs of lists with one refusal and the same passes answer and leave the same
-same_runs : (z : Shape) (list list' : List ℕ) → list_refusal list ≡ list_refusal list' → passes_of list ≡ passes_of list'
+same_runs : (z : Shape) (list list' : List ℕ) → list_refusal list ≡ list_refusal list'
+    → passes_of list ≡ passes_of list'
     → (plane : List ℕ) {marks queue marks' queue' : List ℕ}
     → length marks ≡ length marks' → length queue ≡ length queue'
     → {plane₁ marks₁ queue₁ plane₂ marks₂ queue₂ : List ℕ} {reply₁ reply₂ : Reply}

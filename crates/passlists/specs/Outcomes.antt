@@ -30,7 +30,8 @@ run_passes_refusal z ss plane marks queue = slices_refusal z plane marks queue �
 abbrev pub ListOutcome : (z : Shape) (list plane marks queue : List ℕ) (reply : Reply)
     (plane' marks' queue' : List ℕ) → Type 0
 ListOutcome z list plane marks queue =
-    Outcome (pixels z) (run_list_refusal z list plane marks queue) (run_effect (pass_neighbours z) (passes_of list) plane)
+    Outcome (pixels z) (run_list_refusal z list plane marks queue)
+    (run_effect (pass_neighbours z) (passes_of list) plane)
     plane marks queue
 
 abbrev pub PassesOutcome : (z : Shape) (ss : List Pass) (plane marks queue : List ℕ) (reply : Reply)

@@ -138,7 +138,8 @@ module _ (near : Near) (symm : Symmetric near) (s t : Pass) (P : Part s t) (p : 
 
   -- a component of the part has no other values
   one-part : (i : ℕ) → i < n → inert s (component_values near s p i) ≡ true
-      → (v : ℕ) → every (eqb v) (component_values near s p i) ≡ true → every (eqb v) (component_values near t q i) ≡ true
+      → (v : ℕ) → every (eqb v) (component_values near s p i) ≡ true
+      → every (eqb v) (component_values near t q i) ≡ true
   one-part i hi e v one = every_value near t q i (eqb v) (λ x hx d.
       let hx' : x < n = omega (arith, same_size) in
       let d' = subst (λ (k : ℕ). linked (inside near t q) k i x ≡ true) same_size d in
@@ -180,7 +181,8 @@ module _ (near : Near) (symm : Symmetric near) (s t : Pass) (P : Part s t) (p : 
     old_value : (x : ℕ) → x < n → Mine x ≡ true → at q x ≡ at p x
     old_value x hx d =
         let still : changes s (component_values near s p x) ≡ false =
-        ap (changes s) (sym (linked_values near symm s p i x hi hx d)) ∙ inert_still s (component_values near s p i) e in
+        ap (changes s) (sym (linked_values near symm s p i x hi hx d))
+        ∙ inert_still s (component_values near s p i) e in
         passed_at near s p x hx ∙ still_tone near s p x still
 
     -- and have one value, which is in the part

@@ -53,6 +53,7 @@ pub record RunTaken (code l end : ℕ) (marks queue : List ℕ) (tail : ℕ) (ma
 
 -- if q had the code, pixels of its row were taken that are joined to it, q among them; none is left beside one of them
 pub record Reached (w code q : ℕ) (marks queue : List ℕ) (tail : ℕ) (marks' queue' : List ℕ) (tail' : ℕ) : Type 0 where
-  pub taken : Taken (Joined (in_row w) (row_end w q) marks code q) (row_end w q) code marks queue tail marks' queue' tail'
+  pub taken : Taken (Joined (in_row w) (row_end w q) marks code q) (row_end w q) code
+      marks queue tail marks' queue' tail'
   pub off : at marks' q ≡ code → ⊥
   pub rows : (k : ℕ) → tail ≤ k → k < tail' → Shut (in_row w) code marks' (at queue' k)

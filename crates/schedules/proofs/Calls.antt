@@ -70,7 +70,8 @@ module _ (z : Shape) where
   answer_on p s = gives (counts (pass_effect by s p))
 
   -- it answers the same after one that is disjoint from it
-  answer-alike : (s t : Pass) → Disjoint s t → Ordered s → (p : List ℕ) → answer_on (passed (by s) s p) t ≡ answer_on p t
+  answer-alike : (s t : Pass) → Disjoint s t → Ordered s → (p : List ℕ)
+      → answer_on (passed (by s) s p) t ≡ answer_on p t
   answer-alike s t d o p =
       let A = later_alike by s t d o p in
       let q = passed (by s) s p in

@@ -36,7 +36,8 @@ use Rattle.histograms.proofs.Measured.{measured_alike, tally_alike}
 use Rattle.model.specs.declared.Pass.{Pass}
 use Rattle.model.specs.Neighbourhoods.{pass_neighbours}
 use Rattle.model.proofs.Neighbourhoods.{pass_sym}
-use Rattle.model.specs.Passes.{within, inside, component_values, sufficient, changes, kept_back, retone, new_tone, passed}
+use Rattle.model.specs.Passes.{within, inside, component_values, sufficient, changes, kept_back, retone, new_tone}
+use Rattle.model.specs.Passes.{passed}
 use Rattle.model.specs.Passes.{counted, component_count, pass_count}
 use Rattle.model.proofs.Components.{in_tone, out_tone, still_tone}
 use Rattle.model.proofs.Order.{in-of, length_passed, passed_at}

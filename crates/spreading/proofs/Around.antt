@@ -1,8 +1,8 @@
 -- The neighbours of a pixel by rows, for four and for eight neighbours: those in a row are `in_row`; in other rows they
 -- are the pixels above and below the pixel itself, and with eight also those above and below the two beside it in its
 -- row. So for four neighbours what `reach_column` takes is all that is next to a taken pixel. For eight it is three
--- columns; where the pixel follows another of its run, the first two are clear already. The crates that flood see `four`
--- and `eight` by their coordinates in this file alone. Assumes nothing.
+-- columns; where the pixel follows another of its run, the first two are clear already. The crates that flood see
+-- `four` and `eight` by their coordinates in this file alone. Assumes nothing.
 use Prim.Native.Nat.{ℕ, ◌+◌, ◌*◌, ◌/◌, ◌%◌, ◌≤◌, ◌<◌}
 use mathlib.Core.Path.{◌≡◌, refl, sym, ap, subst, ◌∙◌}
 use mathlib.Core.Logic.{◌⊎◌, inl, inr}

@@ -2,8 +2,8 @@
 //
 // reach_column   takes the runs of the pixels above and below a pixel: for a pixel that was taken with the run of its
 //                row, all that the four neighbours have in other rows
-// spread         takes what is next to a pixel by eight neighbours: the pixels above and below those of a run and of one
-//                more at either end of it, never past the ends of the row
+// spread         takes what is next to a pixel by eight neighbours: the pixels above and below those of a run and of
+//                one more at either end of it, never past the ends of the row
 // Front          how far a flood by eight neighbours has come
 //
 // Which pixels of other rows are neighbours is known here alone.

@@ -46,7 +46,8 @@ use Rattle.schedules.specs.Copies.{none as none-worked, more as worked-more}
 use Rattle.tones.specs.Numbers.{malformed}
 use Rattle.listformat.specs.declared.Edition.{Edition}
 use Rattle.listformat.specs.declared.Edition.TheVariants.{First, Second}
-use Rattle.listformat.specs.Format.{other, record_start, edition_of, pass_at, passes_of, misnamed, miscounted, head_refusal}
+use Rattle.listformat.specs.Format.{other, record_start, edition_of, pass_at, passes_of, misnamed, miscounted}
+use Rattle.listformat.specs.Format.{head_refusal}
 use Rattle.listformat.specs.Format.{encode_fields, encode_pass, encode_passes, encode, Storable}
 use Rattle.listchecks.specs.Refusals.{record_refusal, record_refusals, list_refusal, passes_refusal, places_refusal}
 use Rattle.listchecks.proofs.Refusals.{encoded_refusal}
@@ -65,7 +66,8 @@ use Rattle.worked.specs.Examples.{Demand3Met, After, row, dark, bright, row_h, r
 use Rattle.worked.specs.Examples.{ParallelMet}
 
 pass_examples : PassExamples
-unfolding pass_neighbours adjacency neighbours four linked component first plain_tone plain_kept clipped limited_tone tone
+unfolding pass_neighbours adjacency neighbours four linked component first plain_tone plain_kept clipped limited_tone
+    tone
     kept affine_tone affine_top affine_kept least_from next_point points_after joined
     inside component_values changes kept_back retone new_tone passed component_count
 pass_examples = record {
@@ -88,7 +90,8 @@ pass_examples = record {
 }
 
 eight_examples : Eight
-unfolding pass_neighbours adjacency neighbours four eight linked component first plain_tone plain_kept clipped limited_tone
+unfolding pass_neighbours adjacency neighbours four eight linked component first plain_tone plain_kept clipped
+    limited_tone
     tone kept inside component_values changes kept_back retone new_tone passed component_count flat extreme extremes
     area_refusal rule_refusal neighbour_refusal numbers_refusal
 eight_examples = record {
@@ -174,17 +177,20 @@ many count number few is =
     }
 
 pub starred : Starred
-unfolding shape_refusal size_refusal side_refusal pixel_refusal length_refusal pass_neighbours adjacency neighbours four eight
+unfolding shape_refusal size_refusal side_refusal pixel_refusal length_refusal pass_neighbours adjacency neighbours four
+    eight
     linked component first plain_tone plain_kept clipped limited_tone tone kept
     affine_tone affine_top affine_kept least_from next_point points_after joined
     third pixel_intensity intensity greatest_channel new_channel recolour
     inside component_values changes kept_back retone new_tone passed component_count run_effect
     room_refusal area_refusal rule_refusal neighbour_refusal numbers_refusal lent_refusal pass_refusal call chain
     section level levels passes call_of enhanced
-    edition_of pass_at passes_of malformed misnamed miscounted head_refusal encode_fields encode_pass encode_passes encode
+    edition_of pass_at passes_of malformed misnamed miscounted head_refusal encode_fields encode_pass encode_passes
+    encode
     record_refusal record_refusals list_refusal passes_refusal places_refusal output_refusal converted convert_refusal
     is_digit is_white is_sign ends_comment pieces gap mark numeral field header_with header
-    maxval_refusal raster_refusal trailing_refusal frame_refusal read_answer decimal heading enhanced_frame program_output
+    maxval_refusal raster_refusal trailing_refusal frame_refusal read_answer decimal heading enhanced_frame
+    program_output
 starred = record {
   tones = tone_examples;
   passes = pass_examples;
@@ -235,7 +241,8 @@ taken : (k : ℕ) → 0 ≡ suc k → ⊥
 taken k e = omega (arith, e)
 
 pub demand_3_met : Demand3Met
-unfolding shape_refusal size_refusal side_refusal pixel_refusal length_refusal pass_neighbours adjacency neighbours four eight
+unfolding shape_refusal size_refusal side_refusal pixel_refusal length_refusal pass_neighbours adjacency neighbours four
+    eight
     linked component first plain_tone plain_kept tone kept
     third pixel_intensity intensity intensity_refusal
     inside component_values changes kept_back retone new_tone passed component_count
@@ -294,7 +301,8 @@ retones_one s p marks queue q taken-all is = done_by {r = record { retoned = 1; 
 })
 
 pub parallel_met : ParallelMet
-unfolding shape_refusal size_refusal side_refusal pixel_refusal length_refusal pass_neighbours adjacency neighbours four eight
+unfolding shape_refusal size_refusal side_refusal pixel_refusal length_refusal pass_neighbours adjacency neighbours four
+    eight
     linked component first plain_tone plain_kept tone kept
     inside component_values changes kept_back retone new_tone passed component_count
     room_refusal area_refusal rule_refusal neighbour_refusal numbers_refusal lent_refusal pass_refusal work_passes

@@ -114,7 +114,8 @@ pub record Eight : Type 0 where
   pub up : After (shape_of 2 2) (200 ∷ 10 ∷ 20 ∷ 200 ∷ []) (on_eight 0 127 2 any_ratio)
       (200 ∷ 64 ∷ 127 ∷ 200 ∷ []) 1 0
   -- no corner is taken across a row's end: the three pixels are in the first and in the last column
-  pub row_ends : After (shape_of 3 3) (10 ∷ 200 ∷ 20 ∷ 200 ∷ 200 ∷ 200 ∷ 30 ∷ 200 ∷ 200 ∷ []) (on_eight 0 127 1 any_ratio)
+  pub row_ends : After (shape_of 3 3) (10 ∷ 200 ∷ 20 ∷ 200 ∷ 200 ∷ 200 ∷ 30 ∷ 200 ∷ 200 ∷ [])
+      (on_eight 0 127 1 any_ratio)
       (10 ∷ 200 ∷ 20 ∷ 200 ∷ 200 ∷ 200 ∷ 30 ∷ 200 ∷ 200 ∷ []) 0 3
   -- in one row, and in one column, there are no corners
   pub one_row : After (row 3) (10 ∷ 200 ∷ 20 ∷ []) (on_eight 0 127 1 any_ratio) (10 ∷ 200 ∷ 20 ∷ []) 0 2
@@ -173,7 +174,8 @@ row_h' = 64 ∷ 127 ∷ 192 ∷ 255 ∷ []
 
 -- what two workers did, each to a copy of its own
 abbrev pub dark_work : Work
-dark_work = record { calls = call_on 4 4 dark ∷ []; replies = gives (1 ∷ 0 ∷ []) ∷ []; plane = 64 ∷ 127 ∷ 200 ∷ 220 ∷ [] }
+dark_work =
+    record { calls = call_on 4 4 dark ∷ []; replies = gives (1 ∷ 0 ∷ []) ∷ []; plane = 64 ∷ 127 ∷ 200 ∷ 220 ∷ [] }
 
 abbrev pub bright_work : Work
 bright_work = record {
@@ -344,11 +346,13 @@ pub record Starred : Type 0 where
 pub record Demand3Met : Type 0 where
   pub filled : IntensityOutcome 2 1 grey_k (0 ∷ 0 ∷ []) (gives []) (10 ∷ 20 ∷ [])
   pub calls : Sequence (row 2) (10 ∷ 20 ∷ [])
-      (call_on 2 2 (on_eight 0 255 1 any_ratio) ∷ call_on 2 1 (on 0 255 1 any_ratio) ∷ call_on 2 2 (on 255 0 1 any_ratio)
+      (call_on 2 2 (on_eight 0 255 1 any_ratio) ∷ call_on 2 1 (on 0 255 1 any_ratio)
+      ∷ call_on 2 2 (on 255 0 1 any_ratio)
       ∷ [])
       (gives (1 ∷ 0 ∷ []) ∷ refuses 4 ∷ refuses 5 ∷ []) (128 ∷ 255 ∷ [])
   pub carry : AcceptedCarry 8
-      (call_on 2 2 (on_eight 0 255 1 any_ratio) ∷ call_on 2 1 (on 0 255 1 any_ratio) ∷ call_on 2 2 (on 255 0 1 any_ratio)
+      (call_on 2 2 (on_eight 0 255 1 any_ratio) ∷ call_on 2 1 (on 0 255 1 any_ratio)
+      ∷ call_on 2 2 (on 255 0 1 any_ratio)
       ∷ [])
       (gives (1 ∷ 0 ∷ []) ∷ refuses 4 ∷ refuses 5 ∷ [])
 

@@ -1,5 +1,5 @@
--- `cnumbers::put_numbers` meets its contract: 14 and nothing stored, or three stores into the first three places. Assumes
--- nothing.
+-- `cnumbers::put_numbers` meets its contract: 14 and nothing stored, or three stores into the first three places.
+-- Assumes nothing.
 use native.Mathlib.Omega.{arith}
 use lib.ListN.{length-set}
 use borrow.Author.Tests.{lt-ltb, le-ltb}

@@ -1,5 +1,5 @@
--- `cnumbers::written_number` meets its contract, case by case. A short length read as a signed number is itself. Assumes
--- nothing.
+-- `cnumbers::written_number` meets its contract, case by case. A short length read as a signed number is itself.
+-- Assumes nothing.
 use mathlib.Core.Path.{sym, ap, ◌∙◌}
 use mir.Syntax.{w64}
 use mir.Facts.{to_z_pos}

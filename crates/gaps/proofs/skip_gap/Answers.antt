@@ -1,5 +1,5 @@
--- `gaps::skip_gap` meets its contract. The invariant is `Skipping`: what is left of the gap from here on is what is left
--- of it from the beginning on. Assumes nothing.
+-- `gaps::skip_gap` meets its contract. The invariant is `Skipping`: what is left of the gap from here on is what is
+-- left of it from the beginning on. Assumes nothing.
 use Prim.Native.Nat.{◌+◌}
 use mathlib.Core.Path.{sym, ◌∙◌}
 use native.Mathlib.Omega.{arith}

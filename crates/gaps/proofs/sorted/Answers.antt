@@ -1,5 +1,5 @@
--- `gaps::sorted` meets its contract: the ranges and numbers of the `match`es are the tests of `is_digit`, `is_white` and
--- `is_sign`. Assumes nothing.
+-- `gaps::sorted` meets its contract: the ranges and numbers of the `match`es are the tests of `is_digit`, `is_white`
+-- and `is_sign`. Assumes nothing.
 use Prim.Native.Nat.{ℕ, ◌≤◌, ◌<◌}
 use mathlib.Core.Path.{◌≡◌}
 use mathlib.Core.Bool.{false}
@@ -8,7 +8,8 @@ use borrow.Author.Tests.{le-leb, lt-leb, ne_eqb}
 use Rattle.texts.specs.Ascii.{is_digit}
 use Rattle.gaps.specs.Bytes.{is_white, is_sign, move_for}
 use Rattle.gaps.proofs.sorted.Goals as goal
-use Rattle.gaps.proofs.sorted.Goals.{In_default, in_default-via-then-byte-lt48, in_default-via-else-byte-lt48+else-byte-lt58}
+use Rattle.gaps.proofs.sorted.Goals.{In_default, in_default-via-then-byte-lt48}
+use Rattle.gaps.proofs.sorted.Goals.{in_default-via-else-byte-lt48+else-byte-lt58}
 
 low : (b : ℕ) → b < 48 → is_digit b ≡ false
 unfolding is_digit

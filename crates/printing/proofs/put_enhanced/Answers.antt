@@ -1,5 +1,5 @@
--- `printing::put_enhanced` meets its contract: the enhancement is not refused, for its memory has room for 16,384 pixels,
--- and neither is writing, for the output has room for a heading and their channels. Assumes nothing.
+-- `printing::put_enhanced` meets its contract: the enhancement is not refused, for its memory has room for 16,384
+-- pixels, and neither is writing, for the output has room for a heading and their channels. Assumes nothing.
 use native.Mathlib.Omega.{arith}
 use borrow.Author.Rules.{rules}
 use lib.Seq.{length-take-le}

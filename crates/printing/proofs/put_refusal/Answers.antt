@@ -1,5 +1,5 @@
--- `printing::put_refusal` meets its contract: the word, the number's digits and LF are put one after the other, from the
--- beginning of the output on, and there is room for them. Assumes nothing.
+-- `printing::put_refusal` meets its contract: the word, the number's digits and LF are put one after the other, from
+-- the beginning of the output on, and there is room for them. Assumes nothing.
 use native.Mathlib.Omega.{arith}
 use Rattle.texts.proofs.Decimal.{decimal_spelled}
 use Rattle.texts.proofs.Placing.{put_more}

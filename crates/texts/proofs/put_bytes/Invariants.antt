@@ -9,7 +9,8 @@ use Rattle.texts.proofs.put_bytes.Given as goal
 -- lib.Seq's `paste output at bytes i` has the first i bytes in the place of the output's i bytes from `at` on
 abbrev pub invariant-loop-i : goal.invariant-loop-i
 invariant-loop-i l =
-    (l.output ≡ paste l.initial.output l.at l.bytes l.i) × (l.i ≤ length l.bytes) × (length l.output ≡ length l.initial.output)
+    (l.output ≡ paste l.initial.output l.at l.bytes l.i) × (l.i ≤ length l.bytes)
+    × (length l.output ≡ length l.initial.output)
 
 abbrev pub decreases-loop-i : goal.decreases-loop-i
 decreases-loop-i l =

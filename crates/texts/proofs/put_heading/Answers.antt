@@ -64,7 +64,8 @@ pub put_bytes-after_space-requires : goal.put_bytes-after_space-requires
 put_bytes-after_space-requires c =
     let needed = room c.args.w c.args.h c.args.output.now c.requires.1 in
     let written =
-    after_w c.args.w c.args.h c.args.output.now c.requires.1 c.put_bytes-after_mark.ensures c.put_number-after_w.ensures in
+    after_w c.args.w c.args.h c.args.output.now c.requires.1 c.put_bytes-after_mark.ensures
+    c.put_number-after_w.ensures in
     let place = written.next in
     let kept = put_length written (omega arith) in
     omega arith
@@ -73,7 +74,8 @@ pub put_number-after_h-requires : goal.put_number-after_h-requires
 put_number-after_h-requires c =
     let needed = room c.args.w c.args.h c.args.output.now c.requires.1 in
     let with_number =
-    after_w c.args.w c.args.h c.args.output.now c.requires.1 c.put_bytes-after_mark.ensures c.put_number-after_w.ensures in
+    after_w c.args.w c.args.h c.args.output.now c.requires.1 c.put_bytes-after_mark.ensures
+    c.put_number-after_w.ensures in
     let written =
     after_space c.args.w c.args.h c.args.output.now c.requires.1 with_number c.put_bytes-after_space.ensures in
     let counted = space_length c.args.w in
@@ -85,7 +87,8 @@ pub put_bytes-requires : goal.put_bytes-requires
 put_bytes-requires c =
     let needed = room c.args.w c.args.h c.args.output.now c.requires.1 in
     let with_number =
-    after_w c.args.w c.args.h c.args.output.now c.requires.1 c.put_bytes-after_mark.ensures c.put_number-after_w.ensures in
+    after_w c.args.w c.args.h c.args.output.now c.requires.1 c.put_bytes-after_mark.ensures
+    c.put_number-after_w.ensures in
     let spaced =
     after_space c.args.w c.args.h c.args.output.now c.requires.1 with_number c.put_bytes-after_space.ensures in
     let written = after_h c.args.w c.args.h c.args.output.now c.requires.1 spaced c.put_number-after_h.ensures in
@@ -99,7 +102,8 @@ returns c =
     let needed = room c.args.w c.args.h c.args.output.now c.requires.1 in
     let counted = h_length c.args.w c.args.h in
     let with_number =
-    after_w c.args.w c.args.h c.args.output.now c.requires.1 c.put_bytes-after_mark.ensures c.put_number-after_w.ensures in
+    after_w c.args.w c.args.h c.args.output.now c.requires.1 c.put_bytes-after_mark.ensures
+    c.put_number-after_w.ensures in
     let spaced =
     after_space c.args.w c.args.h c.args.output.now c.requires.1 with_number c.put_bytes-after_space.ensures in
     let written = after_h c.args.w c.args.h c.args.output.now c.requires.1 spaced c.put_number-after_h.ensures in
