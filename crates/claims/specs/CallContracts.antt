@@ -4,9 +4,8 @@
 -- order, `s` the parameters at exit, and `now` is what a reference refers to. A contract that said less would give no
 -- such record. Definitions only.
 --
---   Contracts   the calls for Rattle, and the program's function. Passes in memory stand here through `run_array`,
---               whose contract is that of `run_passes` for the passes of an array: a function over a slice of structs
---               has no plain reading
+--   Contracts   the calls for Rattle, and the program's function. Passes in memory stand here as a slice and, through
+--               `run_array`, as an array
 --   CContracts  the functions for C
 use Rattle.std.specs.Prelude.{◌≡◌, take}
 use contract.Lifetimes.{Lfts}
@@ -31,6 +30,8 @@ use Rattle.passlists.proofs.run_list.Reads as run-list-reads
 use Rattle.conversion.specs.Conversion.{ConvertOutcome}
 use Rattle.passlists.specs.contracts.convert as convert
 use Rattle.passlists.proofs.convert.Reads as convert-reads
+use Rattle.passlists.specs.contracts.run_passes as run-passes
+use Rattle.passlists.proofs.run_passes.Reads as run-passes-reads
 use Rattle.passarrays.specs.contracts.run_array as run-array
 use Rattle.passarrays.proofs.run_array.Reads as run-array-reads
 use Rattle.netpbm.specs.Reading.{header_reply, read_reply}
@@ -99,6 +100,13 @@ pub record Contracts : Type 0 where
       a.1.0.now a.1.1.0.now a.1.1.1.0.now (answer_reply r)
       s.1.0.now s.1.1.0.now s.1.1.1.0.now
   pub list_asks : (κs : Lfts 4) (a : ArgsD run-list.signature κs) → run-list-reads.Asked κs a
+  -- run_passes(passes, plane, marks, queue, shape)
+  pub of_slice : (κs : Lfts 4) (a : ArgsD run-passes.signature κs) (r : ResD run-passes.signature κs)
+      (s : AtExit run-passes.ended κs) → run-passes-reads.Learnt κs a r s
+      → PassesOutcome a.1.1.1.1.0 a.0.now
+      a.1.0.now a.1.1.0.now a.1.1.1.0.now (answer_reply r)
+      s.1.0.now s.1.1.0.now s.1.1.1.0.now
+  pub slice_asks : (κs : Lfts 4) (a : ArgsD run-passes.signature κs) → run-passes-reads.Asked κs a
   -- run_array(list, count, plane, marks, queue, shape)
   pub of_passes : (κs : Lfts 3) (a : ArgsD run-array.signature κs) (r : ResD run-array.signature κs)
       (s : AtExit run-array.ended κs) → run-array-reads.Learnt κs a r s
