@@ -5,8 +5,15 @@ use mathlib.Core.Bool.{Bool, true, false, not, ◌||◌}
 use native.Mathlib.Nat.{mul-le-mul}
 use native.Mathlib.Omega.{arith}
 use lib.Dec.{ltb, eqb}
-use borrow.Author.Tests.{ltb-false, le-ltb, eqb-true, eqb-false, eq-eqb, ne_eqb}
-use Rattle.planes.specs.Refusals.{when, ◌▷◌, bad_side, side_refusal, pixel_refusal, length_refusal, room_refusal}
+use borrow.Author.Tests.{ltb-false, lt-ltb, le-ltb, eqb-true, eqb-false, eq-eqb, ne_eqb}
+use Rattle.planes.specs.declared.refusal.Refusal.{Refusal}
+use Rattle.planes.specs.declared.refusal.Refusal.TheVariants.{Sides, Pixels, Length, Room, Interval, Area, Ratios}
+use Rattle.planes.specs.declared.refusal.Refusal.TheVariants.{Clip, Level, Header, Maxval, Raster, Trailing, Output}
+use Rattle.planes.specs.declared.refusal.Refusal.TheVariants.{Version, Count, Record, Slopes, Neighbours, NoPlace}
+use Rattle.std.specs.Prelude.{Result}
+use Rattle.std.specs.Result.{IsErrAnd}
+use Rattle.std.proofs.lemmas.Result.{err_from_is_err_and}
+use Rattle.planes.specs.Refusals.{number, number_in, when, ◌▷◌, bad_side, side_refusal, pixel_refusal, length_refusal, room_refusal}
 use Rattle.planes.specs.Refusals.{output_refusal, size_refusal, Sized}
 use Rattle.planes.proofs.Tests.{or_none}
 
@@ -20,6 +27,56 @@ when_some k e = absurd (omega arith)
 pub ▷_none : (x y : ℕ) → x ▷ y ≡ 0 → (x ≡ 0) × (y ≡ 0)
 ▷_none zero y e = (refl, e)
 ▷_none (suc x) y e = absurd (omega arith)
+
+-- ## Results: the first refusal of an order
+
+no : {k : ℕ} → suc k ≡ 0 → ⊥
+no e = absurd (omega arith)
+
+-- every refusal has a number
+pub number_some : (r : Refusal) → number r ≡ 0 → ⊥
+number_some r =
+    elim r as (λ s. number s ≡ 0 → ⊥) [
+      | Sides ↦ no
+      | Pixels ↦ no
+      | Length ↦ no
+      | Room ↦ no
+      | Interval ↦ no
+      | Area ↦ no
+      | Ratios ↦ no
+      | Clip ↦ no
+      | Level ↦ no
+      | Header ↦ no
+      | Maxval ↦ no
+      | Raster ↦ no
+      | Trailing ↦ no
+      | Output ↦ no
+      | Version ↦ no
+      | Count ↦ no
+      | Record ↦ no
+      | Slopes ↦ no
+      | Neighbours ↦ no
+      | NoPlace ↦ no
+    ]
+
+-- a refusal of the left test is that of the order
+pub refused_first : (r : Refusal) (x y : ℕ) → number r ≡ x → number r ≡ x ▷ y
+refused_first r zero y e = absurd (number_some r e)
+refused_first r (suc x) y e = e
+
+-- the same of a result that hands the refusal on
+pub refused_by : {A : Type 0} (r : Result A Refusal) (d : Refusal) (x y : ℕ) → IsErrAnd r (λ e. e ≡ d) → number d ≡ x
+    → number_in r ≡ x ▷ y
+refused_by r d x y h e =
+    let (z, is, same) = err_from_is_err_and r h in
+    rw is (refused_first z x y (ap number same ∙ e))
+
+-- where the left test refuses nothing, the right one's number is that of the order
+pub passed_first : (n x y : ℕ) → 0 ≡ x → n ≡ y → n ≡ x ▷ y
+passed_first n zero y e d = d
+passed_first n (suc x) y e d = absurd (omega arith)
+
+-- ## Numbers
 
 -- the left refusal where there is one, else the right one
 pub ▷_left : (x y : ℕ) → (x ≡ 0 → ⊥) → x ▷ y ≡ x
@@ -128,3 +185,11 @@ sized_none w h limit S =
       le-ltb 4096 h S.low,
       le-ltb limit (w * h) S.few,
     )
+
+-- ## What finds the contract of a function that tests one refusal after the other
+
+pub ruleset in_order = (refused_by, passed_first, pixels_fit)
+
+-- ## What finds the contract of a function that is one test
+
+pub ruleset by_test = (lt-ltb, le-ltb, ne_eqb, eq-eqb)

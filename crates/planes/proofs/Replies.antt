@@ -5,10 +5,15 @@
 --   replied_none      by 0 a call gives its values
 --   replied_refused   by any other number it is refused with that
 --   after_refused     and lent memory is as it was
+--   replied_err, after_err, replied_ok, after_ok
+--                     the same of a result: by a refusal of the number, and where no refusal applies
 use Prim.Native.Nat.{ℕ, zero, suc}
 use mathlib.Core.Path.{◌≡◌, refl, sym, ap}
 use mathlib.Core.List.{List, []}
 use native.Mathlib.Omega.{arith}
+use Rattle.planes.specs.declared.refusal.Refusal.{Refusal}
+use Rattle.planes.specs.Refusals.{number}
+use Rattle.planes.proofs.Refusals.{number_some}
 use Rattle.planes.specs.Replies.{Reply, refuses, gives, replied, after}
 
 number_of : Reply → ℕ
@@ -54,3 +59,19 @@ replied_refused (suc k) vs h = refl
 pub after_refused : (number : ℕ) (old new : List ℕ) → (number ≡ 0 → ⊥) → after number old new ≡ old
 after_refused zero old new h = absurd (h refl)
 after_refused (suc k) old new h = refl
+
+-- ## Of a result
+
+pub replied_err : (r : Refusal) (n : ℕ) (vs : List ℕ) → number r ≡ n → refuses (number r) ≡ replied n vs
+replied_err r zero vs e = absurd (number_some r e)
+replied_err r (suc k) vs e = ap refuses e
+
+pub after_err : (r : Refusal) (n : ℕ) (old new : List ℕ) → number r ≡ n → old ≡ after n old new
+after_err r zero old new e = absurd (number_some r e)
+after_err r (suc k) old new e = refl
+
+pub replied_ok : (n : ℕ) (vs : List ℕ) → 0 ≡ n → gives vs ≡ replied n vs
+replied_ok n vs e = sym (replied_none n vs (sym e))
+
+pub after_ok : (n : ℕ) (old new : List ℕ) → 0 ≡ n → new ≡ after n old new
+after_ok n old new e = ap (λ (k : ℕ). after k old new) e

@@ -11,6 +11,7 @@ use Rattle.planes.specs.Neighbours.{Near, Chain, eight}
 use Rattle.planes.specs.Shapes.{pixels, neighbours, adjacency, SizedShape, Symmetric, Narrower}
 use Rattle.planes.specs.Shapes.{shape_refusal, lent_refusal, Lent}
 use Rattle.planes.specs.declared.Shape.{Shape}
+use Rattle.planes.proofs.Refusals.{refused_by, passed_first}
 use Rattle.planes.proofs.Refusals.{▷_none, ▷_both, sized, sized_none, length_fits, length_none}
 use Rattle.planes.proofs.Refusals.{room_fits, room_none}
 use Rattle.planes.proofs.Links.{chain_map}
@@ -91,3 +92,10 @@ lent_none z plane marks queue l =
     ▷_both (shape_refusal z) _ (shape_none z l.size)
     (▷_both (length_refusal plane (pixels z)) _ (length_none plane (pixels z) l.whole)
     (room_none (pixels z) marks queue l.covered l.spare))
+
+-- ## What finds the contract of a function that tests one refusal of a shape after the other
+
+pub pixels_small : (z : Shape) → shape_refusal z ≡ 0 → pixels z ≤ greatest_pixels
+pixels_small z e = (shape_fits z e).few
+
+pub ruleset in_order = (refused_by, passed_first, pixels_small)

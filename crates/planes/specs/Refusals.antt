@@ -1,6 +1,8 @@
 -- Refusals by number, in order, and those of sizes and lengths, each by one test. 0 stands for "not refused".
 -- Definitions only.
 --
+--   number          the requirements' number of a refusal
+--   number_in       the number of the refusal in a result, 0 where there is none
 --   when, ▷         a refusal where a test passes, and the first refusal that applies
 --   side_refusal    1, by the sides
 --   pixel_refusal   2, by the number of pixels
@@ -8,7 +10,39 @@
 --   room_refusal    4, by the lengths of marks and queue
 --   output_refusal  14, by the length of the output
 --   size_refusal    1, 2
-use Rattle.std.specs.Prelude.{ℕ, zero, suc, ◌*◌, ◌≤◌, Bool, true, false, not, ◌||◌, ltb, eqb}
+use Rattle.std.specs.Prelude.{ℕ, zero, suc, ◌*◌, ◌≤◌, Bool, true, false, not, ◌||◌, ltb, eqb, Result, Ok, Err}
+use Rattle.planes.specs.declared.refusal.Refusal.{Refusal}
+use Rattle.planes.specs.declared.refusal.Refusal.TheVariants.{Sides, Pixels, Length, Room, Interval, Area, Ratios, Clip}
+use Rattle.planes.specs.declared.refusal.Refusal.TheVariants.{Level, Header, Maxval, Raster, Trailing, Output, Version}
+use Rattle.planes.specs.declared.refusal.Refusal.TheVariants.{Count, Record, Slopes, Neighbours, NoPlace}
+
+-- the requirements' number
+abbrev pub number : Refusal → ℕ
+number Sides = 1
+number Pixels = 2
+number Length = 3
+number Room = 4
+number Interval = 5
+number Area = 6
+number Ratios = 7
+number Clip = 8
+number Level = 9
+number Header = 10
+number Maxval = 11
+number Raster = 12
+number Trailing = 13
+number Output = 14
+number Version = 15
+number Count = 16
+number Record = 17
+number Slopes = 18
+number Neighbours = 19
+number NoPlace = 20
+
+-- the number of the refusal in a result, 0 where there is none
+abbrev pub number_in : {A : Type 0} → Result A Refusal → ℕ
+number_in (Ok x) = 0
+number_in (Err r) = number r
 
 -- the refusal k where the test passes
 abbrev pub when : Bool → ℕ → ℕ

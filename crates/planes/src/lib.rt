@@ -11,15 +11,17 @@
 // shape_refusal    1, 2 for a shape
 // lent_refusal     1, 2, 3, 4 for a plane with marks and a queue
 //
-// Each test answers its number, or 0.
+// Each test that applies is an error, by the refusal of its number.
 #![tactic(auto)]
 
 ghost use Rattle.std.specs.Prelude.{◌≡◌, ◌^◌, ◌<◌};
 ghost use Rattle.planes.specs.Refusals.{side_refusal, pixel_refusal, length_refusal, room_refusal, output_refusal};
-ghost use Rattle.planes.specs.Refusals.{size_refusal};
+ghost use Rattle.planes.specs.Refusals.{number_in, bad_side, size_refusal};
 ghost use Rattle.planes.specs.Shapes.{shape_of, pixels, shape_refusal, lent_refusal};
 
-pub mod refused;
+mod refusal;
+
+pub use refusal::Refusal;
 
 // The greatest side of a plane.
 pub const SIDE: usize = 4096;
@@ -56,102 +58,92 @@ impl Shape {
     }
 }
 
-// 1 where a side is 0 or too long, else 0.
-pub fn side_refusal(w: usize, h: usize) -> u8
-    ensures { result ≡ side_refusal w h }
+// Whether a side is 0 or too long.
+fn is_bad_side(x: usize) -> bool
+    ensures { result ≡ bad_side x }
 {
-    if w == 0 {
-        return refused::SIDES;
-    }
-    if SIDE < w {
-        return refused::SIDES;
-    }
-    if h == 0 {
-        return refused::SIDES;
-    }
-    if SIDE < h {
-        return refused::SIDES;
-    }
-    0
+    x == 0 || SIDE < x
 }
 
-// 2 where n pixels are more than `limit`, else 0.
-pub fn pixel_refusal(n: usize, limit: usize) -> u8
-    ensures { result ≡ pixel_refusal n limit }
+// Refused where a side is 0 or too long.
+#[tactic(auto, using(crate::proofs::Refusals::by_test), unfolding(crate::specs::Refusals::side_refusal))]
+pub fn side_refusal(w: usize, h: usize) -> Result<(), Refusal>
+    ensures { number_in result ≡ side_refusal w h }
+{
+    if is_bad_side(w) || is_bad_side(h) {
+        return Err(Refusal::Sides);
+    }
+    Ok(())
+}
+
+// Refused where n pixels are more than `limit`.
+#[tactic(auto, using(crate::proofs::Refusals::by_test), unfolding(crate::specs::Refusals::pixel_refusal))]
+pub fn pixel_refusal(n: usize, limit: usize) -> Result<(), Refusal>
+    ensures { number_in result ≡ pixel_refusal n limit }
 {
     if limit < n {
-        return refused::PIXELS;
+        return Err(Refusal::Pixels);
     }
-    0
+    Ok(())
 }
 
-// 3 where what is lent does not have the length that is needed, else 0.
-pub fn length_refusal(length: usize, needed: usize) -> u8
-    ensures { result ≡ length_refusal length needed }
+// Refused where what is lent does not have the length that is needed.
+#[tactic(auto, using(crate::proofs::Refusals::by_test), unfolding(crate::specs::Refusals::length_refusal))]
+pub fn length_refusal(length: usize, needed: usize) -> Result<(), Refusal>
+    ensures { number_in result ≡ length_refusal length needed }
 {
     if length != needed {
-        return refused::LENGTH;
+        return Err(Refusal::Length);
     }
-    0
+    Ok(())
 }
 
-// 4 where marks or queue have fewer than n entries, else 0.
-pub fn room_refusal(n: usize, marks: usize, queue: usize) -> u8
-    ensures { result ≡ room_refusal n marks queue }
+// Refused where marks or queue have fewer than n entries.
+#[tactic(auto, using(crate::proofs::Refusals::by_test), unfolding(crate::specs::Refusals::room_refusal))]
+pub fn room_refusal(n: usize, marks: usize, queue: usize) -> Result<(), Refusal>
+    ensures { number_in result ≡ room_refusal n marks queue }
 {
-    if marks < n {
-        return refused::ROOM;
+    if marks < n || queue < n {
+        return Err(Refusal::Room);
     }
-    if queue < n {
-        return refused::ROOM;
-    }
-    0
+    Ok(())
 }
 
-// 14 where the output is shorter than needed, else 0.
-pub fn output_refusal(output: usize, needed: usize) -> u8
-    ensures { result ≡ output_refusal output needed }
+// Refused where the output is shorter than needed.
+#[tactic(auto, using(crate::proofs::Refusals::by_test), unfolding(crate::specs::Refusals::output_refusal))]
+pub fn output_refusal(output: usize, needed: usize) -> Result<(), Refusal>
+    ensures { number_in result ≡ output_refusal output needed }
 {
     if output < needed {
-        return refused::OUTPUT;
+        return Err(Refusal::Output);
     }
-    0
+    Ok(())
 }
 
-// 1 where a side is 0 or too long, else 2 where there are more than `limit` pixels, else 0.
-pub fn size_refusal(w: usize, h: usize, limit: usize) -> u8
-    ensures { result ≡ size_refusal w h limit }
+// Refused by the sides, then where there are more than `limit` pixels.
+#[tactic(auto, using(crate::proofs::Refusals::in_order), unfolding(crate::specs::Refusals::size_refusal))]
+pub fn size_refusal(w: usize, h: usize, limit: usize) -> Result<(), Refusal>
+    ensures { number_in result ≡ size_refusal w h limit }
 {
-    let sides = side_refusal(w, h);
-    if sides != 0 {
-        return sides;
-    }
+    side_refusal(w, h)?;
     pixel_refusal(w * h, limit)
 }
 
-// 1, 2 for a shape, or 0.
-pub fn shape_refusal(shape: Shape) -> u8
-    ensures { result ≡ shape_refusal shape }
+// The same for a shape.
+#[tactic(auto, unfolding(crate::specs::Shapes::shape_refusal, crate::specs::Refusals::size_refusal))]
+pub fn shape_refusal(shape: Shape) -> Result<(), Refusal>
+    ensures { number_in result ≡ shape_refusal shape }
 {
-    let sides = side_refusal(shape.w, shape.h);
-    if sides != 0 {
-        return sides;
-    }
-    pixel_refusal(shape.pixels(), PIXELS)
+    size_refusal(shape.w, shape.h, PIXELS)
 }
 
-// 1, 2, 3, 4 for a plane of `plane` bytes with so many marks and places of a queue, or 0.
-pub fn lent_refusal(shape: Shape, plane: usize, marks: usize, queue: usize) -> u8
-    ensures { result ≡ lent_refusal shape plane marks queue }
+// Refused by the shape, then for a plane of `plane` bytes, then for so many marks and places of a queue.
+#[tactic(auto, using(crate::proofs::Shapes::in_order), unfolding(crate::specs::Shapes::lent_refusal))]
+pub fn lent_refusal(shape: Shape, plane: usize, marks: usize, queue: usize) -> Result<(), Refusal>
+    ensures { number_in result ≡ lent_refusal shape plane marks queue }
 {
-    let refusal = shape_refusal(shape);
-    if refusal != 0 {
-        return refusal;
-    }
+    shape_refusal(shape)?;
     let n = shape.pixels();
-    let length = length_refusal(plane, n);
-    if length != 0 {
-        return length;
-    }
+    length_refusal(plane, n)?;
     room_refusal(n, marks, queue)
 }
