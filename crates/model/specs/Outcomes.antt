@@ -4,16 +4,15 @@
 --
 --   came           the effect that a plane and counts stand for
 --   sums           the sums of both counts
---   answer_reply   the reply of each case of an answer
+--   answer_reply   the reply of a result with both counts
 --   Over           a call that had its effect
 --   Outcome        what a call answers and leaves
 --   OutputOutcome  the same of a call that is lent an output too
-use Rattle.std.specs.Prelude.{ℕ, suc, ◌+◌, ◌≡◌, List, [], ◌∷◌}
+use Rattle.std.specs.Prelude.{ℕ, suc, ◌+◌, ◌≡◌, List, [], ◌∷◌, Result}
 use Rattle.planes.specs.Lists.{Beyond}
-use Rattle.planes.specs.Replies.{Reply, refuses, gives, replied, after, overwritten}
+use Rattle.planes.specs.declared.refusal.Refusal.{Refusal}
+use Rattle.planes.specs.Replies.{Reply, reply_of, replied, after, overwritten}
 use Rattle.model.specs.declared.Counts.{Counts}
-use Rattle.model.specs.declared.Answer.{Answer}
-use Rattle.model.specs.declared.Answer.TheVariants.{Refused, Done}
 use Rattle.model.specs.Effects.{Effect, counts}
 
 -- the effect of a call that left the plane and answered the counts
@@ -24,10 +23,9 @@ came plane r = record { plane = plane; retoned = r.retoned; kept = r.kept }
 abbrev pub sums : Counts → Counts → Counts
 sums x y = record { retoned = x.retoned + y.retoned; kept = x.kept + y.kept }
 
--- the requirements' number for the case of a refusal, and both counts for the other
-abbrev pub answer_reply : Answer → Reply
-answer_reply (Refused k) = refuses k
-answer_reply (Done r) = gives (r.retoned ∷ r.kept ∷ [])
+-- the refusal's number, or both counts
+abbrev pub answer_reply : Result Counts Refusal → Reply
+answer_reply = reply_of (λ r. r.retoned ∷ r.kept ∷ [])
 
 -- the plane and the counts are the effect's; marks and queue keep their lengths and all entries from n on
 pub record Over (n : ℕ) (e : Effect) (marks queue plane' marks' queue' : List ℕ) (r : Counts) : Type 0 where

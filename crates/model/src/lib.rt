@@ -2,22 +2,23 @@
 //
 // Pass                an interval, a least area, a tone rule and a number of neighbours
 // Counts, plus        how many components were retoned, and how many kept back
-// Answer              what a pass, a list or an enhancement answers
-// pass_refusal        refusals 5 to 8, 18 and 19 for a pass's own numbers, or 0
-// area_refusal        refusal 6 for a least area, or 0
-// neighbour_refusal   refusal 19 for a number of neighbours, or 0
+// pass_refusal        refusals 5 to 8, 18 and 19 for a pass's own numbers
+// area_refusal        refusal 6 for a least area
+// neighbour_refusal   refusal 19 for a number of neighbours
 #![tactic(auto)]
 
 ghost use Rattle.std.specs.Prelude.{◌≡◌, ◌+◌, ◌<◌};
 ghost use Rattle.model.specs.Outcomes.{sums};
-ghost use Rattle.model.specs.Calls.{area_refusal, neighbour_refusal, numbers_refusal};
+ghost use Rattle.planes.specs.Refusals.{number_in};
+ghost use Rattle.model.specs.Calls.{interval_refusal, area_refusal, neighbour_refusal, numbers_refusal};
 
-use planes::{EIGHT, FOUR, refused};
+use planes::{EIGHT, FOUR, Refusal};
 use tones::Rule;
 
 // The section [a, b], the least area of the components that get the rule, the rule with its own numbers, and the number
-// of neighbours by which components are taken, 4 or 8.
-#[derive(Clone, Copy)]
+// of neighbours by which components are taken, 4 or 8. It is a number and no enum, as a pass may come with any, which
+// is refused by 19.
+#[derive(Clone, Copy, Debug, PartialEq, Eq)]
 pub struct Pass {
     pub a: u8,
     pub b: u8,
@@ -28,17 +29,10 @@ pub struct Pass {
 
 // The number of components that were retoned, and of those of sufficient area that were kept back. Together they are
 // the components of sufficient area.
-#[derive(Clone, Copy)]
+#[derive(Clone, Copy, Debug, PartialEq, Eq)]
 pub struct Counts {
     pub retoned: u32,
     pub kept: u32,
-}
-
-// The number of a refusal, or both counts.
-#[derive(Clone, Copy)]
-pub enum Answer {
-    Refused(u8),
-    Done(Counts),
 }
 
 // The sums of both counts.
@@ -55,48 +49,46 @@ pub fn plus(x: Counts, y: Counts) -> Counts
 // The greatest least area: as many pixels as a plane may have.
 pub const GREATEST_AREA: u32 = 1048576;
 
-// 6 where the least area is 0 or too large, else 0.
-pub fn area_refusal(area: u32) -> u8
-    ensures { result ≡ area_refusal area }
+// 6 where the least area is 0 or too large.
+#[tactic(auto, using(planes::proofs::Refusals::by_test), unfolding(crate::specs::Calls::area_refusal))]
+pub fn area_refusal(area: u32) -> Result<(), Refusal>
+    ensures { number_in result ≡ area_refusal area }
 {
-    if area == 0 {
-        return refused::AREA;
+    if area == 0 || GREATEST_AREA < area {
+        return Err(Refusal::Area);
     }
-    if GREATEST_AREA < area {
-        return refused::AREA;
-    }
-    0
+    Ok(())
 }
 
-// 19 where the number of neighbours is neither 4 nor 8, else 0.
-pub fn neighbour_refusal(neighbours: u8) -> u8
-    ensures { result ≡ neighbour_refusal neighbours }
+// 19 where the number of neighbours is neither 4 nor 8.
+#[tactic(auto, using(planes::proofs::Refusals::by_test), unfolding(crate::specs::Calls::neighbour_refusal))]
+pub fn neighbour_refusal(neighbours: u8) -> Result<(), Refusal>
+    ensures { number_in result ≡ neighbour_refusal neighbours }
 {
-    if neighbours == FOUR {
-        return 0;
+    match neighbours {
+        FOUR | EIGHT => Ok(()),
+        _ => Err(Refusal::Neighbours),
     }
-    if neighbours == EIGHT {
-        return 0;
-    }
-    refused::NEIGHBOURS
 }
 
-// 5 where a is above b, else the refusal of the area, of the rule or of the number of neighbours, else 0.
-pub fn pass_refusal(pass: Pass) -> u8
-    ensures { result ≡ numbers_refusal pass }
+// 5 where a is above b.
+#[tactic(auto, using(planes::proofs::Refusals::by_test))]
+fn interval_refusal(a: u8, b: u8) -> Result<(), Refusal>
+    ensures { number_in result ≡ interval_refusal a b }
 {
-    if pass.b < pass.a {
-        return refused::INTERVAL;
+    if b < a {
+        return Err(Refusal::Interval);
     }
-    let area = pass.area;
-    let small = area_refusal(area);
-    if small != 0 {
-        return small;
-    }
-    let rule = pass.rule;
-    let unfit = tones::rule_refusal(rule);
-    if unfit != 0 {
-        return unfit;
-    }
+    Ok(())
+}
+
+// 5, then the refusal of the area, of the rule or of the number of neighbours.
+#[tactic(auto, using(planes::proofs::Refusals::in_order), unfolding(crate::specs::Calls::numbers_refusal))]
+pub fn pass_refusal(pass: Pass) -> Result<(), Refusal>
+    ensures { number_in result ≡ numbers_refusal pass }
+{
+    interval_refusal(pass.a, pass.b)?;
+    area_refusal(pass.area)?;
+    tones::rule_refusal(pass.rule)?;
     neighbour_refusal(pass.neighbours)
 }

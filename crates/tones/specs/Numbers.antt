@@ -3,11 +3,13 @@
 --   rule_of       the rule that some numbers stand for
 --   malformed     numbers that stand for no rule
 --   form_refusal  the refusal of such numbers
+--   Reads         the rule that some numbers stand for, or their refusal
 --   numbers_of    the numbers of a rule
 --   RuleFits      a rule whose numbers fit 16 bits, and its segments 8
 --   NumbersFit    numbers that fit their fields
-use Rattle.std.specs.Prelude.{ℕ, ◌<◌, Bool, not, cond, ◌&&◌, ◌||◌, ltb, eqb}
-use Rattle.planes.specs.Refusals.{when}
+use Rattle.std.specs.Prelude.{ℕ, ◌<◌, ◌≡◌, Bool, not, cond, ◌&&◌, ◌||◌, ltb, eqb, Result, IfOk}
+use Rattle.planes.specs.Refusals.{when, number_in}
+use Rattle.planes.specs.declared.refusal.Refusal.{Refusal}
 use Rattle.tones.specs.declared.Rule.{Rule}
 use Rattle.tones.specs.declared.Rule.TheVariants.{Plain, Limited, Affine}
 use Rattle.tones.specs.declared.RuleNumbers.{RuleNumbers}
@@ -28,6 +30,10 @@ malformed n =
 -- 17: the numbers stand for no rule
 abbrev pub form_refusal : RuleNumbers → ℕ
 form_refusal n = when (malformed n) 17
+
+-- the rule that the numbers stand for, unless they stand for none
+abbrev pub Reads : RuleNumbers → Result Rule Refusal → Type 0
+Reads n r = (number_in r ≡ form_refusal n) × IfOk r (λ rule. rule ≡ rule_of n)
 
 abbrev pub numbers_of : Rule → RuleNumbers
 numbers_of (Plain low high) = record { code = 0; extra = 0; first = low; second = high }

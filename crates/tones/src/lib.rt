@@ -3,10 +3,9 @@
 // Rule                      a tone rule with its own numbers
 // tone_table                a component's table of tones, and whether it is retoned
 // is_lone                   whether a component is kept back whatever part of its section a later pass is on
-// rule_refusal              refusals 7, 8 and 18 for a rule's own numbers, or 0
+// rule_refusal              refusals 7, 8 and 18 for a rule's own numbers
 // RuleNumbers               the numbers that stand for a rule in a record of a pass list and in a call from C
-// rule_of, form_refusal     their rule, and refusal 17 where they stand for none, or 0
-// plain_refusal, limited_refusal, affine_refusal    within
+// rule_of, form_refusal     their rule, and refusal 17 where they stand for none; both by `Rule::try_from`
 //
 // A component is the pixels that the first entries of a queue name; it is measured, and its values are counted. Counts
 // and table are lent, the table with any content, and only their entries of [least, greatest], from the component's
@@ -18,20 +17,21 @@ ghost use Rattle.std.specs.Prelude.{◌≡◌, List, ℕ, ◌≤◌, length};
 ghost use Rattle.histograms.specs.Histograms.{Measured, Gathered};
 ghost use Rattle.tones.specs.Tables.{ToneTabled};
 ghost use Rattle.tones.specs.Lone.{lone};
+ghost use Rattle.planes.specs.Refusals.{number_in};
 ghost use Rattle.tones.specs.Refusals.{rule_refusal};
-ghost use Rattle.tones.specs.Numbers.{rule_of, form_refusal};
+ghost use Rattle.tones.specs.Numbers.{rule_of, form_refusal, Reads};
 
 use affine::affine_tones;
 use histograms::Measures;
 use limited::limited_tones;
 use plain::plain_tones;
-use planes::refused;
+use planes::Refusal;
 use points::Slopes;
 
 // A tone rule: plain, which keeps the old values where the spread grows or shrinks too much, in hundredths; limited,
 // which clips the counts at k thousandths of the pixels; or affine, which joins points of the sums by straight lines,
 // with the slope of each held between smin and smax, in hundredths.
-#[derive(Clone, Copy)]
+#[derive(Clone, Copy, Debug, PartialEq, Eq)]
 pub enum Rule {
     Plain { low: u16, high: u16 },
     Limited { k: u16 },
@@ -40,7 +40,7 @@ pub enum Rule {
 
 // The numbers that stand for a rule: its code, 0 for plain, 1 for limited and 2 for affine; a byte that is 0 for plain
 // and limited, and the segments for affine; and low and high, k and 0, or smin and smax.
-#[derive(Clone, Copy)]
+#[derive(Clone, Copy, Debug, PartialEq, Eq)]
 pub struct RuleNumbers {
     pub code: u8,
     pub extra: u8,
@@ -107,112 +107,85 @@ pub fn is_lone(rule: Rule, c: Measures) -> bool
     ensures { (vs : List ℕ) → 1 ≤ length vs → Measured vs c → result ≡ lone rule vs }
 {
     match rule {
-        Rule::Plain { low: _, high: _ } => c.least == c.greatest,
-        Rule::Limited { k: _ } => false,
-        Rule::Affine {
-            segments: _,
-            smin: _,
-            smax: _,
-        } => false,
+        Rule::Plain { .. } => c.least == c.greatest,
+        Rule::Limited { .. } => false,
+        Rule::Affine { .. } => false,
     }
 }
 
-// 7 where low is above high, or high above its limit, else 0.
-fn plain_refusal(low: u16, high: u16) -> u8
-    ensures { result ≡ rule_refusal (Rule.Plain low high) }
-{
-    if high < low {
-        return refused::RATIOS;
-    }
-    if GREATEST_HIGH < high {
-        return refused::RATIOS;
-    }
-    0
-}
-
-// 8 where the clip is above its limit, else 0.
-fn limited_refusal(k: u16) -> u8
-    ensures { result ≡ rule_refusal (Rule.Limited k) }
-{
-    if GREATEST_CLIP < k {
-        return refused::CLIP;
-    }
-    0
-}
-
-// 18 where there are no segments or too many, smin is above smax, or smax above its limit, else 0.
-fn affine_refusal(segments: u8, smin: u16, smax: u16) -> u8
-    ensures { result ≡ rule_refusal (Rule.Affine segments smin smax) }
-{
-    if segments == 0 {
-        return refused::SLOPES;
-    }
-    if GREATEST_SEGMENTS < segments {
-        return refused::SLOPES;
-    }
-    if smax < smin {
-        return refused::SLOPES;
-    }
-    if GREATEST_SLOPE < smax {
-        return refused::SLOPES;
-    }
-    0
-}
-
-// 7 where the plain rule's low and high are refused, 8 where the limited rule's clip is, 18 where the affine rule's
-// segments and slopes are, else 0.
-pub fn rule_refusal(rule: Rule) -> u8
-    ensures { result ≡ rule_refusal rule }
+// 7 where the plain rule's low is above high, or high above its limit; 8 where the limited rule's clip is above its
+// limit; 18 where the affine rule has no segments or too many, smin is above smax, or smax above its limit.
+#[tactic(auto, using(planes::proofs::Refusals::by_test), unfolding(crate::specs::Refusals::rule_refusal))]
+pub fn rule_refusal(rule: Rule) -> Result<(), Refusal>
+    ensures { number_in result ≡ rule_refusal rule }
 {
     match rule {
-        Rule::Plain { low, high } => plain_refusal(low, high),
-        Rule::Limited { k } => limited_refusal(k),
+        Rule::Plain { low, high } => {
+            if high < low || GREATEST_HIGH < high {
+                return Err(Refusal::Ratios);
+            }
+        }
+        Rule::Limited { k } => {
+            if GREATEST_CLIP < k {
+                return Err(Refusal::Clip);
+            }
+        }
         Rule::Affine {
             segments,
             smin,
             smax,
-        } => affine_refusal(segments, smin, smax),
+        } => {
+            if segments == 0
+                || GREATEST_SEGMENTS < segments
+                || smax < smin
+                || GREATEST_SLOPE < smax
+            {
+                return Err(Refusal::Slopes);
+            }
+        }
     }
+    Ok(())
 }
 
 // The rule that the numbers stand for; where they are malformed, one of those rules all the same.
 pub fn rule_of(numbers: RuleNumbers) -> Rule
     ensures { result ≡ rule_of numbers }
 {
-    if numbers.code == PLAIN {
-        return Rule::Plain {
+    match numbers.code {
+        PLAIN => Rule::Plain {
             low: numbers.first,
             high: numbers.second,
-        };
-    }
-    if numbers.code == LIMITED {
-        return Rule::Limited { k: numbers.first };
-    }
-    Rule::Affine {
-        segments: numbers.extra,
-        smin: numbers.first,
-        smax: numbers.second,
+        },
+        LIMITED => Rule::Limited { k: numbers.first },
+        _ => Rule::Affine {
+            segments: numbers.extra,
+            smin: numbers.first,
+            smax: numbers.second,
+        },
     }
 }
 
-// 17 where the numbers stand for no rule, else 0.
-pub fn form_refusal(numbers: RuleNumbers) -> u8
-    ensures { result ≡ form_refusal numbers }
+// 17 where the numbers stand for no rule.
+#[tactic(auto, using(planes::proofs::Refusals::by_test), unfolding(crate::specs::Numbers::malformed))]
+pub fn form_refusal(numbers: RuleNumbers) -> Result<(), Refusal>
+    ensures { number_in result ≡ form_refusal numbers }
 {
-    if AFFINE < numbers.code {
-        return refused::RECORD;
+    match (numbers.code, numbers.extra, numbers.second) {
+        (PLAIN, 0, _) => Ok(()),
+        (LIMITED, 0, 0) => Ok(()),
+        (AFFINE, _, _) => Ok(()),
+        _ => Err(Refusal::Record),
     }
-    if numbers.code == AFFINE {
-        return 0;
+}
+
+// The rule that the numbers stand for, or 17.
+impl TryFrom<RuleNumbers> for Rule {
+    type Error = Refusal;
+
+    ghost try_from_gives = { Reads };
+
+    fn try_from(numbers: RuleNumbers) -> Result<Self, Refusal> {
+        form_refusal(numbers)?;
+        Ok(rule_of(numbers))
     }
-    if numbers.extra != 0 {
-        return refused::RECORD;
-    }
-    if numbers.code != LIMITED {
-        return 0;
-    }
-    if numbers.second != 0 {
-        return refused::RECORD;
-    }
-    0
 }

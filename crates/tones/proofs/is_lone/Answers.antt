@@ -1,5 +1,4 @@
--- `tones::is_lone` meets its contract: each answer is that of the rule's case, and all values are one exactly where the
--- least is the greatest. Assumes nothing.
+-- `tones::is_lone` meets its contract: all values are one exactly where the least is the greatest. Assumes nothing.
 use mathlib.Core.Path.{sym, ap, ap₂, ◌∙◌}
 use lib.Dec.{eqb}
 use Rattle.tones.specs.declared.Rule.{Rule}
@@ -11,9 +10,3 @@ pub returns-in-Plain : goal.returns-in-Plain
 returns-in-Plain c = λ vs some m. ap₂ eqb m.least_is m.greatest_is
     ∙ one_measured vs some
     ∙ sym (ap (λ (rule : Rule). lone rule vs) c.in-Plain.is)
-
-pub returns-in-Limited : goal.returns-in-Limited
-returns-in-Limited c = λ vs some m. sym (ap (λ (rule : Rule). lone rule vs) c.in-Limited.is)
-
-pub returns-in-Affine : goal.returns-in-Affine
-returns-in-Affine c = λ vs some m. sym (ap (λ (rule : Rule). lone rule vs) c.in-Affine.is)
