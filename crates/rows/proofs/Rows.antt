@@ -12,11 +12,11 @@ use lib.Arith.{digits_div}
 use lib.Dec.{eqb}
 use borrow.Author.Tests.{eqb-true, eq-eqb}
 use Rattle.planes.specs.Neighbours.{apart}
-use Rattle.planes.specs.Refusals.{greatest_pixels, Sized}
+use Rattle.planes.specs.Refusals.{greatest_pixels}
 use Rattle.planes.specs.Shapes.{Symmetric}
 use Rattle.planes.proofs.Tests.{or_cases, eqb_sym, less_or_not}
 use Rattle.planes.proofs.Quotients.{by_inverse}
-use Rattle.rows.specs.Rows.{in_row, row_end, inverse_of, Width}
+use Rattle.rows.specs.Rows.{in_row, row_end, inverse_of}
 
 -- ## Row y of a plane of w columns and h rows is the w pixels from y * w on
 
@@ -79,20 +79,17 @@ pub inverse_le : (w : ℕ) → inverse_of w ≤ 4294967297
 unfolding inverse_of
 inverse_le w = omega (arith, div-le_self 4294967296 w)
 
-pub width_of : {w h limit inverse : ℕ} → Sized w h limit → inverse ≡ inverse_of w → Width w inverse
-width_of S e = record { wide = S.wide; narrow = S.narrow; inverse_is = e }
-
-module _ {w inverse : ℕ} (W : Width w inverse) (q : ℕ) (few : q < greatest_pixels) where
+module _ (w inverse q : ℕ) (inverse_is : inverse ≡ inverse_of w) (few : q < greatest_pixels) where
   pub product_le : q * inverse ≤ 1048576 * 4294967297
-  product_le = mul-le-mul {n₂ = 1048576} {m₂ = 4294967297} (omega arith) (rw W.inverse_is (inverse_le w))
+  product_le = mul-le-mul {n₂ = 1048576} {m₂ = 4294967297} (omega arith) (rw inverse_is (inverse_le w))
 
   -- a pixel is below 2 ^ 20 and the width at most 2 ^ 12
-  small : q * w < 4294967296
-  small = omega (arith, mul-le-mul {n₁ = q} {n₂ = 1048575} (omega arith) W.narrow)
+  small : w ≤ 4096 → q * w < 4294967296
+  small narrow = omega (arith, mul-le-mul {n₁ = q} {n₂ = 1048575} (omega arith) narrow)
 
-  pub row_by_inverse : q * inverse / 4294967296 ≡ q / w
+  pub row_by_inverse : 1 ≤ w → w ≤ 4096 → q * inverse / 4294967296 ≡ q / w
   unfolding inverse_of
-  row_by_inverse = by_inverse 4294967296 w inverse q W.wide W.inverse_is small
+  row_by_inverse wide narrow = by_inverse 4294967296 w inverse q wide inverse_is (small narrow)
 
 -- ## Facts of a stretch
 

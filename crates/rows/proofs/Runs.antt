@@ -8,6 +8,7 @@ use mathlib.Core.Bool.{true}
 use mathlib.Core.List.{List}
 use native.Mathlib.Nat.{eq-or-lt_of_le}
 use native.Mathlib.Omega.{arith}
+use lib.ListN.{length}
 use lib.Seq.{get_or-set_other}
 use Rattle.planes.specs.Lists.{at}
 use Rattle.planes.specs.Neighbours.{Chain, here, step}
@@ -79,6 +80,11 @@ module _ {code l tail : ℕ} {marks queue : List ℕ} where
     pub run_room : {r tail' : ℕ} {marks' queue' : List ℕ} → r ≤ n
         → RunUpTo code l marks queue tail r marks' queue' tail' → Room marks' queue' n code tail'
     run_room h run = taken_room R (run_taken (l ≤◌) n (λ x a _. a) h run)
+
+    -- and its next pixel has a place in the queue
+    pub run_space : {r tail' : ℕ} {marks' queue' : List ℕ} → RunUpTo code l marks queue tail r marks' queue' tail'
+        → r < n → at marks' r ≡ code → tail' < length queue'
+    run_space {r} run h e = room_for (run_room (omega arith) run) r h e
 
     -- its pixels had the code
     run-had : {r tail' : ℕ} {marks' queue' : List ℕ} → r ≤ n → RunUpTo code l marks queue tail r marks' queue' tail'

@@ -1,35 +1,78 @@
 // Rows of a plane of marks: the row of a pixel, and the pixels of a row that have one code.
 //
-// inverse     the inverse of a width, which `row_of` and `reach` are given
-// row_of      the row of a pixel, by multiplication with the inverse in place of a division by the width
+// Grid        the rows of a plane: its shape, and the inverse of its width
+//   new         those of a shape
+//   row_of      the row of a pixel, by multiplication with the inverse in place of a division by the width
+//   reach       takes a pixel with its run: the pixels of its row that have the code and follow one another
 // skip        passes pixels that have not the code, by stretches of 64
-// run_start   the first pixel of a run: pixels of a row that have the code and follow one another
+// run_start   the first pixel of a run
 // take_run    takes a run: its marks become 0, and its pixels are put at the queue's tail
-// reach       takes a pixel with its run
 //
 // Which pixels are neighbours is not known here, but for those of one row.
 #![tactic(auto)]
 
 ghost use Rattle.std.specs.Prelude.{◌+◌, ◌/◌, ◌≤◌, ◌<◌, ◌≡◌, length};
 ghost use Rattle.planes.specs.Refusals.{greatest_pixels};
-ghost use Rattle.rows.specs.Rows.{inverse_of, Width, row_end};
+ghost use Rattle.planes.specs.Shapes.{SizedShape};
+ghost use Rattle.rows.specs.Rows.{inverse_of, row_end};
 ghost use Rattle.rows.specs.Stretches.{Tells, Skipped};
 ghost use Rattle.rows.specs.Runs.{Room, RunStart, RunTaken, Reached};
 
-// The inverse of the width w: the least number whose product with w is more than 2 ^ 32.
-pub fn inverse(w: usize) -> u64
-    requires { 1 ≤ w }
-    ensures { result ≡ inverse_of w }
-{
-    4294967296 / w as u64 + 1
+use planes::Shape;
+
+// The rows of a plane whose shape is not refused. The inverse of the width is the least number whose product with it is
+// more than 2 ^ 32.
+#[derive(Clone, Copy)]
+pub struct Grid {
+    pub shape: Shape,
+    pub inverse: u64,
+    pub ghost size: { SizedShape shape },
+    pub ghost inverse_is: { inverse ≡ inverse_of shape.w },
 }
 
-// The row of the pixel q, in rows of w pixels, by the inverse of w.
-pub fn row_of(q: usize, w: usize, inverse: u64) -> usize
-    requires { Width w inverse × (q < greatest_pixels) }
-    ensures { result ≡ q / w }
-{
-    (q as u64 * inverse / 4294967296) as usize
+impl Grid {
+    // The grid of a shape that is not refused.
+    #[tactic(auto, unfolding(crate::specs::Rows::inverse_of))]
+    pub fn new(shape: Shape) -> Self
+        requires { SizedShape shape }
+        ensures { result.shape ≡ shape }
+    {
+        Grid {
+            shape,
+            inverse: 4294967296 / shape.w as u64 + 1,
+        }
+    }
+
+    // The row of the pixel q.
+    #[tactic(auto, using(crate::proofs::Rows::product_le, crate::proofs::Rows::row_by_inverse))]
+    pub fn row_of(self, q: usize) -> usize
+        requires { q < greatest_pixels }
+        ensures { result ≡ q / self.shape.w }
+    {
+        (q as u64 * self.inverse / 4294967296) as usize
+    }
+
+    // Takes the pixel q, if it has the code, with the run of its row. The new tail.
+    #[tactic(auto, using(crate::proofs::Rows::row_bounds, crate::proofs::Taken::room_less))]
+    pub fn reach(
+        self,
+        marks: &mut [u8],
+        queue: &mut [u32],
+        code: u8,
+        q: usize,
+        tail: usize,
+    ) -> usize
+        requires { Room marks.old queue.old (row_end self.shape.w q) code tail }
+        ensures { Reached self.shape.w code q marks.old queue.old tail marks.new
+            queue.new result }
+    {
+        if marks[q] != code {
+            return tail;
+        }
+        let row = self.row_of(q) * self.shape.w;
+        let first = run_start(marks, code, row, q);
+        take_run(marks, queue, code, first, row + self.shape.w, tail)
+    }
 }
 
 // Whether one of the 64 marks from `at` on has the code.
@@ -38,8 +81,8 @@ fn holds(marks: &[u8], at: usize, code: u8) -> bool
     ensures { Tells marks.now code at (at + 64) result }
 {
     let mut found = false;
-    for i in 0..64 {
-        found |= marks[at + i] == code;
+    for m in &marks[at..at + 64] {
+        found |= *m == code;
     }
     found
 }
@@ -50,17 +93,12 @@ pub fn skip(marks: &[u8], at: usize, end: usize, code: u8) -> usize
     requires { end ≤ length marks.now }
     ensures { Skipped marks.now code at result }
 {
-    let mut p = at;
-    while p < end {
-        if marks.len() - p < 64 {
+    for p in (at..end).step_by(64) {
+        if marks.len() - p < 64 || holds(marks, p, code) {
             return p;
         }
-        if holds(marks, p, code) {
-            return p;
-        }
-        p += 64;
     }
-    p
+    end.max(at)
 }
 
 // The first pixel of the run of pixels that have the code and end before q, in the row that starts at `row`; q if the
@@ -69,18 +107,17 @@ fn run_start(marks: &[u8], code: u8, row: usize, q: usize) -> usize
     requires { (row ≤ q) × (q ≤ length marks.now) }
     ensures { RunStart marks.now code row q result }
 {
-    let mut first = q;
-    while row < first {
-        if marks[first - 1] != code {
-            return first;
+    for p in (row..q).rev() {
+        if marks[p] != code {
+            return p + 1;
         }
-        first -= 1;
     }
-    first
+    row
 }
 
 // Takes pixels from `at` on while they have the code, up to `end`: the mark of each becomes 0, and it is put at the
-// queue's tail. The new tail.
+// queue's tail. The new tail, which is counted by hand since it is told also where the run ends early.
+#[tactic(auto, using(crate::specs::Runs::start, crate::specs::Runs::more, crate::proofs::Runs::run_space))]
 fn take_run(
     marks: &mut [u8],
     queue: &mut [u32],
@@ -103,26 +140,4 @@ fn take_run(
         next += 1;
     }
     next
-}
-
-// Takes the pixel q, if it has the code, with the run of its row. The new tail.
-pub fn reach(
-    marks: &mut [u8],
-    queue: &mut [u32],
-    w: usize,
-    inverse: u64,
-    code: u8,
-    q: usize,
-    tail: usize,
-) -> usize
-    requires { Width w inverse × Room marks.old queue.old (row_end w q) code tail }
-    ensures { Reached w code q marks.old queue.old tail marks.new
-        queue.new result }
-{
-    if marks[q] != code {
-        return tail;
-    }
-    let row = row_of(q, w, inverse) * w;
-    let first = run_start(marks, code, row, q);
-    take_run(marks, queue, code, first, row + w, tail)
 }
