@@ -1,13 +1,11 @@
--- The scale of a pixel in the three cases of Algorithm 6, and what it gives. Assumes nothing.
+-- The scale of a pixel in the three cases of Algorithm 6. Assumes nothing.
 use Prim.Native.Nat.{ℕ, zero, suc, ◌*◌, ◌≤◌, ◌<◌}
 use mathlib.Core.Path.{◌≡◌}
-use mathlib.Core.List.{List}
 use native.Mathlib.Nat.{mul_comm, mul-zero, mul-le-mul_right}
 use native.Mathlib.Omega.{arith}
 use borrow.Author.Tests.{eq-eqb, ne_eqb, le-leb, lt-leb}
-use Rattle.planes.specs.Lists.{at}
 use Rattle.channels.specs.Channels.{new_channel}
-use Rattle.channels.specs.Scales.{Scales, Inverses, Quotient}
+use Rattle.channels.specs.Scales.{Scales}
 
 -- I = 0: 0
 pub scales_black : (I M J : ℕ) → I ≡ 0 → Scales I M J 0 1
@@ -46,13 +44,5 @@ scales_by_greatest I M J some small h =
     go zero h = absurd (omega (arith, mul-zero J))
     go (suc M) h = omega arith
 
--- the product of the scale with a channel, rounded, fits a byte; a table has its inverse
-pub scales_fit : {I M J times over : ℕ} {inverses : List ℕ} → Scales I M J times over → Inverses inverses
-    → (C : ℕ) → C ≤ M → Quotient (C * times) over (at inverses over)
-scales_fit {over = over} s table C below =
-    record {
-      byte = s.byte C below;
-      some = s.some;
-      small = s.small;
-      inverted = table.entry over s.some (omega (arith, s.small));
-    }
+-- what finds the scale of each case
+pub ruleset cases = (scales_black, scales_by_intensity, scales_by_greatest)

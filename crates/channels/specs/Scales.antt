@@ -22,14 +22,10 @@ pub record Scales (I M J times over : ℕ) : Type 0 where
 unfoldable pub inverse : ℕ → ℕ
 inverse m = 67108864 / (2 * m) + 1
 
--- a table with the inverses of 1 to below e
-pub record InversesBelow (e : ℕ) (table : List ℕ) : Type 0 where
-  pub size : length table ≡ 256
-  pub entry : (m : ℕ) → 1 ≤ m → m < e → at table m ≡ inverse m
-
 -- a table with the inverses of 1 to 255
-abbrev pub Inverses : List ℕ → Type 0
-Inverses table = InversesBelow 256 table
+pub record Inverses (table : List ℕ) : Type 0 where
+  pub size : length table ≡ 256
+  pub entry : (m : ℕ) → 1 ≤ m → m < 256 → at table m ≡ inverse m
 
 -- a quotient x / m, with m in 1 to 255, that is at most 255, and the inverse of m
 pub record Quotient (x m by : ℕ) : Type 0 where

@@ -1,137 +1,140 @@
 // The channels of one pixel: its intensity (Algorithm 1), and the scale by which a new intensity multiplies them
 // (Algorithm 6).
 //
-// rounded_thirds    the table of the intensities of all channel sums
-// pixel_intensity   the intensity of a pixel, from that table
-// inverses          the table of the inverses of 1 to 255
-// recoloured        what the channels of a pixel become for a new intensity, by both tables
+// Pixel      the channels of a pixel; its intensity, and what they become for a new one
+// Inverses   the inverses of 1 to 255, by which recolouring divides
 //
 // No channel costs a division: `nearest` multiplies by an inverse, and divides by a constant power of two.
 #![tactic(auto)]
 
-ghost use Rattle.std.specs.Prelude.{◌≡◌, ◌+◌, ◌*◌, max};
+ghost use Rattle.std.specs.Prelude.{◌≡◌, ◌+◌, ◌*◌, ◌≤◌, ◌<◌, max};
 ghost use Rattle.planes.specs.Rounding.{rounded};
 ghost use Rattle.channels.specs.Channels.{third, thirds, new_pixel};
-ghost use Rattle.channels.specs.Scales.{Scales, Inverses, Quotient};
+ghost use Rattle.channels.specs.Scales.{Scales, Inverses, inverse, Quotient};
+
+use std::array;
 
 mod table;
 
 use table::THIRDS;
 
-// The table. Its rule is computed once, here, and each call makes one copy of it.
-pub fn rounded_thirds() -> [u8; 766]
-    ensures { result ≡ thirds }
+// The rounded thirds of all channel sums. Their rule is computed once, here.
+#[tactic(auto, unfolding(crate::specs::Channels::third, crate::specs::Channels::thirds))]
+fn rounded_thirds() -> &'static [u8; 766]
+    ensures { result.now ≡ thirds }
 {
-    THIRDS
-}
-
-// The intensity of a pixel.
-pub fn pixel_intensity(table: &[u8; 766], red: u8, green: u8, blue: u8) -> u8
-    requires { table.now ≡ thirds }
-    ensures { result ≡ third (red + green + blue) }
-{
-    table[red as usize + green as usize + blue as usize]
-}
-
-// The quotient times / over by which all channels of a pixel are multiplied.
-#[derive(Clone, Copy)]
-struct Scale {
-    times: u32,
-    over: u32,
-}
-
-fn greater(x: u8, y: u8) -> u8
-    ensures { result ≡ max x y }
-{
-    if x < y { y } else { x }
-}
-
-// The scale of a pixel of intensity i and greatest channel m for the new intensity j.
-fn scale_of(i: u8, m: u8, j: u8) -> Scale
-    ensures { Scales i m j result.times result.over }
-{
-    if i == 0 {
-        return Scale { times: 0, over: 1 };
-    }
-    if j as u32 * m as u32 <= 255 * i as u32 {
-        return Scale {
-            times: j as u32,
-            over: i as u32,
-        };
-    }
-    Scale {
-        times: 255,
-        over: m as u32,
-    }
-}
-
-// The scale of a pixel of these channels for the new intensity j.
-fn pixel_scale(table: &[u8; 766], red: u8, green: u8, blue: u8, j: u8) -> Scale
-    requires { table.now ≡ thirds }
-    ensures { Scales (third (red + green + blue)) (max red (max green blue)) j result.times result.over }
-{
-    let i = pixel_intensity(table, red, green, blue);
-    let m = greater(red, greater(green, blue));
-    scale_of(i, m, j)
+    &THIRDS
 }
 
 // 2^26, in whose parts the inverses are: enough that no rounded quotient is off.
 const PARTS: u32 = 67108864;
 
-// The table of the inverses of 1 to 255, by which `nearest` multiplies. Its entry 0 is not used.
-pub fn inverses() -> [u32; 256]
-    ensures { Inverses result }
-{
-    let mut table = [0u32; 256];
-    let mut m = 1;
-    while m < 256 {
-        table[m] = PARTS / (2 * m as u32) + 1;
-        m += 1;
+// The inverses of 1 to 255, by which `nearest` multiplies, each at its index. Entry 0 is not used.
+pub struct Inverses {
+    table: [u32; 256],
+    ghost inverted: { Inverses table },
+}
+
+impl Inverses {
+    pub fn new() -> Self {
+        Self {
+            table: array::from_fn(|m| PARTS / (2 * m.max(1) as u32) + 1),
+        }
     }
-    table
+
+    // The inverse of m.
+    fn of(&self, m: u8) -> u32
+        requires { 1 ≤ m }
+        ensures { result ≡ inverse m }
+    {
+        self.table[m as usize]
+    }
 }
 
 // x / m to nearest, halves upward, by the inverse of m.
+#[tactic(auto, using(crate::proofs::Quotients::rounded_by_inverse))]
 fn nearest(x: u32, m: u32, by: u32) -> u32
     requires { Quotient x m by }
     ensures { result ≡ rounded x m }
 {
-    ((2 * x + m) as u64 * by as u64 / PARTS as u64) as u32
+    (u64::from(2 * x + m) * u64::from(by) / u64::from(PARTS)) as u32
 }
 
-// A channel, multiplied by a scale and rounded.
-fn scaled(c: u8, s: Scale, by: u32) -> u8
-    requires { Quotient (c * s.times) s.over by }
-    ensures { result ≡ rounded (c * s.times) s.over }
-{
-    nearest(c as u32 * s.times, s.over, by) as u8
+// The quotient times / over by which all channels of a pixel are multiplied.
+#[derive(Clone, Copy, Debug, PartialEq, Eq)]
+struct Scale {
+    times: u8,
+    over: u8,
+}
+
+impl Scale {
+    // That of a pixel of intensity i and greatest channel m for the new intensity j.
+    #[tactic(auto, using(crate::proofs::Scales::cases), unfolding(crate::specs::Channels::new_channel))]
+    fn new(i: u8, m: u8, j: u8) -> Self
+        ensures { Scales i m j result.times result.over }
+    {
+        if i == 0 {
+            return Self { times: 0, over: 1 };
+        }
+        if u32::from(j) * u32::from(m) <= 255 * u32::from(i) {
+            return Self { times: j, over: i };
+        }
+        Self {
+            times: 255,
+            over: m,
+        }
+    }
+
+    // A channel, multiplied by the scale and rounded.
+    #[tactic(auto, using(planes::proofs::Rounding::rounded_in))]
+    fn scaled(self, c: u8, by: u32) -> u8
+        requires { Quotient (c * self.times) self.over by }
+        ensures { result ≡ rounded (c * self.times) self.over }
+    {
+        nearest(
+            u32::from(c) * u32::from(self.times),
+            u32::from(self.over),
+            by,
+        ) as u8
+    }
 }
 
 // The channels of a pixel.
-#[derive(Clone, Copy)]
+#[derive(Clone, Copy, Debug, PartialEq, Eq)]
 pub struct Pixel {
     pub red: u8,
     pub green: u8,
     pub blue: u8,
 }
 
-// What these channels of a pixel become for the new intensity j.
-pub fn recoloured(
-    table: &[u8; 766],
-    inverses: &[u32; 256],
-    red: u8,
-    green: u8,
-    blue: u8,
-    j: u8,
-) -> Pixel
-    requires { (table.now ≡ thirds) × Inverses inverses.now }
-    ensures { result ≡ new_pixel red green blue j }
-{
-    let s = pixel_scale(table, red, green, blue, j);
-    let by = inverses[s.over as usize];
-    Pixel {
-        red: scaled(red, s, by),
-        green: scaled(green, s, by),
-        blue: scaled(blue, s, by),
+impl Pixel {
+    // The intensity.
+    #[tactic(auto, using(crate::proofs::Channels::thirds_at))]
+    pub fn intensity(self) -> u8
+        ensures { result ≡ third (self.red + self.green + self.blue) }
+    {
+        rounded_thirds()[usize::from(self.red) + usize::from(self.green) + usize::from(self.blue)]
+    }
+
+    // The scale for the new intensity j.
+    fn scale(self, j: u8) -> Scale
+        ensures { Scales (third (self.red + self.green + self.blue)) (max self.red (max self.green self.blue)) j
+            result.times result.over }
+    {
+        let m = self.red.max(self.green.max(self.blue));
+        Scale::new(self.intensity(), m, j)
+    }
+
+    // What the channels become for the new intensity j.
+    pub fn recoloured(self, inverses: &Inverses, j: u8) -> Self
+        ensures { result ≡ new_pixel self.red self.green self.blue j }
+    {
+        let s = self.scale(j);
+        let by = inverses.of(s.over);
+        Self {
+            red: s.scaled(self.red, by),
+            green: s.scaled(self.green, by),
+            blue: s.scaled(self.blue, by),
+        }
     }
 }

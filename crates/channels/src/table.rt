@@ -1,5 +1,5 @@
 // The rounded third of each channel sum from 0 to 765: 0 twice, each of 1 to 254 three times, and 255 twice.
-pub const THIRDS: [u8; 766] = [
+pub static THIRDS: [u8; 766] = [
     0, 0, // 1 / 3, downward
     1, // 2 / 3, upward
     1, 1, 2, 2, 2, 3, 3, 3, 4, 4, 4, 5, 5, 5, 6, 6, 6, 7, 7, 7, 8, 8, 8, 9, 9, 9, 10, 10, 10, 11,
