@@ -1,25 +1,25 @@
 // The byte format of a pass list, in both editions: where its numbers stand, and what a record stands for.
 //
-// Edition                        an edition of the format, by its version
-// version, record_length, other  its version, the length of its records, and the other edition
-// edition_of                     the edition that a list names
-// count_of                       how many records it says that it has
-// record_start                   where a record starts
-// pass_at                        the pass of a record
-// form_refusal                   17 for a record that stands for no pass, or 0
+// Edition        an edition of the format: its version, the length of its records, and the other edition
+// edition_of     the edition that a list names
+// count_of       how many records it says that it has
+// record_start   where a record starts
+// pass_at        the pass of a record
+// form_refusal   17 for a record that stands for no pass
 #![tactic(auto)]
 
 ghost use Rattle.std.specs.Prelude.{◌≡◌, ◌+◌, ◌≤◌, ◌<◌, length};
+ghost use Rattle.planes.specs.Refusals.{number_in};
 ghost use Rattle.listformat.specs.Format.{version, record_length, fields_length, number16, number32, head_length};
 ghost use Rattle.listformat.specs.Format.{record_start, count_of, edition_of, numbers_at, neighbours_at, pass_at};
 ghost use Rattle.listformat.specs.Format.{greatest_count, zero_set, form_at, other};
 
 use model::Pass;
-use planes::{FOUR, refused};
+use planes::{FOUR, Refusal};
 use tones::RuleNumbers;
 
 // An edition of the format: version 1, or version 2, whose records name their neighbours.
-#[derive(Clone, Copy)]
+#[derive(Clone, Copy, Debug, PartialEq, Eq)]
 pub enum Edition {
     First,
     Second,
@@ -56,33 +56,35 @@ const ZERO_2: usize = 14;
 
 const ZERO_3: usize = 15;
 
-// The version that a list's head names.
-pub fn version(edition: Edition) -> u16
-    ensures { result ≡ version edition }
-{
-    match edition {
-        Edition::First => 1,
-        Edition::Second => 2,
+impl Edition {
+    // The version that a list's head names.
+    pub fn version(self) -> u16
+        ensures { result ≡ version self }
+    {
+        match self {
+            Edition::First => 1,
+            Edition::Second => 2,
+        }
     }
-}
 
-// The length of a record.
-pub fn record_length(edition: Edition) -> usize
-    ensures { result ≡ record_length edition }
-{
-    match edition {
-        Edition::First => 12,
-        Edition::Second => 16,
+    // The length of a record.
+    pub fn record_length(self) -> usize
+        ensures { result ≡ record_length self }
+    {
+        match self {
+            Edition::First => 12,
+            Edition::Second => 16,
+        }
     }
-}
 
-// The other edition.
-pub fn other(edition: Edition) -> Edition
-    ensures { result ≡ other edition }
-{
-    match edition {
-        Edition::First => Edition::Second,
-        Edition::Second => Edition::First,
+    // The other edition.
+    pub fn other(self) -> Self
+        ensures { result ≡ other self }
+    {
+        match self {
+            Edition::First => Edition::Second,
+            Edition::Second => Edition::First,
+        }
     }
 }
 
@@ -91,9 +93,7 @@ pub fn number16_at(list: &[u8], i: usize) -> u16
     requires { i + 1 < length list.now }
     ensures { result ≡ number16 list.now i }
 {
-    let low = list[i] as u16;
-    let high = list[i + 1] as u16;
-    low + 256 * high
+    u16::from_le_bytes([list[i], list[i + 1]])
 }
 
 // The 32-bit number at index i, low byte first.
@@ -101,20 +101,19 @@ fn number32_at(list: &[u8], i: usize) -> u32
     requires { i + 3 < length list.now }
     ensures { result ≡ number32 list.now i }
 {
-    let low = number16_at(list, i) as u32;
-    let high = number16_at(list, i + 2) as u32;
-    low + 65536 * high
+    u32::from_le_bytes([list[i], list[i + 1], list[i + 2], list[i + 3]])
 }
 
 // The edition whose version a list's head names; version 1 where it is that of none.
+#[tactic(auto, using(planes::proofs::Refusals::by_test), unfolding(crate::specs::Format::edition_of))]
 pub fn edition_of(list: &[u8]) -> Edition
     requires { head_length ≤ length list.now }
     ensures { result ≡ edition_of list.now }
 {
-    if number16_at(list, VERSION_AT) == 2 {
-        return Edition::Second;
+    match number16_at(list, VERSION_AT) {
+        2 => Edition::Second,
+        _ => Edition::First,
     }
-    Edition::First
 }
 
 // How many records the list says that it has.
@@ -122,7 +121,7 @@ pub fn count_of(list: &[u8]) -> usize
     requires { head_length ≤ length list.now }
     ensures { result ≡ count_of list.now }
 {
-    number16_at(list, COUNT_AT) as usize
+    usize::from(number16_at(list, COUNT_AT))
 }
 
 // Where record j starts, in a list of no more than the greatest count of records.
@@ -130,7 +129,7 @@ pub fn record_start(edition: Edition, j: usize) -> usize
     requires { j ≤ greatest_count }
     ensures { result ≡ record_start edition j }
 {
-    HEAD_LENGTH + record_length(edition) * j
+    HEAD_LENGTH + edition.record_length() * j
 }
 
 // The numbers of the rule of the record that starts at index i.
@@ -138,15 +137,11 @@ fn numbers_at(list: &[u8], i: usize) -> RuleNumbers
     requires { i + fields_length ≤ length list.now }
     ensures { result ≡ numbers_at list.now i }
 {
-    let code = list[i + RULE];
-    let extra = list[i + EXTRA];
-    let first = number16_at(list, i + FIRST);
-    let second = number16_at(list, i + SECOND);
     RuleNumbers {
-        code,
-        extra,
-        first,
-        second,
+        code: list[i + RULE],
+        extra: list[i + EXTRA],
+        first: number16_at(list, i + FIRST),
+        second: number16_at(list, i + SECOND),
     }
 }
 
@@ -162,39 +157,18 @@ fn neighbours_at(list: &[u8], edition: Edition, i: usize) -> u8
 }
 
 // The pass of the record that starts at index i.
+#[tactic(auto, unfolding(crate::specs::Format::pass_at))]
 pub fn pass_at(list: &[u8], edition: Edition, i: usize) -> Pass
     requires { (i + fields_length ≤ length list.now) × (i + record_length edition ≤ length list.now) }
     ensures { result ≡ pass_at edition list.now i }
 {
-    let a = list[i];
-    let b = list[i + UPPER];
-    let area = number32_at(list, i + AREA);
-    let rule = tones::rule_of(numbers_at(list, i));
-    let neighbours = neighbours_at(list, edition, i);
     Pass {
-        a,
-        b,
-        area,
-        rule,
-        neighbours,
+        a: list[i],
+        b: list[i + UPPER],
+        area: number32_at(list, i + AREA),
+        rule: tones::rule_of(numbers_at(list, i)),
+        neighbours: neighbours_at(list, edition, i),
     }
-}
-
-// Whether one of the zero bytes of the record of version 2 that starts at index i is set.
-fn is_second_zero_set(list: &[u8], i: usize) -> bool
-    requires { i + record_length Edition.Second ≤ length list.now }
-    ensures { result ≡ zero_set Edition.Second list.now i }
-{
-    if list[i + ZERO] != 0 {
-        return true;
-    }
-    if list[i + ZERO_2] != 0 {
-        return true;
-    }
-    if list[i + ZERO_3] != 0 {
-        return true;
-    }
-    false
 }
 
 // Whether one of the zero bytes of the record that starts at index i is set.
@@ -204,17 +178,17 @@ fn is_zero_set(list: &[u8], edition: Edition, i: usize) -> bool
 {
     match edition {
         Edition::First => false,
-        Edition::Second => is_second_zero_set(list, i),
+        Edition::Second => list[i + ZERO] != 0 || list[i + ZERO_2] != 0 || list[i + ZERO_3] != 0,
     }
 }
 
-// 17 for a malformed record at index i, else 0.
-pub fn form_refusal(list: &[u8], edition: Edition, i: usize) -> u8
+// 17 for a malformed record at index i.
+pub fn form_refusal(list: &[u8], edition: Edition, i: usize) -> Result<(), Refusal>
     requires { (i + fields_length ≤ length list.now) × (i + record_length edition ≤ length list.now) }
-    ensures { result ≡ form_at edition list.now i }
+    ensures { number_in result ≡ form_at edition list.now i }
 {
     if is_zero_set(list, edition, i) {
-        return refused::RECORD;
+        return Err(Refusal::Record);
     }
     tones::form_refusal(numbers_at(list, i))
 }
