@@ -1,11 +1,10 @@
--- Rows of a plane as stretches of its pixels, the row of a pixel by the inverse of the width, and facts of every pixel
--- of a stretch. Assumes nothing.
+-- Rows of a plane as stretches of its pixels, and the row of a pixel by the inverse of the width. Assumes nothing.
 use Prim.Native.Nat.{ℕ, ◌+◌, ◌-◌, ◌*◌, ◌/◌, ◌%◌, ◌≤◌, ◌<◌}
-use mathlib.Core.Path.{◌≡◌, sym, ap, ap₂, subst, ◌∙◌}
-use mathlib.Core.Logic.{◌⊎◌, ⊎_elim, inl, inr}
+use mathlib.Core.Path.{◌≡◌, sym, ap, ap₂, ◌∙◌}
+use mathlib.Core.Logic.{◌⊎◌, inl, inr}
 use mathlib.Core.Bool.{true, ◌&&◌, or_comm}
 use mathlib.Mathlib.Data.Bool.Basic.{or_inl, and_elim_left, and_elim_right, and_intro}
-use native.Mathlib.Nat.{eq-or-lt_of_le, div-add-mod', div-le_self, mod-lt, mul-le-mul, mul-le-mul_right, mul_comm}
+use native.Mathlib.Nat.{div-add-mod', div-le_self, mod-lt, mul-le-mul, mul-le-mul_right, mul_comm}
 use native.Mathlib.Nat.{add-mul, one-mul}
 use native.Mathlib.Omega.{arith}
 use lib.Arith.{digits_div}
@@ -20,18 +19,13 @@ use Rattle.rows.specs.Rows.{in_row, row_end, inverse_of}
 
 -- ## Row y of a plane of w columns and h rows is the w pixels from y * w on
 
-pub next_row : (y w : ℕ) → (y + 1) * w ≡ y * w + w
+next_row : (y w : ℕ) → (y + 1) * w ≡ y * w + w
 next_row y w = omega (arith, add-mul y 1 w, one-mul w)
 
-pub row_inside : (y w h : ℕ) → y < h → y * w + w ≤ w * h
+row_inside : (y w h : ℕ) → y < h → y * w + w ≤ w * h
 row_inside y w h p =
     let m : (y + 1) * w ≤ h * w = mul-le-mul_right w (omega arith) in
     omega (arith, next_row y w, mul_comm w h)
-
-pub past_rows : (y w h : ℕ) → h ≤ y → w * h ≤ y * w
-past_rows y w h p =
-    let m : h * w ≤ y * w = mul-le-mul_right w p in
-    omega (arith, mul_comm w h)
 
 module _ (w : ℕ) where
   pub row_bounds : (p : ℕ) → 1 ≤ w → (p / w * w ≤ p) × (p < row_end w p)
@@ -75,7 +69,7 @@ module _ (w : ℕ) where
 
 -- ## The row of a pixel by the inverse of the width
 
-pub inverse_le : (w : ℕ) → inverse_of w ≤ 4294967297
+inverse_le : (w : ℕ) → inverse_of w ≤ 4294967297
 unfolding inverse_of
 inverse_le w = omega (arith, div-le_self 4294967296 w)
 
@@ -90,20 +84,3 @@ module _ (w inverse q : ℕ) (inverse_is : inverse ≡ inverse_of w) (few : q < 
   pub row_by_inverse : 1 ≤ w → w ≤ 4096 → q * inverse / 4294967296 ≡ q / w
   unfolding inverse_of
   row_by_inverse wide narrow = by_inverse 4294967296 w inverse q wide inverse_is (small narrow)
-
--- ## Facts of a stretch
-
--- P holds of each number from `low` on and before `high`
-abbrev pub Each : (ℕ → Type 0) → ℕ → ℕ → Type 0
-Each P low high = (k : ℕ) → low ≤ k → k < high → P k
-
-module _ (P : ℕ → Type 0) (low : ℕ) where
-  pub each_none : (high : ℕ) → high ≤ low → Each P low high
-  each_none high h k p q = absurd (omega arith)
-
-  pub each_more : (high high' : ℕ) → Each P low high → P high → high' ≡ high + 1 → Each P low high'
-  each_more high high' f e t k p q =
-      ⊎_elim (λ (s : k ≡ high). subst P (sym s) e) (λ (l : k < high). f k p l) (eq-or-lt_of_le (omega arith))
-
-  pub each_less : (high high' : ℕ) → Each P low high → high' ≤ high → Each P low high'
-  each_less high high' f l k p q = f k p (omega arith)

@@ -1,35 +1,34 @@
--- Pixels taken in reading order, one after the other. Assumes nothing.
-use Prim.Native.Nat.{ℕ, ◌+◌, ◌<◌}
-use mathlib.Core.Path.{◌≡◌, refl, sym}
-use mathlib.Core.List.{List}
-use native.Mathlib.Omega.{arith}
-use lib.ListN.{length, set, length-set}
+-- All pixels of a plane, taken in reading order: what stands in the place of the first entries of marks and queue.
+-- Assumes nothing.
+use Rattle.std.proofs.Common.{ℕ, ◌+◌, ◌-◌, ◌≤◌, ◌<◌, ◌≡◌, List, ◌++◌, length, take, drop, replicate, sym, ◌∙◌}
+use Rattle.std.proofs.Common.{ap, arith, length-append, length-drop, length-take-le}
+use Rattle.std.proofs.lemmas.List.{get_or_append_left, get_or-append_right, get_or-drop, length-replicate}
+use Rattle.std.proofs.lemmas.List.{get_or-replicate}
 use Rattle.planes.specs.Lists.{at, Beyond}
-use Rattle.planes.proofs.Lists.{beyond_refl}
-use Rattle.planes.proofs.Stores.{at_set}
 use Rattle.scans.specs.Taking.{PlaneTaken}
 
-pub taking_none : (marks queue : List ℕ) → PlaneTaken 0 marks queue marks queue
-taking_none marks queue = record {
-  off = λ p h. absurd (omega arith);
-  listed = λ p h. absurd (omega arith);
-  marks_rest = beyond_refl 0 marks;
-  queue_rest = beyond_refl 0 queue;
+-- n entries stand in the place of the first n of a list
+beyond_first : (n : ℕ) (xs ys : List ℕ) → n ≤ length xs → length ys ≡ n → Beyond n xs (ys ++ drop n xs)
+beyond_first n xs ys h e = record {
+  size = rw length-append (rw length-drop (omega arith));
+  rest = λ k l.
+      let same : n + (k - n) ≡ k = omega arith in
+      get_or-append_right ys (drop n xs) n k 0 e l ∙ get_or-drop n xs (k - n) 0 ∙ ap (at xs) same;
 }
 
--- a store to entry k leaves those after it
-beyond_more : {k : ℕ} {xs xs' : List ℕ} (v : ℕ) → Beyond k xs xs' → k < length xs' → Beyond (k + 1) xs (set xs' k v)
-beyond_more {k} {xs} {xs'} v b h = record {
-  size = rw length-set b.size;
-  rest = λ p l. at_set (λ (x : ℕ). x ≡ at xs p) xs' k p v h
-      (λ q. absurd (omega arith)) (λ q. b.rest p (omega arith));
-}
-
-pub taking_more : {k : ℕ} {marks queue marks' queue' : List ℕ} → PlaneTaken k marks queue marks' queue'
-    → k < length marks' → k < length queue' → PlaneTaken (k + 1) marks queue (set marks' k 0) (set queue' k k)
-taking_more {k} {marks' = marks'} {queue' = queue'} T h l = record {
-  off = λ p b. at_set (◌≡ 0) marks' k p 0 h (λ q. refl) (λ q. T.off p (omega (arith, q)));
-  listed = λ p b. at_set (◌≡ p) queue' k p k l sym (λ q. T.listed p (omega (arith, q)));
-  marks_rest = beyond_more 0 T.marks_rest h;
-  queue_rest = beyond_more k T.queue_rest l;
-}
+-- the first n marks were filled with 0, and the first k entries of the queue, which are all of n, are their own numbers
+pub plane_taken : (m n k : ℕ) (marks queue ms qs : List ℕ) → n ≡ m → n ≤ length marks → n ≤ length queue
+    → ms ≡ replicate (length (take n marks)) 0 → length qs ≡ length (take n queue) → length (take n queue) ≤ k
+    → ((p : ℕ) → p < k → at qs p ≡ p) → PlaneTaken m marks queue (ms ++ drop n marks) (qs ++ drop n queue)
+plane_taken m n k marks queue ms qs same hm hq e l all f =
+    let few = length-take-le n marks hm in
+    let some = length-take-le n queue hq in
+    let size : length ms ≡ n = ap length e ∙ length-replicate (length (take n marks)) 0 ∙ few in
+    rw (sym same) (record {
+      off = λ p h.
+          get_or_append_left ms (drop n marks) 0 p (omega arith) ∙ ap (λ (s : List ℕ). at s p) e
+          ∙ get_or-replicate (length (take n marks)) p 0 0 (omega arith);
+      listed = λ p h. get_or_append_left qs (drop n queue) 0 p (omega arith) ∙ f p (omega arith);
+      marks_rest = beyond_first n marks ms hm size;
+      queue_rest = beyond_first n queue qs hq (l ∙ some);
+    })

@@ -1,24 +1,19 @@
 -- The search for the next pixel that has a code. Definitions only.
 --
---   Searchable   what a search requires: marks of a plane, the inverse of its width, and a pixel of it
+--   Searchable   what a search requires: marks of a plane, and a pixel of it
 --   FirstFrom    a pixel is the first from one on that has the code
 --   found_reply  the reply of each case of what a search finds
 --   NextPixel    what a search promises of its reply
-use Rattle.std.specs.Prelude.{ℕ, ◌≤◌, ◌<◌, ◌≡◌, List, [], ◌∷◌, length}
+use Rattle.std.specs.Prelude.{ℕ, ◌≤◌, ◌<◌, ◌≡◌, List, [], ◌∷◌, length, Option, Some, None as Nothing}
 use Rattle.planes.specs.Lists.{at}
-use Rattle.planes.specs.Shapes.{pixels, SizedShape}
+use Rattle.planes.specs.Shapes.{pixels}
 use Rattle.planes.specs.Replies.{Reply, refuses, gives}
 use Rattle.planes.specs.declared.Shape.{Shape}
-use Rattle.rows.specs.Rows.{inverse_of}
 use Rattle.rows.specs.Stretches.{None}
-use Rattle.scans.specs.declared.Found.{Found}
-use Rattle.scans.specs.declared.Found.TheVariants.{At, Nothing}
 
--- a plane whose shape is not refused, with a mark for each pixel, the inverse of its width, and a pixel of it
-pub record Searchable (marks : List ℕ) (z : Shape) (inverse from : ℕ) : Type 0 where
-  pub size : SizedShape z
+-- a mark for each pixel of a plane, and a pixel of it
+pub record Searchable (marks : List ℕ) (z : Shape) (from : ℕ) : Type 0 where
   pub covered : pixels z ≤ length marks
-  pub inverse_is : inverse ≡ inverse_of z.w
   pub inside : from < pixels z
 
 -- p is the first pixel from `low` on, of n, that has the code
@@ -29,8 +24,8 @@ pub record FirstFrom (marks : List ℕ) (code low n p : ℕ) : Type 0 where
   pub none : None marks code low p
 
 -- the pixel that is found is the one value; where nothing is found there is none, and no case refuses
-abbrev pub found_reply : Found → Reply
-found_reply (At p) = gives (p ∷ [])
+abbrev pub found_reply : Option ℕ → Reply
+found_reply (Some p) = gives (p ∷ [])
 found_reply Nothing = gives []
 
 -- the first pixel from `low` on, of n, that has the code, or that there is none

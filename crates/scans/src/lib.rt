@@ -13,55 +13,45 @@ ghost use Rattle.scans.specs.Taking.{PlaneTaken};
 
 use histograms::Measures;
 use planes::Shape;
-
-// What a search finds.
-#[derive(Clone, Copy)]
-pub enum Found {
-    At(usize),
-    Nothing,
-}
+use rows::Grid;
 
 // The first pixel that has the code, in reading order from the pixel `from` on.
-pub fn next_pixel(marks: &[u8], shape: Shape, inverse: u64, code: u8, from: usize) -> Found
-    requires { Searchable marks.now shape inverse from }
-    ensures { NextPixel marks.now code from (pixels shape) (found_reply result) }
+pub fn next_pixel(marks: &[u8], grid: Grid, code: u8, from: usize) -> Option<usize>
+    requires { Searchable marks.now grid.shape from }
+    ensures { NextPixel marks.now code from (pixels grid.shape) (found_reply result) }
 {
-    let w = shape.w;
-    let h = shape.h;
-    let n = shape.pixels();
-    let mut at = n;
-    let top = rows::row_of(from, w, inverse);
+    let w = grid.shape.w;
+    let h = grid.shape.h;
+    let mut found = None;
+    let top = grid.row_of(from);
     let mut first = from - top * w;
     'search: for y in top..h {
         let row = y * w;
         for x in rows::skip(marks, row + first, row + w, code) - row..w {
             let p = row + x;
             if marks[p] == code {
-                at = p;
+                found = Some(p);
                 break 'search;
             }
         }
         first = 0;
     }
-    if at < n {
-        Found::At(at)
-    } else {
-        Found::Nothing
-    }
+    found
 }
 
 // Takes all pixels of the plane in reading order, whatever their marks are: the marks become 0, and entry k of the
 // queue is k. Tells their number, their least and their greatest value. Where they all had one code, this is the flood
 // of their one component, but for the counts.
+#[tactic(auto, using(crate::proofs::Taking::plane_taken))]
 pub fn take_plane(plane: &[u8], marks: &mut [u8], queue: &mut [u32], shape: Shape) -> Measures
     requires { Lent shape (length plane.now) (length marks.old) (length queue.old) }
     ensures { PlaneTaken (pixels shape) marks.old queue.old
         marks.new queue.new × Measured plane.now result }
 {
     let n = shape.pixels();
-    for k in 0..n {
-        marks[k] = 0;
-        queue[k] = k as u32;
+    marks[..n].fill(0);
+    for (k, q) in queue[..n].iter_mut().enumerate() {
+        *q = k as u32;
     }
     histograms::measure(plane)
 }
