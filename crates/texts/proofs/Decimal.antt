@@ -9,6 +9,8 @@ use mathlib.Mathlib.Data.Bool.Basic.{and_elim_left, and_elim_right, and_intro}
 use native.Mathlib.Nat.{pow-suc, mod-eq_of_lt}
 use native.Mathlib.Omega.{arith}
 use lib.ListN.{length, length-append}
+use Rattle.std.specs.Prelude.{Option, None, Some, IfNone, IfSome}
+use Rattle.std.specs.Option.{unwrap_or}
 use borrow.Author.Tests.{lt-ltb, le-ltb, le-leb}
 use Rattle.planes.specs.Lists.{every, at}
 use Rattle.planes.proofs.Tests.{less_or_not}
@@ -125,8 +127,28 @@ decimal_numeral x h =
     record { digits = s.digits; present = s.present; few = s.few; value_is = s.value_is }
 
 -- how many digits there are
+pub decimal_few : (x : ℕ) → x < 1000000 → length (decimal x) ≤ 6
+decimal_few x h = (decimal_spelled x h).few
+
 pub length_one : (x : ℕ) → x < 10 → length (decimal x) ≡ 1
 length_one x h = ap length (decimal_one x h)
 
 pub length_more : (x : ℕ) → 10 ≤ x → x < 1000000 → length (decimal x) ≡ length (decimal (x / 10)) + 1
 length_more x least most = ap length (decimal_more x least most) ∙ length-append (decimal (x / 10)) ((48 + x % 10) ∷ [])
+
+-- by the whole part of the logarithm
+length_by_log : (k x : ℕ) → 10 ^ k ≤ x → x < 10 * 10 ^ k → x < 1000000 → length (decimal x) ≡ k + 1
+length_by_log zero x least below most = length_one x (omega arith)
+length_by_log (suc k) x least below most =
+    let power : 10 ^ suc k ≡ 10 ^ k * 10 = pow-suc 10 k in
+    let rest = length_by_log k (x / 10) (omega arith) (omega arith) (omega arith) in
+    omega (arith, length_more x (omega (arith, ten_le k)) most)
+  where
+    ten_le : (k : ℕ) → 1 ≤ 10 ^ k
+    ten_le zero = omega arith
+    ten_le (suc k) = omega (arith, ten_le k, pow-suc 10 k)
+
+pub length_of_log : (log : Option ℕ) (x : ℕ) → IfNone log (x ≡ 0) → IfSome log (λ k. 10 ^ k ≤ x)
+    → IfSome log (λ k. x < 10 * 10 ^ k) → x < 1000000 → unwrap_or log 0 + 1 ≡ length (decimal x)
+length_of_log None x none least below most = sym (length_one x (omega (arith, none)))
+length_of_log (Some k) x none least below most = sym (length_by_log k x least below most)

@@ -29,3 +29,6 @@ put_last {output} {output'} {at} {r} x large most room tenth =
     let digit = put_byte output' r (48 + x % 10) (omega arith) in
     let both = put_more tenth digit (omega arith) in
     subst (λ (s : List ℕ). Put output at s (r + 1) (set output' r (48 + x % 10))) (sym (decimal_more x large most)) both
+
+-- what finds that the digits are put one by one
+pub ruleset digit_by_digit = (put_one, put_last, length_one, length_more)

@@ -1,16 +1,14 @@
 -- What a call that writes bytes into a lent output answers and leaves. Definitions only.
 --
---   written_reply   the reply of each case of what it answers
+--   written_reply   the reply of its result
 --   WritingOutcome  the contract of writing some bytes, or of the refusal: its answer, and the output after it
-use Rattle.std.specs.Prelude.{ℕ, ◌≡◌, List, [], ◌∷◌, length}
-use Rattle.planes.specs.Replies.{Reply, refuses, gives, replied, after, overwritten}
-use Rattle.texts.specs.declared.Written.{Written}
-use Rattle.texts.specs.declared.Written.TheVariants.{Refused, Length}
+use Rattle.std.specs.Prelude.{ℕ, ◌≡◌, List, [], ◌∷◌, length, Result}
+use Rattle.planes.specs.declared.refusal.Refusal.{Refusal}
+use Rattle.planes.specs.Replies.{Reply, reply_of, replied, after, overwritten}
 
--- the requirements' number for the case of a refusal, and the length written for the other
-abbrev pub written_reply : Written → Reply
-written_reply (Refused k) = refuses k
-written_reply (Length size) = gives (size ∷ [])
+-- the refusal's number, or the length written
+abbrev pub written_reply : Result ℕ Refusal → Reply
+written_reply = reply_of (λ n. n ∷ [])
 
 -- the output has the bytes from its beginning on, and beyond them what it had; a refusal changes nothing
 pub record WritingOutcome (number : ℕ) (bytes output : List ℕ) (reply : Reply) (output' : List ℕ) : Type 0 where

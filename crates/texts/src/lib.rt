@@ -1,6 +1,5 @@
 // ASCII text put into an output: bytes, decimal numbers, and the heading of a P6 frame.
 //
-// Written          the answer of a call that writes into an output
 // heading_length   how many bytes a heading has
 // put_bytes        bytes into an output that has room for them, from a place on; the place after them
 // put_number       the decimal digits of a number, likewise
@@ -12,31 +11,17 @@ ghost use Rattle.texts.specs.Ascii.{decimal};
 ghost use Rattle.texts.specs.Placing.{Put};
 ghost use Rattle.texts.specs.Heading.{heading};
 
-// The answer of a call that writes into an output: the number of bytes written, or the refusal's number.
-#[derive(Clone, Copy)]
-pub enum Written {
-    Refused(u8),
-    Length(usize),
-}
-
 // How many digits a number below 10,000 has.
+#[tactic(auto, using(crate::proofs::Decimal::length_of_log))]
 fn digits_of(x: usize) -> usize
     requires { x < 10000 }
     ensures { result ≡ length (decimal x) }
 {
-    if x < 10 {
-        return 1;
-    }
-    if x < 100 {
-        return 2;
-    }
-    if x < 1000 {
-        return 3;
-    }
-    4
+    x.checked_ilog10().unwrap_or(0) as usize + 1
 }
 
 // How many bytes the heading for sides below 10,000 has.
+#[tactic(auto, using(crate::proofs::Heading::lengths))]
 pub fn heading_length(w: usize, h: usize) -> usize
     requires { (w < 10000) × (h < 10000) }
     ensures { result ≡ length (heading w h) }
@@ -49,29 +34,29 @@ pub fn put_bytes(output: &mut [u8], at: usize, bytes: &[u8]) -> usize
     requires { at + length bytes.now ≤ length output.old }
     ensures { Put output.old at bytes.now result output.new }
 {
-    let mut i = 0;
-    while i < bytes.len() {
-        output[at + i] = bytes[i];
-        i += 1;
-    }
-    at + i
+    let end = at + bytes.len();
+    output[at..end].copy_from_slice(bytes);
+    end
 }
 
-// Writes the digits of x into `output` from `at` on, and answers the place after them. The code of 0 is 48.
+// Writes the digits of x into `output` from `at` on, and answers the place after them. They are put by hand, as no
+// contract says which bytes std's `write!` stores in a slice.
+#[tactic(auto, using(crate::proofs::Digits::digit_by_digit))]
 pub fn put_number(output: &mut [u8], at: usize, x: usize) -> usize
     requires { (x < 1000000) × (at + length (decimal x) ≤ length output.old) }
     ensures { Put output.old at (decimal x) result output.new }
 {
     if x < 10 {
-        output[at] = (48 + x) as u8;
+        output[at] = b'0' + x as u8;
         return at + 1;
     }
     let last = put_number(output, at, x / 10);
-    output[last] = (48 + x % 10) as u8;
+    output[last] = b'0' + (x % 10) as u8;
     last + 1
 }
 
 // Writes the heading at the beginning of `output`, and answers the place after it, where the raster begins.
+#[tactic(auto, using(crate::proofs::Heading::room))]
 pub fn put_heading(output: &mut [u8], w: usize, h: usize) -> usize
     requires { ((w < 1000000) × (h < 1000000)) × (length (heading w h) ≤ length output.old) }
     ensures { Put output.old 0 (heading w h) result output.new }
