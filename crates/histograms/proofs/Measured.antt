@@ -9,8 +9,8 @@ use mathlib.Mathlib.Data.Bool.Basic.{and_elim_left, and_elim_right}
 use native.Mathlib.Nat.{le_antisymm, min-le_left, not-suc-le-zero, le_of_suc-le-suc}
 use native.Mathlib.Omega.{arith}
 use native.Mathlib.Numerals.{add-one}
-use lib.ListN.{length, set, take, length-set, length-map, length-take, length-append}
-use lib.Seq.{length-take-le, take-suc}
+use lib.ListN.{length, set, take, length-set, length-map, length-take}
+use lib.Seq.{take-suc}
 use lib.Dec.{eqb}
 use borrow.Author.Tests.{eq-eqb, ne_eqb, eqb-true}
 use Rattle.planes.specs.Lists.{every, count, at}
@@ -63,26 +63,30 @@ tally_few {vs} v t = omega (arith, t.entry v, count_le (eqb v) vs)
 take_more : (vs : List ℕ) (i : ℕ) → i < length vs → take (i + 1) vs ≡ take i vs ++ (at vs i ∷ [])
 take_more vs i lt = rw (add-one, take-suc vs i 0 lt)
 
-pub measured_first : (vs : List ℕ) → 1 ≤ length vs
-    → Measured (take 1 vs) (record { size = 1; least = at vs 0; greatest = at vs 0 })
-measured_first vs some =
-    rw (take_more vs 0 some) (record { size = refl; least_is = refl; greatest_is = omega arith })
+pub tally_taken : (vs : List ℕ) (i v : ℕ) {counts : List ℕ} → Tally (take i vs) counts → i < length vs → v ≡ at vs i
+    → v < 256 → Tally (take (i + 1) vs) (set counts v (at counts v + 1))
+tally_taken vs i v t lt is small = rw (take_more vs i lt, sym is) (tally_snoc v t small)
 
-pub measured_more : (vs : List ℕ) (i : ℕ) {c : Measures} {l g : ℕ} → 1 ≤ i → i < length vs → Measured (take i vs) c
-    → l ≡ min c.least (at vs i) → g ≡ max c.greatest (at vs i)
-    → Measured (take (i + 1) vs) (record { size = c.size + 1; least = l; greatest = g })
-measured_more vs i {c} some lt m low high =
-    let x = at vs i in
-    let begun : 1 ≤ length (take i vs) = omega (arith, length-take-le i vs (omega arith)) in
-    rw (take_more vs i lt) (record {
-      size = omega (arith, length-append (take i vs) (x ∷ []), m.size);
-      least_is = low ∙ ap (λ n. min n x) m.least_is ∙ sym (least_snoc (take i vs) x begun);
-      greatest_is = high ∙ ap (λ n. max n x) m.greatest_is ∙ sym (greatest_snoc (take i vs) x);
-    })
+pub tally_begun : (vs : List ℕ) (i v : ℕ) {counts : List ℕ} → Tally (take i vs) counts → at counts v ≤ i
+tally_begun vs i v t = omega (arith, tally_few v t, length-take i vs, min-le_left i (length vs))
 
-pub tally_taken : (vs : List ℕ) (i : ℕ) {counts : List ℕ} → Tally (take i vs) counts → i < length vs → at vs i < 256
-    → Tally (take (i + 1) vs) (set counts (at vs i) (at counts (at vs i) + 1))
-tally_taken vs i t lt small = rw (take_more vs i lt) (tally_snoc (at vs i) t small)
+-- the first value, and then a list's values one by one: the first counts once more
+pub least_taken : (x : ℕ) (vs : List ℕ) (i : ℕ) → i < length vs
+    → least (x ∷ take (i + 1) vs) ≡ min (least (x ∷ take i vs)) (at vs i)
+least_taken x vs i lt = ap (λ us. least (x ∷ us)) (take_more vs i lt) ∙ least_snoc (x ∷ take i vs) (at vs i) (omega arith)
+
+pub greatest_taken : (vs : List ℕ) (i : ℕ) → i < length vs
+    → greatest (take (i + 1) vs) ≡ max (greatest (take i vs)) (at vs i)
+greatest_taken vs i lt = ap greatest (take_more vs i lt) ∙ greatest_snoc (take i vs) (at vs i)
+
+pub least_whole : (vs : List ℕ) → 1 ≤ length vs → least (at vs 0 ∷ vs) ≡ least vs
+least_whole [] some = absurd (omega arith)
+least_whole (x ∷ []) some = omega arith
+least_whole (x ∷ y ∷ ys) some = omega arith
+
+pub greatest_whole : (vs : List ℕ) → 1 ≤ length vs → greatest (at vs 0 ∷ vs) ≡ greatest vs
+greatest_whole [] some = absurd (omega arith)
+greatest_whole (x ∷ xs) some = omega arith
 
 -- ## Values of a queue's pixels, one by one
 

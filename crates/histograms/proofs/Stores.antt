@@ -1,6 +1,6 @@
 -- What stores leave: entries filled one after another, and sums made in place. The invariant of each loop has a law for
 -- where it begins and one for a turn. Assumes nothing.
-use Prim.Native.Nat.{ℕ, ◌+◌, ◌-◌, ◌≤◌, ◌<◌}
+use Prim.Native.Nat.{ℕ, ◌+◌, ◌≤◌, ◌<◌}
 use mathlib.Core.Path.{◌≡◌, refl, sym, ap, ◌∙◌}
 use mathlib.Core.List.{List}
 use native.Mathlib.Omega.{arith}
@@ -56,19 +56,15 @@ summing_first a l = record {
   old = λ v h. refl;
 }
 
--- what is stored at v, after the sum before it
-pub summing_next : {a v : ℕ} {l l' : List ℕ} → Refilled (sum_to (at l) a) a v l l' → a < v
-    → at l' v + at l' (v - 1) ≡ sum_to (at l) a v
-summing_next {a} {v} {l} {l'} h av =
-    let next : v - 1 + 1 ≡ v = omega arith in
-    omega (
-      arith,
-      h.old v (λ _ g. omega arith),
-      h.new (v - 1) (omega arith) (omega arith),
-      sum_to_next (at l) {a = a} {v = v - 1} (omega arith),
-      ap (sum_to (at l) a) next,
-      ap (at l) next,
-    )
+-- what is stored after v, by the sum up to v
+pub summing_next : {a v : ℕ} {l l' : List ℕ} → Refilled (sum_to (at l) a) a (v + 1) l l' → a ≤ v
+    → at l' (v + 1) + at l' v ≡ sum_to (at l) a (v + 1)
+summing_next {a} {v} {l} {l'} h av = omega (
+  arith,
+  h.old (v + 1) (λ _ g. omega arith),
+  h.new v av (omega arith),
+  sum_to_next (at l) {a = a} {v = v} av,
+)
 
 -- all entries of [a, b] are sums
 pub summed_of : {a b : ℕ} {l l' : List ℕ} → Refilled (sum_to (at l) a) a (b + 1) l l' → SummedInPlace a b l l'

@@ -5,16 +5,17 @@
 // measure, histogram                    the measures and the counts of a plane
 // clear                                 counts of a component, zeroed
 // sum_up                                sums of counts, in place
+// refill                                entries of a table, each by its place
 // fill_same                             values that are kept, in a table
 // scale                                 a part of b - a, rounded
 // lesser, greater                       of two values
-// zero_range, nearest                   within
+// nearest                               within
 //
 // Counts are lent all 0, and cleared after use: those of the values of [least, greatest], for those of all others stay
 // 0. What clears or fills takes a slice, for an array that is lent as a slice is known to have all its entries.
 #![tactic(auto)]
 
-ghost use Rattle.std.specs.Prelude.{◌≡◌, [], ◌+◌, ◌^◌, ◌≤◌, ◌<◌, min, max, length};
+ghost use Rattle.std.specs.Prelude.{ℕ, ◌≡◌, [], ◌+◌, ◌^◌, ◌≤◌, ◌<◌, min, max, length};
 ghost use Rattle.planes.specs.Lists.{at};
 ghost use Rattle.planes.specs.Rounding.{rounded};
 ghost use Rattle.histograms.specs.Values.{sum_to, scaled};
@@ -22,7 +23,7 @@ ghost use Rattle.histograms.specs.Histograms.{Measured, Tally, Refilled};
 ghost use Rattle.histograms.specs.Sums.{SummedInPlace};
 
 // What is known of a component: the number of its pixels, its least and its greatest value.
-#[derive(Clone, Copy)]
+#[derive(Clone, Copy, Debug, PartialEq, Eq)]
 pub struct Measures {
     pub size: usize,
     pub least: u8,
@@ -44,22 +45,19 @@ pub fn greater(x: u8, y: u8) -> u8
 }
 
 // The measures of all values of a plane.
+#[tactic(auto, using(crate::proofs::Measured::least_taken, crate::proofs::Measured::greatest_taken))]
 pub fn measure(plane: &[u8]) -> Measures
     requires { (1 ≤ length plane.now) × (length plane.now ≤ 1048576) }
     ensures { Measured plane.now result }
 {
-    let size = plane.len();
     let mut least = plane[0];
     let mut greatest = least;
-    let mut i = 1;
-    while i < size {
-        let v = plane[i];
-        least = lesser(least, v);
-        greatest = greater(greatest, v);
-        i += 1;
+    for v in plane {
+        least = least.min(*v);
+        greatest = greatest.max(*v);
     }
     Measures {
-        size,
+        size: plane.len(),
         least,
         greatest,
     }
@@ -70,24 +68,8 @@ pub fn histogram(plane: &[u8], counts: &mut [u32; 256])
     requires { Tally [] counts.old × (length plane.now ≤ 1048576) }
     ensures { Tally plane.now counts.new }
 {
-    let n = plane.len();
-    let mut i = 0;
-    while i < n {
-        let v = plane[i] as usize;
-        counts[v] += 1;
-        i += 1;
-    }
-}
-
-// Zeroes the counts from first to last.
-fn zero_range(counts: &mut [u32], first: usize, last: usize)
-    requires { (first ≤ last) × (last < length counts.old) }
-    ensures { Refilled (λ v. 0) first (last + 1) counts.old counts.new }
-{
-    let mut v = first;
-    while v <= last {
-        counts[v] = 0;
-        v += 1;
+    for value in plane {
+        counts[usize::from(*value)] += 1;
     }
 }
 
@@ -96,25 +78,34 @@ pub fn clear(counts: &mut [u32], c: Measures)
     requires { (c.least ≤ c.greatest) × (c.greatest < length counts.old) }
     ensures { Refilled (λ v. 0) c.least (c.greatest + 1) counts.old counts.new }
 {
-    let first = c.least as usize;
-    let last = c.greatest as usize;
+    let first = usize::from(c.least);
+    let last = usize::from(c.greatest);
     if first == last {
         counts[first] = 0;
-        return;
+    } else {
+        counts[first..=last].fill(0);
     }
-    zero_range(counts, first, last);
 }
 
 // Sums the counts of the values of [a, b], in place.
 pub fn sum_up(counts: &mut [u32; 256], a: u8, b: u8)
-    requires { (length counts.old ≡ 256) × ((a ≤ b) × (sum_to (at counts.old) a b < 4294967296)) }
+    requires { (a ≤ b) × (sum_to (at counts.old) a b < 2 ^ 32) }
     ensures { SummedInPlace a b counts.old counts.new }
 {
-    let end = b as usize + 1;
-    let mut v = a as usize + 1;
-    while v < end {
-        counts[v] += counts[v - 1];
-        v += 1;
+    for v in usize::from(a)..usize::from(b) {
+        counts[v + 1] += counts[v];
+    }
+}
+
+// Fills the entries from first to last, each by its place.
+pub fn refill<F: Fn(usize) -> u8>(table: &mut [u8], first: usize, last: usize, tone: F)
+    requires bounds { (first ≤ last) × (last < length table.old) }
+    requires callable { (v : ℕ) → first ≤ v → v ≤ last → F.pre tone v }
+    ensures { (f : ℕ → ℕ) → ((v y : ℕ) → first ≤ v → v ≤ last → F.post tone v y → y ≡ f v) →
+        Refilled f first (last + 1) table.old table.new }
+{
+    for v in first..=last {
+        table[v] = tone(v);
     }
 }
 
@@ -123,12 +114,7 @@ pub fn fill_same(table: &mut [u8], first: u8, last: u8)
     requires { (first ≤ last) × (last < length table.old) }
     ensures { Refilled (λ v. v) first (last + 1) table.old table.new }
 {
-    let end = last as usize + 1;
-    let mut v = first as usize;
-    while v < end {
-        table[v] = v as u8;
-        v += 1;
-    }
+    refill(table, usize::from(first), usize::from(last), |v| v as u8);
 }
 
 // x / y to nearest, halves upward.
@@ -140,11 +126,12 @@ fn nearest(x: u64, y: u64) -> u64
 }
 
 // a and the part x of y of b - a, rounded.
+#[tactic(auto, using(planes::proofs::Rounding::rounded_le))]
 pub fn scale(a: u8, b: u8, x: u64, y: u64) -> u8
     requires { (a ≤ b) × ((x ≤ y) × ((1 ≤ y) × (y < 2 ^ 40))) }
     ensures { result ≡ scaled a b x y }
 {
-    let d = (b - a) as u64;
+    let d = u64::from(b - a);
     let t = nearest(d * x, y);
     a + t as u8
 }

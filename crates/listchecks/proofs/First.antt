@@ -1,7 +1,7 @@
 -- The first of some refusals that applies, looked for along the list of them. Assumes nothing.
 --
---   Clear   none of the first ones applies
---   Seen    what the first ones come to
+--   Clear       none of the first ones applies
+--   clear_err   a result that hands on the first one that applies
 use Prim.Native.Nat.{ℕ, zero, suc, ◌+◌, ◌≤◌, ◌<◌, zero-le}
 use mathlib.Core.Path.{◌≡◌, refl, sym, ap, ◌∙◌}
 use mathlib.Core.List.{List, [], ◌∷◌}
@@ -10,8 +10,12 @@ use native.Mathlib.Omega.{arith}
 use lib.ListN.{length, drop, drop_of_length-le}
 use lib.Seq.{drop-cons}
 use Rattle.planes.specs.Lists.{at}
-use Rattle.planes.specs.Refusals.{◌▷◌}
-use Rattle.planes.proofs.Refusals.{▷_none, ▷_left, ▷_right, ▷_assoc}
+use Rattle.std.specs.Prelude.{Result}
+use Rattle.std.specs.Result.{IsErrAnd}
+use Rattle.std.proofs.lemmas.Result.{err_from_is_err_and}
+use Rattle.planes.specs.declared.refusal.Refusal.{Refusal}
+use Rattle.planes.specs.Refusals.{number, number_in, ◌▷◌}
+use Rattle.planes.proofs.Refusals.{number_some, ▷_none, ▷_left, ▷_right}
 use Rattle.listchecks.specs.Refusals.{first_refusal}
 
 -- none of the first i refusals applies
@@ -44,27 +48,11 @@ clear_each [] e i h = absurd (omega arith)
 clear_each (k ∷ ks) e zero h = (▷_none k (first_refusal ks) e).0
 clear_each (k ∷ ks) e (suc i) h = clear_each ks (▷_none k (first_refusal ks) e).1 i (omega arith)
 
-pub ▷_zero : (x : ℕ) → x ▷ 0 ≡ x
-▷_zero zero = refl
-▷_zero (suc x) = refl
+-- ## Of results
 
--- the first i refusals come to k
-pub record Seen (ks : List ℕ) (i k : ℕ) : Type 0 where
-  pub upto : i ≤ length ks
-  pub same : k ▷ first_refusal (drop i ks) ≡ first_refusal ks
-
-pub seen_none : (ks : List ℕ) → Seen ks 0 0
-seen_none ks = record { upto = zero-le; same = refl }
-
-module _ {ks : List ℕ} {i k : ℕ} (seen : Seen ks i k) where
-  pub seen_more : i < length ks → Seen ks (i + 1) (k ▷ at ks i)
-  seen_more h =
-      let e : drop i ks ≡ at ks i ∷ drop (i + 1) ks = rw add-one (drop-cons ks i 0 h) in
-      record {
-        upto = omega arith;
-        same = ▷_assoc k (at ks i) (first_refusal (drop (i + 1) ks)) ∙ sym (ap (λ (l : List ℕ). k ▷ first_refusal l) e)
-            ∙ seen.same;
-      }
-
-  pub seen_all : length ks ≤ i → k ≡ first_refusal ks
-  seen_all h = sym (▷_zero k) ∙ sym (ap (λ (l : List ℕ). k ▷ first_refusal l) (drop_of_length-le ks h)) ∙ seen.same
+-- the refusal that the test at index i answers is the first
+pub clear_err : {A : Type 0} (r : Result A Refusal) (d : Refusal) {ks : List ℕ} {i : ℕ} → IsErrAnd r (λ e. e ≡ d)
+    → Clear ks i → i < length ks → number d ≡ at ks i → number_in r ≡ first_refusal ks
+clear_err r d h clear l e =
+    let (z, is, same) = err_from_is_err_and r h in
+    rw is (ap number same ∙ e ∙ clear_stop clear l (λ n. number_some d (e ∙ n)))

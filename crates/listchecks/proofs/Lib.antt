@@ -1,3 +1,4 @@
 pub mod First
 pub mod Refusals
 pub mod Examples
+pub mod Records

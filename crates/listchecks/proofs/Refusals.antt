@@ -6,14 +6,16 @@
 --   accepted_list     a list that is not refused is read, and its passes are not refused
 --   encoded_refusal   passes that are written, in either edition, meet with the refusal that they meet with in memory
 --   places_second     version 2 has a place for every pass
---   places_length, places_at, place_told   the refusals of a list's passes by their places, one for each
-use Prim.Native.Nat.{ℕ, ◌≤◌, ◌<◌}
+--   passes_at, passes_length   the refusals of passes in memory
+--   places_length, places_at   the refusals of a list's passes by their places, one for each
+use Prim.Native.Nat.{ℕ, zero, suc, ◌≤◌, ◌<◌}
 use mathlib.Core.Path.{◌≡◌, refl, sym, ap, ap₂, subst, ◌∙◌}
 use mathlib.Core.Bool.{Bool, true, false, not, cond, ◌&&◌}
 use mathlib.Core.List.{List, [], ◌∷◌, map}
 use mathlib.Core.Option.{none, some}
 use mathlib.Mathlib.Data.Bool.Basic.{and_elim_left, and_elim_right, and_intro}
-use lib.ListN.{length, length-map}
+use native.Mathlib.Omega.{arith}
+use lib.ListN.{length, get_or, length-map}
 use lib.Dec.{ltb, eqb}
 use borrow.Author.Tests.{le-ltb, eq-eqb, not-true}
 use Rattle.planes.specs.Lists.{from, every, at}
@@ -26,11 +28,10 @@ use Rattle.model.specs.Runs.{All}
 use Rattle.listformat.specs.declared.Edition.{Edition}
 use Rattle.listformat.specs.declared.Edition.TheVariants.{Second}
 use Rattle.listformat.specs.Format.{edition_of, record_start, count_of, pass_here, passes_of, greatest_count}
-use Rattle.listformat.specs.Format.{malformed_at}
+use Rattle.listformat.specs.Format.{malformed_at, form_at, pass_at}
 use Rattle.listformat.specs.Format.{well, head_refusal, decode, encode, Storable}
 use Rattle.listformat.proofs.Format.{headed, decoded, length_passes_of, head_encode, passes_encode}
-use Rattle.listchecks.specs.declared.Record.{Record}
-use Rattle.listchecks.specs.Refusals.{first_refusal, record_at, record_refusal, record_refusals, list_refusal}
+use Rattle.listchecks.specs.Refusals.{first_refusal, record_refusal, record_refusals, list_refusal}
 use Rattle.listchecks.specs.Refusals.{passes_refusal, place_refusal, places_refusal}
 use Rattle.listchecks.proofs.First.{clear_each}
 
@@ -49,11 +50,13 @@ module _ (bs : List ℕ) where
   unfolding record_refusals
   records_at j h = all_at refusal_here (count_of bs) j h
 
-  -- a record that was read meets with its refusal
-  pub record_told : {found : Record} {j : ℕ} → found ≡ record_at bs j → j < count_of bs
-      → found.form ▷ numbers_refusal found.pass ≡ at (record_refusals bs) j
+  -- the refusal of a record, by where it starts
+  pub record_told : (j : ℕ) → j < count_of bs → {e : Edition} {i : ℕ} → e ≡ edition_of bs → i ≡ record_start e j
+      → form_at e bs i ▷ numbers_refusal (pass_at e bs i) ≡ at (record_refusals bs) j
   unfolding record_refusal
-  record_told {j = j} is h = ap (λ (r : Record). r.form ▷ numbers_refusal r.pass) is ∙ sym (records_at j h)
+  record_told j h {e} {i} d f =
+      let start : i ≡ record_start (edition_of bs) j = f ∙ ap (λ (e : Edition). record_start e j) d in
+      ap₂ (λ (e : Edition) (i : ℕ). form_at e bs i ▷ numbers_refusal (pass_at e bs i)) d start ∙ sym (records_at j h)
 
   -- a record that is not malformed meets with the refusal of its pass
   refusal-formed : (j : ℕ) → well bs j ≡ true → refusal_here j ≡ numbers_refusal (pass_here bs j)
@@ -155,7 +158,14 @@ module _ (e : Edition) (bs : List ℕ) where
       ap (λ (ks : List ℕ). at ks j) (compose (from 0 (count_of bs)))
       ∙ all_at (λ j. place_refusal e (pass_here bs j)) (count_of bs) j h
 
-  -- a pass that was read meets with its refusal
-  pub place_told : {found : Record} {j : ℕ} → found ≡ record_at bs j → j < count_of bs
-      → place_refusal e found.pass ≡ at places j
-  place_told {j = j} is h = ap (λ (r : Record). place_refusal e r.pass) is ∙ sym (places_at j h)
+-- ## Passes in memory
+
+-- the refusal of a pass, read by any pass past the end
+pub passes_at : (ss : List Pass) (i : ℕ) (d : Pass) → i < length ss
+    → at (map numbers_refusal ss) i ≡ numbers_refusal (get_or ss i d)
+passes_at [] i d h = absurd (omega arith)
+passes_at (s ∷ ss) zero d h = refl
+passes_at (s ∷ ss) (suc i) d h = passes_at ss i d (omega arith)
+
+pub passes_length : (ss : List Pass) → length (map numbers_refusal ss) ≡ length ss
+passes_length ss = length-map ss numbers_refusal

@@ -1,7 +1,6 @@
 -- The refusals of a list of passes, in a file and in memory, in order. 0 stands for "not refused". Definitions only.
 --
 --   first_refusal    the first of some refusals that applies
---   record_at        a record: 17 for its form, or 0, and its pass
 --   record_refusal   17, then 5 to 8, 18, 19, for one record
 --   list_refusal     of a list of bytes: its head, then its records in order
 --   count_refusal    16, by the number of passes in memory
@@ -15,17 +14,12 @@ use Rattle.model.specs.declared.Pass.{Pass}
 use Rattle.model.specs.Calls.{numbers_refusal}
 use Rattle.listformat.specs.declared.Edition.{Edition}
 use Rattle.listformat.specs.declared.Edition.TheVariants.{First, Second}
-use Rattle.listchecks.specs.declared.Record.{Record}
-use Rattle.listformat.specs.Format.{edition_of, record_start, count_of, pass_at, pass_here, greatest_count, form_at}
+use Rattle.listformat.specs.Format.{edition_of, record_start, count_of, pass_at, greatest_count, form_at}
 use Rattle.listformat.specs.Format.{head_refusal}
 
 abbrev pub first_refusal : List ℕ → ℕ
 first_refusal [] = 0
 first_refusal (k ∷ ks) = k ▷ first_refusal ks
-
--- record j: the refusal of its form, and the pass that it stands for where there is none
-abbrev pub record_at : List ℕ → ℕ → Record
-record_at bs j = record { form = form_at (edition_of bs) bs (record_start (edition_of bs) j); pass = pass_here bs j }
 
 -- 17, then the refusals of the pass's numbers, for the record that starts at index i
 unfoldable pub record_refusal : Edition → List ℕ → ℕ → ℕ

@@ -1,26 +1,6 @@
--- `histograms::fill_same` meets its contract. The invariant: the entries from first to below v are the values
--- themselves. The measure is what is left up to last. Assumes nothing.
-use Prim.Native.Nat.{◌+◌}
-use mathlib.Core.Path.{◌≡◌, refl}
-use Rattle.histograms.proofs.Stores.{refilled_none, refilled_more}
-use native.Mathlib.Omega.{arith}
+-- `histograms::fill_same` meets its contract. Assumes nothing.
+use Rattle.std.proofs.Common.{rules}
 use Rattle.histograms.proofs.fill_same.Goals as goal
 
-pub loop-v-init : goal.loop-v-init
-loop-v-init c = (omega arith, (omega arith, refilled_none _))
-
-pub bounds-table-v : goal.bounds-table-v
-bounds-table-v c = omega (arith, c.loop-v.invariant.1.1.size)
-
-pub loop-v-preserved : goal.loop-v-preserved
-loop-v-preserved c =
-    let inv = c.loop-v.invariant in
-    (omega arith, (omega arith, refilled_more inv.1.1 inv.0 (omega arith) refl))
-
-pub shape_of-table : goal.shape_of-table
-shape_of-table c = c.loop-v.invariant.1.1.size
-
 pub returns : goal.returns
-returns c =
-    let end : c.loop-v.v ≡ c.args.last + 1 = omega arith in
-    rw end at c.loop-v.invariant.1.1
+returns c = rw (c.from.ensures, c.from-2.ensures) at (c.refill.ensures (λ v. v) (λ v y fv vl p. search rules))

@@ -1,15 +1,13 @@
--- `histograms::measure` meets its contract. The invariant: the measures are those of the plane's first i values. The
--- measure is what is left of the plane. Assumes nothing.
-use Prim.Native.Nat.{◌-◌, ◌≤◌}
-use lib.ListN.{length, take}
-use Rattle.histograms.specs.Histograms.{Measured}
+-- `histograms::measure` meets its contract: the least and the greatest are those of the plane's values so far, and of
+-- the first. Assumes nothing.
+use lib.ListN.{take}
+use Rattle.planes.specs.Lists.{at}
+use mathlib.Core.List.{◌∷◌}
+use mathlib.Core.Path.{◌≡◌}
+use Rattle.histograms.specs.Values.{least, greatest}
 use Rattle.histograms.proofs.measure.Given as goal
 
-abbrev pub invariant-loop-i : goal.invariant-loop-i
-invariant-loop-i l =
-    ((1 ≤ l.i) × (l.i ≤ length l.plane))
-    × Measured (take l.i l.plane) (record { size = l.i; least = l.least; greatest = l.greatest })
-
-abbrev pub decreases-loop-i : goal.decreases-loop-i
-decreases-loop-i l =
-    length l.plane - l.i
+abbrev pub invariant-loop-v : goal.invariant-loop-v
+invariant-loop-v l =
+    let vs = at l.plane 0 ∷ take l.v-index l.plane in
+    record { least_is : l.least ≡ least vs; greatest_is : l.greatest ≡ greatest vs }
