@@ -5,7 +5,7 @@ use mathlib.Core.Bool.{Bool, true, false, false≢true, cond}
 use mathlib.Mathlib.Data.Bool.Basic.{and_elim_left, and_elim_right}
 use native.Mathlib.Omega.{arith}
 use lib.Dec.{leb}
-use borrow.Author.Tests.{leb-true, eqb-true, le-leb, lt-leb, ne_eqb}
+use borrow.Author.Tests.{leb-true, eqb-true, le-leb, lt-leb, ne_eqb, eq-eqb}
 use Rattle.texts.specs.Ascii.{is_digit}
 use Rattle.gaps.specs.Bytes.{is_white, is_sign, move_for}
 use Rattle.gaps.specs.declared.Move.{Move}
@@ -117,3 +117,6 @@ module _ (b : ℕ) where
       go false true u d w n h = let clash : ◌≡◌ {A = ℕ} 0 1 = cc in absurd (omega arith)
       go false false true d w n h = let clash : ◌≡◌ {A = ℕ} 0 1 = cc in absurd (omega arith)
       go false false false d w n h = record { no_digit = d; no_white = w; no_sign = n }
+
+-- what finds the tests of a byte
+pub ruleset tests = (le-leb, lt-leb, ne_eqb, eq-eqb)
