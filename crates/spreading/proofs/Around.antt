@@ -13,7 +13,7 @@ use native.Mathlib.Omega.{arith}
 use lib.Arith.{digits_div}
 use Rattle.planes.specs.Lists.{at}
 use Rattle.planes.specs.Neighbours.{four, eight}
-use Rattle.planes.specs.Shapes.{pixels, neighbours, Narrower}
+use Rattle.planes.specs.Shapes.{pixels, neighbours, SizedShape, Narrower}
 use Rattle.planes.specs.declared.Shape.{Shape}
 use Rattle.planes.proofs.Tests.{less_or_not}
 use Rattle.planes.proofs.Neighbours.{down_of, right_of, up_of, four_sym, sides}
@@ -116,17 +116,15 @@ one_left {row} {p} L M = elim (less_or_not row p) [
 
 -- ## What the steps require
 
-module _ {marks queue : List ℕ} {z : Shape} {inverse code p tail : ℕ}
-    (S : Spreadable marks queue z inverse code p tail) where
+module _ {marks queue : List ℕ} {z : Shape} {code p tail : ℕ}
+    (S : Spreadable marks queue z code p tail) where
   -- pixels were taken meanwhile
   pub still_spreadable : {P : ℕ → Type 0} {tail' : ℕ} {marks' queue' : List ℕ}
-      → Taken P (pixels z) code marks queue tail marks' queue' tail' → Spreadable marks' queue' z inverse code p tail'
+      → Taken P (pixels z) code marks queue tail marks' queue' tail' → Spreadable marks' queue' z code p tail'
   still_spreadable T =
       let was = taken_was S.reachable.room T in
       record {
         reachable = record {
-          size = S.reachable.size;
-          inverse_is = S.reachable.inverse_is;
           inside = S.reachable.inside;
           off = λ e. S.reachable.off (was p e);
           room = taken_room S.reachable.room T;
@@ -134,11 +132,16 @@ module _ {marks queue : List ℕ} {z : Shape} {inverse code p tail : ℕ}
         shut = λ x e d. S.shut x e (was x d);
       }
 
+  -- p was begun already
+  pub begun_before : Begun z.w (pixels z) code marks p
+      → RunBegun z.w (pixels z) code p marks queue tail marks queue tail
+  begun_before B = record { reaches = none_yet; begun = B }
+
+module _ {marks queue : List ℕ} {z : Shape} {code p tail : ℕ} (size : SizedShape z)
+    (S : Spreadable marks queue z code p tail) where
   -- a pixel that is p or next to it in its row has not the code
-  pub beside_reachable : {s : ℕ} → (s ≡ p) ⊎ NextTo z.w (p % z.w) p s → Reachable marks queue z inverse code s tail
+  pub beside_reachable : {s : ℕ} → (s ≡ p) ⊎ NextTo z.w (p % z.w) p s → Reachable marks queue z code s tail
   beside_reachable {s} l = record {
-    size = S.reachable.size;
-    inverse_is = S.reachable.inverse_is;
     inside = inside l;
     off = off l;
     room = S.reachable.room;
@@ -149,12 +152,12 @@ module _ {marks queue : List ℕ} {z : Shape} {inverse code p tail : ℕ}
       inside (inr (inl e)) =
           let d = e.0 in
           let h = e.1 in
-          omega (arith, row_ends z S.reachable.size p S.reachable.inside, div-add-mod' p z.w)
+          omega (arith, row_ends z size p S.reachable.inside, div-add-mod' p z.w)
       inside (inr (inr e)) = let d = e.0 in omega (arith, S.reachable.inside)
 
       off : (s ≡ p) ⊎ NextTo z.w (p % z.w) p s → at marks s ≡ code → ⊥
       off (inl e) d = S.reachable.off (sym (ap (at marks) e) ∙ d)
-      off (inr e) d = S.shut s (next-in-row z.w S.reachable.size.wide p s e) d
+      off (inr e) d = S.shut s (next-in-row z.w size.wide p s e) d
 
   abbrev w : ℕ
   w = z.w
@@ -163,7 +166,7 @@ module _ {marks queue : List ℕ} {z : Shape} {inverse code p tail : ℕ}
   n = pixels z
 
   wide : 1 ≤ w
-  wide = S.reachable.size.wide
+  wide = size.wide
 
   -- ## By four neighbours
 
@@ -193,10 +196,6 @@ module _ {marks queue : List ℕ} {z : Shape} {inverse code p tail : ℕ}
     -- what was clear stays so
     still-clear : (q : ℕ) → Clear w n code marks₁ q → Clear w n code marks₂ q
     still-clear q f x h e d = f x h e (taken_was (taken_room S.reachable.room K.taken) C.reaches.taken x d)
-
-  -- p was begun already
-  pub begun_before : Begun w n code marks p → RunBegun w n code p marks queue tail marks queue tail
-  begun_before B = record { reaches = none_yet; begun = B }
 
   -- the columns of the pixel left of p and of p itself were reached
   pub run_begun : {l tail₁ tail₂ : ℕ} {marks₁ queue₁ marks₂ queue₂ : List ℕ} → Left (p / w * w) p l

@@ -10,10 +10,10 @@ use native.Mathlib.Omega.{arith}
 use lib.Dec.{eqb}
 use borrow.Author.Tests.{eqb-true, eq-eqb}
 use Rattle.planes.specs.Lists.{at}
-use Rattle.planes.specs.Shapes.{pixels, Narrower}
+use Rattle.planes.specs.Shapes.{pixels, SizedShape, Narrower}
 use Rattle.planes.specs.declared.Shape.{Shape}
 use Rattle.planes.proofs.Tests.{or_cases, less_or_not}
-use Rattle.rows.specs.Rows.{in_row, row_end, Width}
+use Rattle.rows.specs.Rows.{in_row, row_end}
 use Rattle.rows.specs.Runs.{Room, Reached}
 use Rattle.spreading.specs.Spreads.{Above, Below, column, Reaches, ColumnReached, Reachable}
 use Rattle.spreading.proofs.Spreading.{Side, none_yet, may_reach, next_reach, now_was}
@@ -38,8 +38,8 @@ module _ (w p q : ℕ) where
 
 -- ## The two rows beside
 
-module _ {marks queue : List ℕ} {z : Shape} {inverse code q tail : ℕ}
-    (S : Reachable marks queue z inverse code q tail) where
+module _ {marks queue : List ℕ} {z : Shape} {code q tail : ℕ}
+    (size : SizedShape z) (S : Reachable marks queue z code q tail) where
   abbrev n : ℕ
   n = pixels z
 
@@ -62,26 +62,26 @@ module _ {marks queue : List ℕ} {z : Shape} {inverse code q tail : ℕ}
   ]
 
   -- what `reach` requires, for the pixel above and then for the one below
-  pub may_above : {a : ℕ} → Above z.w q a → Width z.w inverse × Room marks queue (row_end z.w a) code tail
-  may_above A = may_reach {near = in_row z.w} same_row S none_yet (side-above A)
+  pub may_above : {a : ℕ} → Above z.w q a → Room marks queue (row_end z.w a) code tail
+  may_above A = may_reach {near = in_row z.w} size same_row S none_yet (side-above A)
 
   module _ {a t₁ : ℕ} {m₁ q₁ : List ℕ} (A : Above z.w q a)
       (v₁ : Reached z.w code a marks queue tail m₁ q₁ t₁) where
     after-above : Reaches (column z.w) (in_row z.w) z.w n code q marks queue tail m₁ q₁ t₁
-    after-above = next_reach same_row S none_yet (side-above A) v₁
+    after-above = next_reach size same_row S none_yet (side-above A) v₁
 
-    pub may_below : {b : ℕ} → Below z.w n q b → Width z.w inverse × Room m₁ q₁ (row_end z.w b) code t₁
-    may_below B = may_reach same_row S after-above (side-below B)
+    pub may_below : {b : ℕ} → Below z.w n q b → Room m₁ q₁ (row_end z.w b) code t₁
+    may_below B = may_reach size same_row S after-above (side-below B)
 
     module _ {b t₂ : ℕ} {m₂ q₂ : List ℕ} (B : Below z.w n q b) (v₂ : Reached z.w code b m₁ q₁ t₁ m₂ q₂ t₂) where
       after-below : Reaches (column z.w) (in_row z.w) z.w n code q marks queue tail m₂ q₂ t₂
-      after-below = next_reach same_row S after-above (side-below B) v₂
+      after-below = next_reach size same_row S after-above (side-below B) v₂
 
       -- neither is left
       closed : (x : ℕ) → x < n → column z.w q x ≡ true → at m₂ x ≡ code → ⊥
       closed x h e d = elim (column_cases z.w q x e) [
         | inl f ↦ v₂.off (sym (ap (at m₂) (below-is f)) ∙ d)
-        | inr f ↦ v₁.off (sym (ap (at m₁) (above-is f)) ∙ now_was same_row S after-above (side-below B) v₂ x d)
+        | inr f ↦ v₁.off (sym (ap (at m₁) (above-is f)) ∙ now_was size same_row S after-above (side-below B) v₂ x d)
       ]
         where
           below-is : x ≡ q + z.w → x ≡ b

@@ -14,10 +14,10 @@ use Rattle.planes.specs.Neighbours.{Near, here}
 use Rattle.planes.specs.Shapes.{pixels, SizedShape, Narrower}
 use Rattle.planes.specs.declared.Shape.{Shape}
 use Rattle.planes.proofs.Tests.{less_or_not}
-use Rattle.rows.specs.Rows.{in_row, row_end, Width}
+use Rattle.rows.specs.Rows.{in_row, row_end}
 use Rattle.rows.specs.Codes.{Joined, Shut}
 use Rattle.rows.specs.Runs.{Room, Taken, none, Reached}
-use Rattle.rows.proofs.Rows.{row_end_le, width_of}
+use Rattle.rows.proofs.Rows.{row_end_le}
 use Rattle.rows.proofs.Codes.{alike_on}
 use Rattle.rows.proofs.Taken.{room_less, taken_kept, taken_room, taken_was, taken_map, taken_join}
 use Rattle.spreading.specs.Spreads.{column, JoinedBeyond, Reaches, ColumnReached, Reachable}
@@ -52,16 +52,13 @@ further {w = w} {tail' = tail'} R K more rows = record {
 pub row_ends : (z : Shape) → SizedShape z → (q : ℕ) → q < pixels z → row_end z.w q ≤ pixels z
 row_ends z size q h = row_end_le z.w (pixels z) q size.wide (mul-mod_right z.w z.h) h
 
-module _ {beside near : Near} {z : Shape} {inverse code p tail : ℕ} {marks queue : List ℕ}
-    (rows-near : Narrower (in_row z.w) near) (P : Reachable marks queue z inverse code p tail) where
+module _ {beside near : Near} {z : Shape} {code p tail : ℕ} {marks queue : List ℕ}
+    (size : SizedShape z) (rows-near : Narrower (in_row z.w) near) (P : Reachable marks queue z code p tail) where
   -- what `reach` requires
   pub may_reach : {q tail' : ℕ} {marks' queue' : List ℕ}
       → Reaches beside near z.w (pixels z) code p marks queue tail marks' queue' tail'
-      → Side beside (pixels z) p q → Width z.w inverse × Room marks' queue' (row_end z.w q) code tail'
-  may_reach {q} K S = (
-    width_of P.size P.inverse_is,
-    room_less (taken_room P.room K.taken) (row_end z.w q) (row_ends z P.size q S.below),
-  )
+      → Side beside (pixels z) p q → Room marks' queue' (row_end z.w q) code tail'
+  may_reach {q} K S = room_less (taken_room P.room K.taken) (row_end z.w q) (row_ends z size q S.below)
 
   -- ## A pixel was reached
 
@@ -88,13 +85,13 @@ module _ {beside near : Near} {z : Shape} {inverse code p tail : ℕ} {marks que
       joined = record {
         has = was q j.has;
         chain = alike_on (in_row z.w) near (row_end z.w q) (pixels z) code marks' marks
-            (row_ends z P.size q S.below) rows-near was here j.chain;
+            (row_ends z size q S.below) rows-near was here j.chain;
       };
     }
 
     now-taken : Taken (JoinedBeyond beside near (pixels z) marks code p) (pixels z) code marks' queue' tail'
         marks'' queue'' tail''
-    now-taken = taken_map (row_ends z P.size q S.below) beyond T.taken
+    now-taken = taken_map (row_ends z size q S.below) beyond T.taken
 
     pub now_was : (x : ℕ) → at marks'' x ≡ code → at marks' x ≡ code
     now_was = taken_was (taken_room P.room K.taken) now-taken
@@ -104,8 +101,8 @@ module _ {beside near : Near} {z : Shape} {inverse code p tail : ℕ} {marks que
 
 -- ## The pixels above and below a pixel s were reached
 
-module _ {near : Near} {z : Shape} {inverse code p tail : ℕ} {marks queue : List ℕ}
-    (rows-near : Narrower (in_row z.w) near) (P : Reachable marks queue z inverse code p tail)
+module _ {near : Near} {z : Shape} {code p tail : ℕ} {marks queue : List ℕ}
+    (rows-near : Narrower (in_row z.w) near) (P : Reachable marks queue z code p tail)
     {s tail' tail'' : ℕ} {marks' queue' marks'' queue'' : List ℕ}
     (K : Reaches near near z.w (pixels z) code p marks queue tail marks' queue' tail')
     (beyond : (x : ℕ) → column z.w s x ≡ true → near p x ≡ true)

@@ -17,9 +17,9 @@
 use Rattle.std.specs.Prelude.{ℕ, ◌+◌, ◌*◌, ◌/◌, ◌≤◌, ◌<◌, ◌≡◌, true, ◌||◌, List, eqb}
 use Rattle.planes.specs.Lists.{at}
 use Rattle.planes.specs.Neighbours.{Near, eight}
-use Rattle.planes.specs.Shapes.{pixels, SizedShape}
+use Rattle.planes.specs.Shapes.{pixels}
 use Rattle.planes.specs.declared.Shape.{Shape}
-use Rattle.rows.specs.Rows.{in_row, inverse_of}
+use Rattle.rows.specs.Rows.{in_row}
 use Rattle.rows.specs.Codes.{Joined, Shut}
 use Rattle.rows.specs.Runs.{Room, Taken}
 use Rattle.spreading.specs.declared.Front.{Front}
@@ -78,18 +78,15 @@ ColumnReached w = Spread (column w) (in_row w) w
 
 -- ## What the steps require
 
--- a plane whose shape is not refused, the inverse of its width, a pixel q of it that has not the code, and room for all
--- that have it
-pub record Reachable (marks queue : List ℕ) (z : Shape) (inverse code q tail : ℕ) : Type 0 where
-  pub size : SizedShape z
-  pub inverse_is : inverse ≡ inverse_of z.w
+-- a pixel q of a plane that has not the code, and room for all that have it
+pub record Reachable (marks queue : List ℕ) (z : Shape) (code q tail : ℕ) : Type 0 where
   pub inside : q < pixels z
   pub off : at marks q ≡ code → ⊥
   pub room : Room marks queue (pixels z) code tail
 
 -- the same of a taken pixel p, beside which none of its row has the code
-pub record Spreadable (marks queue : List ℕ) (z : Shape) (inverse code p tail : ℕ) : Type 0 where
-  pub reachable : Reachable marks queue z inverse code p tail
+pub record Spreadable (marks queue : List ℕ) (z : Shape) (code p tail : ℕ) : Type 0 where
+  pub reachable : Reachable marks queue z code p tail
   pub shut : Shut (in_row z.w) code marks p
 
 -- ## By eight neighbours

@@ -14,11 +14,11 @@ ghost use Rattle.planes.specs.Shapes.{pixels};
 ghost use Rattle.spreading.specs.Spreads.{Above, Below, Left, Right, Reachable, ColumnReached};
 ghost use Rattle.spreading.specs.Spreads.{Spreadable, Begun, RunBegun, SpreadOn};
 
-use planes::Shape;
+use rows::Grid;
 
 // The queue's tail, and the last pixel that was spread from or the one right of it: above and below it, and above and
 // below the pixel left of it, nothing is left that has the code. Before the first pixel, a number that is none.
-#[derive(Clone, Copy)]
+#[derive(Clone, Copy, Debug, PartialEq, Eq)]
 pub struct Front {
     pub tail: usize,
     pub reached: usize,
@@ -57,20 +57,19 @@ fn right(p: usize, end: usize) -> usize
 pub fn reach_column(
     marks: &mut [u8],
     queue: &mut [u32],
-    shape: Shape,
-    inverse: u64,
+    grid: Grid,
     code: u8,
     q: usize,
     tail: usize,
 ) -> usize
-    requires { Reachable marks.old queue.old shape inverse code q tail }
-    ensures { ColumnReached shape.w (pixels shape) code q
+    requires { Reachable marks.old queue.old grid.shape code q tail }
+    ensures { ColumnReached grid.shape.w (pixels grid.shape) code q
         marks.old queue.old tail marks.new queue.new result }
 {
-    let w = shape.w;
-    let n = shape.pixels();
-    let next = rows::reach(marks, queue, w, inverse, code, above(q, w), tail);
-    rows::reach(marks, queue, w, inverse, code, below(q, w, n), next)
+    let w = grid.shape.w;
+    let n = grid.shape.pixels();
+    let next = grid.reach(marks, queue, code, above(q, w), tail);
+    grid.reach(marks, queue, code, below(q, w, n), next)
 }
 
 // Where p is the first pixel of a run, takes the runs of the pixels above and below it and the pixel left of it that
@@ -78,24 +77,23 @@ pub fn reach_column(
 fn begin_run(
     marks: &mut [u8],
     queue: &mut [u32],
-    shape: Shape,
-    inverse: u64,
+    grid: Grid,
     code: u8,
     p: usize,
     row: usize,
     front: Front,
 ) -> usize
-    requires { Spreadable marks.old queue.old shape inverse code p front.tail
-        × ((row ≡ p / shape.w * shape.w)
-        × (p ≡ front.reached → Begun shape.w (pixels shape) code marks.old p)) }
-    ensures { RunBegun shape.w (pixels shape) code p
+    requires { Spreadable marks.old queue.old grid.shape code p front.tail
+        × ((row ≡ p / grid.shape.w * grid.shape.w)
+        × (p ≡ front.reached → Begun grid.shape.w (pixels grid.shape) code marks.old p)) }
+    ensures { RunBegun grid.shape.w (pixels grid.shape) code p
         marks.old queue.old front.tail marks.new queue.new result }
 {
     if p == front.reached {
         return front.tail;
     }
-    let next = reach_column(marks, queue, shape, inverse, code, left(p, row), front.tail);
-    reach_column(marks, queue, shape, inverse, code, p, next)
+    let next = reach_column(marks, queue, grid, code, left(p, row), front.tail);
+    reach_column(marks, queue, grid, code, p, next)
 }
 
 // Takes what is next to the pixel p by eight neighbours, which was taken with the run of its row: the runs of its
@@ -103,21 +101,20 @@ fn begin_run(
 pub fn spread(
     marks: &mut [u8],
     queue: &mut [u32],
-    shape: Shape,
-    inverse: u64,
+    grid: Grid,
     code: u8,
     p: usize,
     front: Front,
 ) -> Front
-    requires { Spreadable marks.old queue.old shape inverse code p front.tail
-        × (p ≡ front.reached → Begun shape.w (pixels shape) code marks.old p) }
-    ensures { SpreadOn shape.w (pixels shape) code p
+    requires { Spreadable marks.old queue.old grid.shape code p front.tail
+        × (p ≡ front.reached → Begun grid.shape.w (pixels grid.shape) code marks.old p) }
+    ensures { SpreadOn grid.shape.w (pixels grid.shape) code p
         marks.old queue.old front.tail marks.new queue.new result }
 {
-    let w = shape.w;
-    let row = rows::row_of(p, w, inverse) * w;
-    let next = begin_run(marks, queue, shape, inverse, code, p, row, front);
+    let w = grid.shape.w;
+    let row = grid.row_of(p) * w;
+    let next = begin_run(marks, queue, grid, code, p, row, front);
     let reached = right(p, row + w);
-    let tail = reach_column(marks, queue, shape, inverse, code, reached, next);
+    let tail = reach_column(marks, queue, grid, code, reached, next);
     Front { tail, reached }
 }
