@@ -3,11 +3,22 @@
 --   head_stands     the head is there
 --   record_begins   the record is one of no more than the greatest count
 --   record_stands   it stands in the list, and so do its fields
-use Rattle.std.proofs.Common.{◌≡◌, ℕ, ◌+◌, ◌<◌, ◌≤◌, List, length, sym, subst, arith}
+--   record_err, record_ok   the refusal that it meets with
+use Rattle.std.proofs.Common.{◌≡◌, ℕ, ◌+◌, ◌<◌, ◌≤◌, List, length, sym, ap, subst, ◌∙◌, arith}
+use Rattle.std.specs.Prelude.{Result}
+use Rattle.std.specs.Result.{IsErrAnd}
+use Rattle.planes.specs.Lists.{at}
+use Rattle.planes.specs.declared.refusal.Refusal.{Refusal}
+use Rattle.planes.specs.Refusals.{number, number_in}
+use Rattle.planes.proofs.Refusals.{refused_by, passed_first}
+use Rattle.model.specs.declared.Pass.{Pass}
+use Rattle.model.specs.Calls.{numbers_refusal}
 use Rattle.listformat.specs.declared.Edition.{Edition}
 use Rattle.listformat.specs.Format.{record_length, fields_length, head_length, record_start, count_of, edition_of}
-use Rattle.listformat.specs.Format.{greatest_count, head_refusal}
+use Rattle.listformat.specs.Format.{greatest_count, head_refusal, form_at, pass_at}
 use Rattle.listformat.proofs.Format.{headed_long, record-inside, fields_within}
+use Rattle.listchecks.specs.Refusals.{record_refusals}
+use Rattle.listchecks.proofs.Refusals.{record_told}
 
 module _ (bs : List ℕ) (fine : head_refusal bs ≡ 0) where
   pub head_stands : head_length ≤ length bs
@@ -25,5 +36,21 @@ module _ (bs : List ℕ) (fine : head_refusal bs ≡ 0) where
       (subst (λ (e : Edition). record_start e j + record_length e ≤ length bs) (sym d) whole) in
       (omega (arith, inside, fields_within e), inside)
 
+-- the refusal of record j, where its form is refused and where it is not
+pub record_err : {A : Type 0} (bs : List ℕ) (j : ℕ) (r : Result A Refusal) (d : Refusal) (e : Edition) (i : ℕ)
+    → j < count_of bs → e ≡ edition_of bs → i ≡ record_start e j → IsErrAnd r (λ x. x ≡ d) → number d ≡ form_at e bs i
+    → number_in r ≡ at (record_refusals bs) j
+record_err bs j r d e i l edition start h form =
+    refused_by r d (form_at e bs i) (numbers_refusal (pass_at e bs i)) h form ∙ record_told bs j l edition start
+
+pub record_ok : (bs : List ℕ) (j n : ℕ) (p : Pass) (e : Edition) (i : ℕ) → j < count_of bs → e ≡ edition_of bs
+    → i ≡ record_start e j → 0 ≡ form_at e bs i → p ≡ pass_at e bs i → n ≡ numbers_refusal p
+    → n ≡ at (record_refusals bs) j
+record_ok bs j n p e i l edition start form pass same =
+    passed_first n (form_at e bs i) (numbers_refusal (pass_at e bs i)) form (same ∙ ap numbers_refusal pass)
+    ∙ record_told bs j l edition start
+
 -- what finds them
 pub ruleset record_there = (head_stands, record_begins, record_stands)
+
+pub ruleset record_first = (head_stands, record_begins, record_stands, record_ok)

@@ -72,7 +72,7 @@ pub fn pass_of(list: &[u8], j: usize) -> Pass
 }
 
 // 17, then 5 to 8, 18, 19, for record j of a list whose head is not refused.
-#[tactic(auto, using(crate::proofs::Records::record_there))]
+#[tactic(auto, using(crate::proofs::Records::record_first))]
 fn record_refusal(list: &[u8], j: usize) -> Result<(), Refusal>
     requires { (head_refusal list.now ≡ 0) × (j < count_of list.now) }
     ensures { number_in result ≡ at (record_refusals list.now) j }

@@ -1,6 +1,6 @@
 -- `listchecks::each_refusal` meets its contract: the refusals are looked for along the list of them. Assumes nothing.
 use Rattle.std.proofs.Common.{sym, arith}
-use Rattle.listchecks.proofs.First.{clear_none, clear_more, clear_err, clear_all}
+use Rattle.listchecks.proofs.First.{clear_more, clear_err, clear_all}
 use Rattle.listchecks.proofs.Refusals.{records_length}
 use Rattle.listchecks.proofs.each_refusal.Goals as goal
 

@@ -1,9 +1,7 @@
 -- `listchecks::passes_refusal` meets its contract: the refusals are looked for along the list of them. Assumes nothing.
-use Rattle.std.proofs.Common.{◌<◌, ◌≡◌, ℕ, length, sym, ◌∙◌, arith}
+use Rattle.std.proofs.Common.{sym, ◌∙◌, arith}
 use borrow.Author.Tests.{le-ltb}
-use Rattle.planes.specs.Refusals.{when}
-use Rattle.planes.proofs.Refusals.{passed_first}
-use Rattle.listchecks.proofs.First.{clear_none, clear_more, clear_err, clear_all}
+use Rattle.listchecks.proofs.First.{clear_more, clear_err}
 use Rattle.listchecks.proofs.Refusals.{passes_at, passes_length}
 use Rattle.listchecks.specs.Refusals.{passes_refusal}
 use Rattle.listchecks.proofs.passes_refusal.Goals as goal

@@ -1,9 +1,8 @@
 -- `listchecks::places_refusal` meets its contract: the refusals are looked for along the list of them. Assumes nothing.
-use Rattle.std.proofs.Common.{◌≡◌, ℕ, ◌<◌, sym, ap, ◌∙◌, arith}
-use Rattle.model.specs.declared.Pass.{Pass}
+use Rattle.std.proofs.Common.{◌<◌, sym, ap, ◌∙◌, arith}
 use Rattle.listformat.specs.Format.{count_of}
 use Rattle.listchecks.specs.Refusals.{place_refusal, places_refusal}
-use Rattle.listchecks.proofs.First.{clear_none, clear_more, clear_err, clear_all}
+use Rattle.listchecks.proofs.First.{clear_more, clear_err, clear_all}
 use Rattle.listchecks.proofs.Refusals.{places_length, places_at}
 use Rattle.listchecks.proofs.places_refusal.Goals as goal
 
