@@ -12,7 +12,7 @@
 // nearest                               within
 //
 // Counts are lent all 0, and cleared after use: those of the values of [least, greatest], for those of all others stay
-// 0. What clears or fills takes a slice, for an array that is lent as a slice is known to have all its entries.
+// 0. What clears or fills takes any slice that has the entries.
 #![tactic(auto)]
 
 ghost use Rattle.std.specs.Prelude.{ℕ, ◌≡◌, [], ◌+◌, ◌^◌, ◌≤◌, ◌<◌, min, max, length};
