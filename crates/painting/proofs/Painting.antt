@@ -1,9 +1,8 @@
--- Single steps of marking and painting: a pixel is marked; a pixel gets its new value and its next mark. Assumes
--- nothing.
+-- A single step of painting: a pixel gets its new value and its next mark. Assumes nothing.
 use Prim.Native.Nat.{ℕ, ◌+◌, ◌≤◌, ◌<◌}
 use mathlib.Core.Path.{◌≡◌, refl, sym, ap, subst, ◌∙◌}
 use mathlib.Core.Logic.{inl, inr}
-use mathlib.Core.Bool.{Bool, true, false, cond, ◌||◌, true≢false}
+use mathlib.Core.Bool.{Bool, true, false, true≢false}
 use mathlib.Core.List.{List}
 use native.Mathlib.Nat.{eq-or-lt_of_le}
 use native.Mathlib.Omega.{arith}
@@ -12,39 +11,10 @@ use lib.Dec.{leb, ltb}
 use borrow.Author.Tests.{leb-false, ltb-false}
 use Rattle.planes.specs.Lists.{at}
 use Rattle.planes.proofs.Tests.{or_none}
-use Rattle.planes.proofs.Lists.{beyond_refl}
 use Rattle.planes.proofs.Stores.{at_set}
-use Rattle.model.specs.declared.Pass.{Pass}
-use Rattle.model.specs.Passes.{within}
-use Rattle.painting.specs.Painting.{number, no_sides, joined, On, Clear, Marked, Painted}
+use Rattle.painting.specs.Painting.{number, no_sides, joined, On, Clear, Painted}
 use Rattle.painting.specs.declared.Next.{Next}
 use Rattle.painting.specs.declared.Sides.{Sides}
-
--- ## Marks
-
-pub marked_none : (s : Pass) (plane marks : List ℕ) → Marked s plane marks marks 0
-marked_none s plane marks = record {
-  bytes = λ p h. absurd (omega arith);
-  drawn = λ p h. absurd (omega arith);
-  rest = beyond_refl 0 marks;
-}
-
-pub marked_more : {s : Pass} {k v : ℕ} {plane marks marks' : List ℕ} → Marked s plane marks marks' k → k < length marks'
-    → at plane k < 256 → v ≡ cond (within s (at plane k)) 1 0 → Marked s plane marks (set marks' k v) (k + 1)
-marked_more {s} {k} {v} {plane} {marks} {marks'} M h b e = record {
-  bytes = λ p l. let l' : p ≤ k = omega arith in
-      elim (eq-or-lt_of_le l') [ inl q ↦ rw q b | inr q ↦ M.bytes p q ];
-  drawn = λ p l. at_set (λ (x : ℕ). x ≡ cond (within s (at plane p)) 1 0) marks' k p v h
-      (λ q. e ∙ ap (λ (j : ℕ). cond (within s (at plane j)) 1 0) (sym q))
-      (λ q. M.drawn p (omega (arith, q)));
-  rest = record {
-    size = simp length-set M.rest.size;
-    rest = λ p l. at_set (λ (x : ℕ). x ≡ at marks p) marks' k p v h
-        (λ q. absurd (omega arith)) (λ q. M.rest.rest p (omega arith));
-  };
-}
-
--- ## Painting
 
 pub painted_none : (f : ℕ → ℕ) (t : Next) (plane marks queue : List ℕ)
     → Painted f t plane marks queue plane marks 0 no_sides

@@ -2,6 +2,8 @@
 //
 // mark_section   marks a section's pixels
 // paint          gives the pixels of a component their new values and their next marks
+// Next           these marks, by the side of the middle that a value is on
+// Sides          the sides that values are on
 #![tactic(auto)]
 
 ghost use Rattle.std.specs.Prelude.{◌≡◌, cond, ◌≤◌, length};
@@ -54,8 +56,8 @@ pub fn mark_section(plane: &[u8], marks: &mut [u8], n: usize, pass: Pass)
     requires { (n ≤ length plane.now) × (n ≤ length marks.old) }
     ensures { Marked pass plane.now marks.old marks.new n }
 {
-    for (v, mark) in plane[..n].iter().zip(&mut marks[..n]) {
-        *mark = u8::from((pass.a..=pass.b).contains(v));
+    for (p, mark) in marks[..n].iter_mut().enumerate() {
+        *mark = u8::from((pass.a..=pass.b).contains(&plane[p]));
     }
 }
 
@@ -83,7 +85,8 @@ pub fn paint(
     let mut sides = Sides::none();
     for place in &queue[..m] {
         let p = *place as usize;
-        let v = table[usize::from(plane[p])];
+        let old = plane[p];
+        let v = table[usize::from(old)];
         plane[p] = v;
         marks[p] = next_mark(v, next);
         sides.low |= v <= next.mid;
