@@ -24,7 +24,7 @@ pub enum Move {
 
 // Header bytes sorted into digits, whitespace (TAB, LF, VT, FF and CR, which are 9 to 13, and space), the number sign,
 // which opens a comment, and the rest.
-#[tactic(auto, using(crate::proofs::Bytes::tests), unfolding(crate::specs::Bytes::move_for, crate::specs::Bytes::is_white, crate::specs::Bytes::is_sign, texts::specs::Ascii::is_digit))]
+#[tactic(auto, using(crate::proofs::Bytes::moves))]
 pub fn sorted(byte: u8) -> Move
     ensures { result ≡ move_for byte }
 {

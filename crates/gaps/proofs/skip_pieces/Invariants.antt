@@ -1,5 +1,5 @@
--- The invariant of `gaps::skip_pieces`: what the parser leaves of the rest is what it leaves of all. The measure is what
--- is left of the bytes: a whitespace byte and a comment both take some. Assumes nothing.
+-- The invariant of `gaps::skip_pieces`: what the parser leaves of the rest is what it leaves of all. The measure is
+-- what is left of the bytes: a whitespace byte and a comment both take some. Assumes nothing.
 use mathlib.Core.Path.{◌≡◌}
 use lib.ListN.{length}
 use Rattle.gaps.specs.Gaps.{pieces}
