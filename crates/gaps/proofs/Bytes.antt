@@ -118,6 +118,31 @@ module _ (b : ℕ) where
       go false false true d w n h = let clash : ◌≡◌ {A = ℕ} 0 1 = cc in absurd (omega arith)
       go false false false d w n h = record { no_digit = d; no_white = w; no_sign = n }
 
+-- ## The move by the tests
+
+  pub digit_move : is_digit b ≡ true → move_for b ≡ Take (b - 48)
+  unfolding move_for
+  digit_move e = rw e
+
+  pub white_move : is_white b ≡ true → move_for b ≡ Skip
+  unfolding move_for
+  white_move e = rw (white_not_digit b e, e)
+
+  -- what is not taken is no digit, and what is not skipped is not whitespace
+  pub not_taken : ((digit : ℕ) → move_for b ≡ Take digit → ⊥) → is_digit b ≡ false
+  not_taken h = go (is_digit b) refl
+    where
+      go : (t : Bool) → is_digit b ≡ t → t ≡ false
+      go true e = absurd (h (b - 48) (digit_move e))
+      go false e = refl
+
+  pub not_skipped : (move_for b ≡ Skip → ⊥) → is_white b ≡ false
+  not_skipped h = go (is_white b) refl
+    where
+      go : (t : Bool) → is_white b ≡ t → t ≡ false
+      go true e = absurd (h (white_move e))
+      go false e = refl
+
 -- ## What finds the move by the value of the byte
 
 pub move_is : (b : ℕ) → move_for b ≡ moved b (is_digit b) (is_white b) (is_sign b)
