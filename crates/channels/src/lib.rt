@@ -30,6 +30,7 @@ fn rounded_thirds() -> &'static [u8; 766]
 const PARTS: u32 = 67108864;
 
 // The inverses of 1 to 255, by which `nearest` multiplies, each at its index. Entry 0 is not used.
+#[derive(Debug, Drop)]
 pub struct Inverses {
     table: [u32; 256],
     ghost inverted: { Inverses table },

@@ -9,8 +9,11 @@ use Rattle.planes.specs.Refusals.{◌▷◌, length_refusal, output_refusal, siz
 use Rattle.planes.proofs.Refusals.{▷_none, ▷_both, ▷_assoc, length_fits, length_none, output_fits, output_none}
 use Rattle.planes.proofs.Refusals.{sized, sized_none}
 use Rattle.planes.specs.Replies.{Reply, gives, replied, after, overwritten}
-use Rattle.planes.proofs.Replies.{replied_gives, replied_refused, after_refused}
-use Rattle.colours.specs.declared.Status.TheVariants.{Done, Refused}
+use Rattle.planes.proofs.Replies.{replied_gives, replied_err, after_err, replied_ok, after_ok}
+use Rattle.std.specs.Prelude.{Ok, Err}
+use Rattle.planes.specs.declared.refusal.Refusal.{Refusal}
+use Rattle.planes.specs.Refusals.{number}
+use Rattle.planes.proofs.Refusals.{refused_by, passed_first}
 use Rattle.colours.specs.Frames.{intensity, recolour}
 use Rattle.colours.specs.Calls.{intensity_refusal, recolour_refusal, Accepted, status_reply}
 use Rattle.colours.specs.Calls.{IntensityOutcome, RecolourOutcome}
@@ -67,26 +70,22 @@ module _ (w h frame plane : ℕ) where
 
 -- ## Outcomes
 
--- a status that stands for no refusal is done, and gives no values
-pub done_reply_lem : (number : ℕ) → number ≡ 0 → status_reply Done ≡ replied number []
-done_reply_lem number e = ap (λ (k : ℕ). replied k []) (sym e)
-
 module _ (w h : ℕ) (frame plane : List ℕ) where
   abbrev filling : ℕ
   filling = intensity_refusal w h (length frame) (length plane)
 
-  pub intensity_refused : (k : ℕ) → (k ≡ 0 → ⊥) → k ≡ filling
-      → IntensityOutcome w h frame plane (status_reply (Refused k)) plane
-  intensity_refused k some e = record {
-    answer = sym (replied_refused k [] some) ∙ ap (λ (j : ℕ). replied j []) e;
-    plane_is = sym (after_refused k plane (intensity frame) some) ∙ ap (λ (j : ℕ). after j plane (intensity frame)) e;
+  pub intensity_refused : (r : Refusal) → number r ≡ filling
+      → IntensityOutcome w h frame plane (status_reply (Err r)) plane
+  intensity_refused r e = record {
+    answer = replied_err r filling [] e;
+    plane_is = after_err r filling plane (intensity frame) e;
   }
 
-  pub intensity_done : {plane' : List ℕ} → filling ≡ 0 → plane' ≡ intensity frame
-      → IntensityOutcome w h frame plane (status_reply Done) plane'
+  pub intensity_done : {plane' : List ℕ} → 0 ≡ filling → plane' ≡ intensity frame
+      → IntensityOutcome w h frame plane (status_reply (Ok tt)) plane'
   intensity_done e filled = record {
-    answer = done_reply_lem filling e;
-    plane_is = filled ∙ ap (λ (j : ℕ). after j plane (intensity frame)) (sym e);
+    answer = replied_ok filling [] e;
+    plane_is = filled ∙ after_ok filling plane (intensity frame) e;
   }
 
   -- a call that gives its values was not refused, and filled the plane
@@ -110,20 +109,20 @@ module _ (w h : ℕ) (frame plane output : List ℕ) where
   abbrev coloured : List ℕ
   coloured = overwritten output (recolour frame plane)
 
-  pub recolour_refused : (k : ℕ) → (k ≡ 0 → ⊥) → k ≡ colouring
-      → RecolourOutcome w h frame plane output (status_reply (Refused k)) output
-  recolour_refused k some e = record {
-    answer = sym (replied_refused k [] some) ∙ ap (λ (j : ℕ). replied j []) e;
-    output_is = sym (after_refused k output coloured some) ∙ ap (λ (j : ℕ). after j output coloured) e;
+  pub recolour_refused : (r : Refusal) → number r ≡ colouring
+      → RecolourOutcome w h frame plane output (status_reply (Err r)) output
+  recolour_refused r e = record {
+    answer = replied_err r colouring [] e;
+    output_is = after_err r colouring output coloured e;
   }
 
-  pub recolour_done : {output' : List ℕ} → colouring ≡ 0 → output' ≡ with_frame frame plane output
-      → RecolourOutcome w h frame plane output (status_reply Done) output'
+  pub recolour_done : {output' : List ℕ} → 0 ≡ colouring → output' ≡ with_frame frame plane output
+      → RecolourOutcome w h frame plane output (status_reply (Ok tt)) output'
   recolour_done e stored = record {
-    answer = done_reply_lem colouring e;
+    answer = replied_ok colouring [] e;
     output_is = stored
         ∙ ap (λ (k : ℕ). recolour frame plane ++ drop k output) (sym (length_recolour frame plane))
-        ∙ ap (λ (j : ℕ). after j output coloured) (sym e);
+        ∙ after_ok colouring output coloured e;
   }
 
   -- what a call that was not refused leaves: the recoloured frame, and beyond it what was there
@@ -133,3 +132,7 @@ module _ (w h : ℕ) (frame plane output : List ℕ) where
     o.answer ∙ ap (λ (j : ℕ). replied j []) none,
     o.output_is ∙ ap (λ (j : ℕ). after j output coloured) none,
   )
+
+-- ## What finds the contract of the tests of `recolour`
+
+pub ruleset in_order = (refused_by, passed_first, recolour_order, intensity_accepted)

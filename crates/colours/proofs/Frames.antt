@@ -10,9 +10,9 @@ use Rattle.planes.specs.Lists.{at}
 use Rattle.planes.proofs.Lists.{all_at, length_all}
 use Rattle.planes.proofs.Rounding.{rounded_in}
 use Rattle.planes.proofs.Tests.{less_or_not}
-use Rattle.channels.specs.Channels.{third, new_channel}
+use Rattle.channels.specs.Channels.{third, new_channel, new_pixel}
 use Rattle.channels.proofs.Channels.{channel_mono, channel_byte}
-use Rattle.colours.specs.Frames.{pixel_intensity, intensity, greatest_channel, new_channel_at, recolour}
+use Rattle.colours.specs.Frames.{red, green, blue, pixel_at, pixel_intensity, intensity, greatest_channel, new_channel_at, recolour}
 
 -- ## Intensity
 
@@ -63,6 +63,17 @@ module _ (frame plane : List ℕ) where
       ≡ new_channel (pixel_intensity frame i) (greatest_channel frame i) (at plane i) (at frame k)
   unfolding recolour
   recolour_at i k e h = rw e at (all_at (new_channel_at frame plane) (length frame) k h)
+
+  -- what the channels of pixel i become
+  pub recolour_pixel : (i : ℕ) → 3 * i + 2 < length frame
+      → pixel_at (recolour frame plane) i ≡ new_pixel (red frame i) (green frame i) (blue frame i) (at plane i)
+  unfolding pixel_intensity greatest_channel
+  recolour_pixel i h =
+      rw (
+        recolour_at i (3 * i) (omega arith) (omega arith),
+        recolour_at i (3 * i + 1) (omega arith) (omega arith),
+        recolour_at i (3 * i + 2) (omega arith) h,
+      )
 
   -- every number of the recoloured frame is in 0 to 255
   pub recolour_bytes : (k : ℕ) → at (recolour frame plane) k ≤ 255

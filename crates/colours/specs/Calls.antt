@@ -3,15 +3,14 @@
 --
 --   intensity_refusal  the number of the first refusal that applies, of 1, 2, 3; 0 where none does
 --   recolour_refusal   the same, of 1, 2, 3, 14
---   status_reply       the reply of each case of a status
+--   status_reply       the reply of a call's result
 --   IntensityOutcome   the contract of `intensity`
 --   RecolourOutcome    the contract of `recolour`
-use Rattle.std.specs.Prelude.{ℕ, ◌*◌, ◌≡◌, List, [], length}
+use Rattle.std.specs.Prelude.{ℕ, ◌*◌, ◌≡◌, List, [], length, Result}
+use Rattle.planes.specs.declared.refusal.Refusal.{Refusal}
 use Rattle.planes.specs.Refusals.{◌▷◌, length_refusal, output_refusal, size_refusal, greatest_pixels, Sized}
-use Rattle.planes.specs.Replies.{Reply, refuses, gives, replied, after, overwritten}
+use Rattle.planes.specs.Replies.{Reply, reply_of, replied, after, overwritten}
 use Rattle.colours.specs.Frames.{intensity, recolour}
-use Rattle.colours.specs.declared.Status.{Status}
-use Rattle.colours.specs.declared.Status.TheVariants.{Done, Refused}
 
 -- ## Refusals, by the lengths of what is lent
 
@@ -34,10 +33,9 @@ pub record Accepted (w h frame plane : ℕ) : Type 0 where
 
 -- ## Answers
 
--- the requirements' number for each case; a status that is done gives no values
-abbrev pub status_reply : Status → Reply
-status_reply (Refused k) = refuses k
-status_reply Done = gives []
+-- the refusal's number; a call that is done gives no values
+abbrev pub status_reply : Result (Unit {0}) Refusal → Reply
+status_reply = reply_of (λ x. [])
 
 -- ## Contracts
 

@@ -2,6 +2,7 @@
 -- A frame of n pixels is the list of its 3 × n channels R, G, B, pixel after pixel in reading order. Definitions only.
 --
 --   red, green, blue  the channels of a pixel
+--   pixel_at          all three
 --   pixel_intensity   I: the intensity of a pixel
 --   intensity         the plane of the intensities of a frame
 --   greatest_channel  M: the greatest channel of a pixel
@@ -10,6 +11,7 @@
 --   Grey              a frame whose pixels are all grey
 use Rattle.std.specs.Prelude.{ℕ, ◌+◌, ◌*◌, ◌/◌, max, ◌<◌, ◌≡◌, List, map, length}
 use Rattle.planes.specs.Lists.{from, at}
+use Rattle.channels.specs.declared.Pixel.{Pixel}
 use Rattle.channels.specs.Channels.{third, new_channel}
 
 -- ## Pixels of a frame
@@ -22,6 +24,9 @@ green frame i = at frame (3 * i + 1)
 
 abbrev pub blue : List ℕ → ℕ → ℕ
 blue frame i = at frame (3 * i + 2)
+
+abbrev pub pixel_at : List ℕ → ℕ → Pixel
+pixel_at frame i = record { red = red frame i; green = green frame i; blue = blue frame i }
 
 -- ## Intensity
 

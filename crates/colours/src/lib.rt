@@ -2,133 +2,114 @@
 //
 // intensity           fills a plane with the intensities of a frame
 // recolour            writes a frame, recoloured from a new plane, to an output
-// intensity_refusal   refusal 1, 2 or 3 for a frame and its plane, or 0
-//
-// Each call makes one copy of the tables that `channels` reads for a pixel.
+// intensity_refusal   refusal 1, 2 or 3 for a frame and its plane
 #![tactic(auto)]
 
-ghost use Rattle.std.specs.Prelude.{◌≡◌, ◌*◌, ◌<◌, length};
-ghost use Rattle.channels.specs.Channels.{thirds};
-ghost use Rattle.colours.specs.Frames.{intensity};
+ghost use Rattle.std.specs.Prelude.{◌≡◌, ◌+◌, ◌*◌, ◌≤◌, ◌<◌, length};
+ghost use Rattle.planes.specs.Refusals.{number_in};
+ghost use Rattle.colours.specs.Frames.{pixel_at, intensity};
 ghost use Rattle.colours.specs.Calls.{status_reply, intensity_refusal, recolour_refusal};
 ghost use Rattle.colours.specs.Calls.{IntensityOutcome, RecolourOutcome};
-ghost use Rattle.colours.specs.Steps.{Fitting, with_pixel, with_frame};
+ghost use Rattle.colours.specs.Steps.{with_pixel, with_frame};
 
-// What a call answers: that it is done, or the number of its refusal.
-#[derive(Clone, Copy)]
-pub enum Status {
-    Done,
-    Refused(u8),
+use channels::{Inverses, Pixel};
+use planes::Refusal;
+
+// Pixel i.
+fn pixel_at(frame: &[u8], i: usize) -> Pixel
+    requires { 3 * i + 2 < length frame.now }
+    ensures { result ≡ pixel_at frame.now i }
+{
+    Pixel {
+        red: frame[3 * i],
+        green: frame[3 * i + 1],
+        blue: frame[3 * i + 2],
+    }
+}
+
+// Stores the channels of pixel i.
+fn put_pixel(output: &mut [u8], i: usize, new: Pixel)
+    requires { 3 * i + 2 < length output.old }
+    ensures { output.new ≡ with_pixel new i output.old }
+{
+    output[3 * i] = new.red;
+    output[3 * i + 1] = new.green;
+    output[3 * i + 2] = new.blue;
 }
 
 // Stores the intensity of each pixel.
-fn fill_plane(table: &[u8; 766], frame: &[u8], plane: &mut [u8])
-    requires { (table.now ≡ thirds) × (length frame.now ≡ 3 * length plane.old) }
+#[tactic(auto, using(crate::proofs::Overwrite::filled), unfolding(crate::specs::Frames::pixel_intensity))]
+fn fill_plane(frame: &[u8], plane: &mut [u8])
+    requires { length frame.now ≡ 3 * length plane.old }
     ensures { plane.new ≡ intensity frame.now }
 {
-    let n = plane.len();
-    for i in 0..n {
-        let k = 3 * i;
-        plane[i] = channels::pixel_intensity(table, frame[k], frame[k + 1], frame[k + 2]);
+    for (i, v) in plane.iter_mut().enumerate() {
+        *v = pixel_at(frame, i).intensity();
     }
 }
 
-// 1, 2 or 3 for a frame and a plane of these lengths, or 0.
-pub fn intensity_refusal(w: usize, h: usize, frame: usize, plane: usize) -> u8
-    ensures { result ≡ intensity_refusal w h frame plane }
+// 1, 2 or 3 for a frame and a plane of these lengths.
+#[tactic(auto, using(planes::proofs::Refusals::by_size), unfolding(crate::specs::Calls::intensity_refusal))]
+pub fn intensity_refusal(w: usize, h: usize, frame: usize, plane: usize) -> Result<(), Refusal>
+    ensures { number_in result ≡ intensity_refusal w h frame plane }
 {
-    let size = planes::size_refusal(w, h, planes::PIXELS);
-    if size != 0 {
-        return size;
-    }
+    planes::size_refusal(w, h, planes::PIXELS)?;
     let n = w * h;
-    let pixels = planes::length_refusal(plane, n);
-    if pixels != 0 {
-        return pixels;
-    }
+    planes::length_refusal(plane, n)?;
     planes::length_refusal(frame, 3 * n)
 }
 
 // Fills the plane with the intensities of the frame.
-pub fn intensity(frame: &[u8], w: usize, h: usize, plane: &mut [u8]) -> Status
+#[tactic(auto, using(crate::proofs::Calls::intensity_accepted))]
+pub fn intensity(frame: &[u8], w: usize, h: usize, plane: &mut [u8]) -> Result<(), Refusal>
     ensures { IntensityOutcome w h frame.now plane.old (status_reply result)
         plane.new }
 {
-    let refusal = intensity_refusal(w, h, frame.len(), plane.len());
-    if refusal != 0 {
-        return Status::Refused(refusal);
-    }
-    let table = channels::rounded_thirds();
-    fill_plane(&table, frame, plane);
-    Status::Done
-}
-
-// Stores the three new channels of pixel i.
-fn recolour_pixel(
-    table: &[u8; 766],
-    inverses: &[u32; 256],
-    frame: &[u8],
-    plane: &[u8],
-    output: &mut [u8],
-    i: usize,
-)
-    requires { Fitting table.now inverses.now frame.now plane.now output.old × (i < length plane.now) }
-    ensures { output.new ≡ with_pixel frame.now plane.now i
-        output.old }
-{
-    let k = 3 * i;
-    let new = channels::recoloured(
-        table,
-        inverses,
-        frame[k],
-        frame[k + 1],
-        frame[k + 2],
-        plane[i],
-    );
-    output[k] = new.red;
-    output[k + 1] = new.green;
-    output[k + 2] = new.blue;
+    intensity_refusal(w, h, frame.len(), plane.len())?;
+    fill_plane(frame, plane);
+    Ok(())
 }
 
 // Stores the new channels of each pixel.
-fn recolour_frame(
-    table: &[u8; 766],
-    inverses: &[u32; 256],
-    frame: &[u8],
-    plane: &[u8],
-    output: &mut [u8],
-)
-    requires { Fitting table.now inverses.now frame.now plane.now output.old }
+#[tactic(auto, using(crate::proofs::Overwrite::recoloured))]
+fn recolour_frame(frame: &[u8], plane: &[u8], output: &mut [u8])
+    requires { (length frame.now ≡ 3 * length plane.now) × (length frame.now ≤ length output.old) }
     ensures { output.new ≡ with_frame frame.now plane.now output.old }
 {
-    let n = plane.len();
-    for i in 0..n {
-        recolour_pixel(table, inverses, frame, plane, output, i);
+    let inverses = Inverses::new();
+    for (i, j) in plane.iter().enumerate() {
+        put_pixel(output, i, pixel_at(frame, i).recoloured(&inverses, *j));
     }
 }
 
-// 1, 2, 3 or 14 for a frame, a plane and an output of these lengths, or 0.
-fn recolour_refusal(w: usize, h: usize, frame: usize, plane: usize, output: usize) -> u8
-    ensures { result ≡ recolour_refusal w h frame plane output }
+// 1, 2, 3 or 14 for a frame, a plane and an output of these lengths.
+#[tactic(auto, using(crate::proofs::Calls::in_order), unfolding(crate::specs::Calls::intensity_refusal, crate::specs::Calls::recolour_refusal))]
+fn recolour_refusal(
+    w: usize,
+    h: usize,
+    frame: usize,
+    plane: usize,
+    output: usize,
+) -> Result<(), Refusal>
+    ensures { number_in result ≡ recolour_refusal w h frame plane output }
 {
-    let refusal = intensity_refusal(w, h, frame, plane);
-    if refusal != 0 {
-        return refusal;
-    }
+    intensity_refusal(w, h, frame, plane)?;
     planes::output_refusal(output, frame)
 }
 
 // Writes the frame, recoloured from the new intensities in the plane, to the first bytes of the output.
-pub fn recolour(frame: &[u8], w: usize, h: usize, plane: &[u8], output: &mut [u8]) -> Status
+#[tactic(auto, using(crate::proofs::Calls::recolour_accepted))]
+pub fn recolour(
+    frame: &[u8],
+    w: usize,
+    h: usize,
+    plane: &[u8],
+    output: &mut [u8],
+) -> Result<(), Refusal>
     ensures { RecolourOutcome w h frame.now plane.now output.old
         (status_reply result) output.new }
 {
-    let refusal = recolour_refusal(w, h, frame.len(), plane.len(), output.len());
-    if refusal != 0 {
-        return Status::Refused(refusal);
-    }
-    let table = channels::rounded_thirds();
-    let inverses = channels::inverses();
-    recolour_frame(&table, &inverses, frame, plane, output);
-    Status::Done
+    recolour_refusal(w, h, frame.len(), plane.len(), output.len())?;
+    recolour_frame(frame, plane, output);
+    Ok(())
 }

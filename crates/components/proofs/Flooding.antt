@@ -18,17 +18,17 @@ use borrow.Author.Tests.{eq-eqb, ne_eqb}
 use Rattle.planes.specs.Lists.{at, from}
 use Rattle.planes.specs.Neighbours.{Near, Chain, here, step}
 use Rattle.planes.specs.Enumerations.{among, Enumerates}
-use Rattle.planes.specs.Shapes.{pixels, Narrower}
+use Rattle.planes.specs.Shapes.{pixels, SizedShape, Narrower}
 use Rattle.planes.specs.declared.Shape.{Shape}
 use Rattle.planes.proofs.Tests.{same_test, less_or_not}
 use Rattle.planes.proofs.Counts.{count_all, count_le, length_from}
 use Rattle.planes.proofs.Stores.{at_set}
 use Rattle.planes.proofs.Neighbours.{filled}
 use Rattle.planes.proofs.Enumerations.{among_at, among_place, count_among, entries_size}
-use Rattle.rows.specs.Rows.{in_row, row_end, Width}
+use Rattle.rows.specs.Rows.{in_row, row_end}
 use Rattle.rows.specs.Codes.{alike, Joined, Shut}
 use Rattle.rows.specs.Runs.{Room, Taken, none, one, Reached}
-use Rattle.rows.proofs.Rows.{row_end_le, width_of}
+use Rattle.rows.proofs.Rows.{row_end_le}
 use Rattle.rows.proofs.Codes.{alike_of, alike_to, alike_near, alike_on}
 use Rattle.rows.proofs.Taken.{room_for, room_less, room_whole, taken_kept, taken_room, taken_was, taken_map}
 use Rattle.components.specs.Regions.{region}
@@ -154,20 +154,20 @@ nothing_yet near n code start marks queue = record {
   queue_length = refl;
 }
 
-module _ {marks queue : List ℕ} {z : Shape} {inverse code start : ℕ}
-    (F : Floodable marks queue z inverse code start) where
+module _ {marks queue : List ℕ} {z : Shape} {code start : ℕ} (size : SizedShape z)
+    (F : Floodable marks queue z code start) where
   abbrev n : ℕ
   n = pixels z
 
   ends : row_end z.w start ≤ n
-  ends = row_end_le z.w n start F.size.wide (mul-mod_right z.w z.h) F.inside
+  ends = row_end_le z.w n start size.wide (mul-mod_right z.w z.h) F.inside
 
   whole : Room marks queue n code 0
-  whole = room_whole marks queue n code F.size.few F.real F.covered F.spare
+  whole = room_whole marks queue n code size.few F.real F.covered F.spare
 
   -- what `reach` requires of the first pixel
-  pub may_begin : Width z.w inverse × Room marks queue (row_end z.w start) code 0
-  may_begin = (width_of F.size F.inverse_is, room_less whole (row_end z.w start) ends)
+  pub may_begin : Room marks queue (row_end z.w start) code 0
+  may_begin = room_less whole (row_end z.w start) ends
 
   module _ {near : Near} (rows-near : Narrower (in_row z.w) near) where
     -- a chain leads to what is joined to `start` in its row

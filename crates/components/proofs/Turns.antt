@@ -1,13 +1,10 @@
 -- A flood up to the turn that is due: what was taken (`Flooding`), and what is known of the pixels seen so far
 -- (`Gauging`). What a turn requires, that it goes on to the next, and that after the last turn the component was taken,
--- measured and counted. Both loops go by this, each by its own neighbours; they differ in how a turn takes what is next
--- to a pixel. Assumes nothing.
-use Prim.Native.Nat.{ℕ, ◌*◌, ◌≤◌, ◌<◌}
-use mathlib.Core.Path.{◌≡◌, refl, sym, subst}
+-- measured and counted, whatever the neighbours are. Assumes nothing.
+use Prim.Native.Nat.{ℕ, ◌≤◌, ◌<◌}
+use mathlib.Core.Path.{◌≡◌, sym, subst}
 use mathlib.Core.List.{List, []}
 use native.Mathlib.Omega.{arith}
-use mir.Syntax.{w64}
-use mir.Val.{Fits}
 use lib.ListN.{length}
 use Rattle.planes.specs.Lists.{at}
 use Rattle.planes.specs.Neighbours.{Near}
@@ -32,25 +29,20 @@ abbrev pub GaugingTo : List ℕ → ℕ → List ℕ → List ℕ → Measures �
 GaugingTo plane start queue counts seen =
     Gauging (at plane start) (values plane queue seen.size) counts seen.least seen.greatest
 
--- the invariant of a loop that begins with marks₀, queue₀, head₀ and tail₀: what was taken up to there, from whatever
--- beginning, was taken on to the head, since an invariant does not see the function's entry
-pub record Going (near : Near) (z : Shape) (code start : ℕ) (plane marks₀ queue₀ : List ℕ) (head₀ tail₀ : ℕ)
-    (marks queue counts : List ℕ) (seen : Measures) (tail : ℕ) : Type 0 where
-  pub marks_length : length marks ≡ length marks₀
-  pub queue_length : length queue ≡ length queue₀
+-- the invariant: what was taken and seen since the marks and the queue were marks₀ and queue₀
+pub record Going (near : Near) (z : Shape) (code start : ℕ) (plane marks₀ queue₀ : List ℕ) (marks queue counts : List ℕ)
+    (seen : Measures) (tail : ℕ) : Type 0 where
   pub gauging : GaugingTo plane start queue counts seen
-  pub flooding : (m q : List ℕ) → FloodingTo near z code start m q marks₀ queue₀ head₀ tail₀
-      → FloodingTo near z code start m q marks queue seen.size tail
+  pub flooding : FloodingTo near z code start marks₀ queue₀ marks queue seen.size tail
 
 -- where the loop begins
-pub going_none : (near : Near) (z : Shape) (code start : ℕ) (plane marks queue : List ℕ) {counts : List ℕ} (tail : ℕ)
-    → Tally [] counts → Going near z code start plane marks queue 0 tail marks queue counts
+pub going_none : {near : Near} {z : Shape} {code start : ℕ} (plane : List ℕ) {marks₀ queue₀ marks queue counts : List ℕ}
+    {tail : ℕ} → Tally [] counts → FloodingTo near z code start marks₀ queue₀ marks queue 0 tail
+    → Going near z code start plane marks₀ queue₀ marks queue counts
     (record { size = 0; least = at plane start; greatest = at plane start }) tail
-going_none near z code start plane marks queue tail none = record {
-  marks_length = refl;
-  queue_length = refl;
+going_none {start = start} plane {queue = queue} none F = record {
   gauging = gauging_none plane queue (at plane start) none;
-  flooding = λ m q K. K;
+  flooding = F;
 }
 
 -- ## A turn
@@ -64,13 +56,6 @@ module _ {near : Near} {w n code start head tail : ℕ} {marks₀ queue₀ marks
   pub head_room : head < length queue
   head_room = omega (arith, K.room.spare)
 
-  -- its offset and the pixel fit their types
-  pub head_offset : Fits w64 (head * 4)
-  head_offset = record { fits = omega (arith, few_entries K, K.room.few) }
-
-  pub head_fits : Fits w64 (at queue head)
-  head_fits = record { fits = omega (arith, head_inside, K.room.few) }
-
   -- what `see` requires
   pub may_see : (plane counts : List ℕ) (low high : ℕ) → length plane ≡ n
       → Gauging (at plane start) (values plane queue head) counts low high
@@ -82,44 +67,36 @@ module _ {near : Near} {w n code start head tail : ℕ} {marks₀ queue₀ marks
       (omega (arith, head_inside), (omega (arith, K.room.few), omega (arith, K.room.few)))
 
 -- what spreading from it requires
-pub spreadable : {near : Near} {z : Shape} {inverse code start head tail : ℕ} {marks₀ queue₀ marks queue : List ℕ}
-    → Floodable marks₀ queue₀ z inverse code start → FloodingTo near z code start marks₀ queue₀ marks queue head tail
-    → head < tail → Spreadable marks queue z inverse code (at queue head) tail
-spreadable F K due = record {
-  reachable = record {
-    size = F.size;
-    inverse_is = F.inverse_is;
-    inside = head_inside K due;
-    off = head_off K due;
-    room = K.room;
-  };
+pub spreadable : {near : Near} {z : Shape} {code start head tail : ℕ} {marks₀ queue₀ marks queue : List ℕ}
+    → FloodingTo near z code start marks₀ queue₀ marks queue head tail → head < tail
+    → Spreadable marks queue z code (at queue head) tail
+spreadable K due = record {
+  reachable = record { inside = head_inside K due; off = head_off K due; room = K.room };
   shut = K.rows _ due;
 }
 
 -- what is next to the pixel at the head was taken, and its value was seen
-module _ {near : Near} {z : Shape} {code start head₀ tail₀ tail tail' : ℕ} {plane marks₀ queue₀ : List ℕ}
+module _ {near : Near} {z : Shape} {code start tail tail' : ℕ} {plane marks₀ queue₀ : List ℕ}
     {marks queue counts marks' queue' counts' : List ℕ} {seen seen' : Measures}
-    (K : Going near z code start plane marks₀ queue₀ head₀ tail₀ marks queue counts seen tail)
-    (due : seen.size < tail) (room : seen.size < length queue) (byte : at plane (at queue seen.size) < 256)
+    (K : Going near z code start plane marks₀ queue₀ marks queue counts seen tail)
+    (due : seen.size < tail) (byte : at plane (at queue seen.size) < 256)
     (S : Spread near near z.w (pixels z) code (at queue seen.size) marks queue tail marks' queue' tail')
     (N : Seen (at plane (at queue seen.size)) seen counts seen' counts') where
-  pub going_on : length marks' ≡ length marks → length queue' ≡ length queue
-      → Going near z code start plane marks₀ queue₀ head₀ tail₀ marks' queue' counts' seen' tail'
-  going_on same-marks same_queue = record {
-    marks_length = omega (arith, K.marks_length);
-    queue_length = omega (arith, K.queue_length);
+  pub going_on : length queue' ≡ length queue
+      → Going near z code start plane marks₀ queue₀ marks' queue' counts' seen' tail'
+  going_on same_queue = record {
     gauging = rw (N.size, N.least_is, N.greatest_is, N.counts_are)
-        (gauging_next plane queue seen.size K.gauging room byte queue' same_queue
+        (gauging_next plane queue seen.size K.gauging (head_room K.flooding due) byte queue' same_queue
         (λ k h. (taken_kept S.reaches.taken).1 k (omega arith)));
-    flooding = λ m q f.
-        subst (λ (head : ℕ). FloodingTo near z code start m q marks' queue' head tail') (sym N.size)
-        (turn (K.flooding m q f) due S);
+    flooding =
+        subst (λ (head : ℕ). FloodingTo near z code start marks₀ queue₀ marks' queue' head tail') (sym N.size)
+        (turn K.flooding due S);
   }
 
 -- ## After the last turn
 
-module _ {near : Near} {z : Shape} {inverse code start tail : ℕ} {marks₀ queue₀ marks queue : List ℕ}
-    (F : Floodable marks₀ queue₀ z inverse code start) (seen : Measures)
+module _ {near : Near} {z : Shape} {code start tail : ℕ} {marks₀ queue₀ marks queue : List ℕ}
+    (F : Floodable marks₀ queue₀ z code start) (seen : Measures)
     (K : FloodingTo near z code start marks₀ queue₀ marks queue seen.size tail) (last : tail ≤ seen.size) where
   taken : Flooded near (pixels z) code start marks₀ queue₀ marks queue seen.size
   taken =

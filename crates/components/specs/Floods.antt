@@ -11,11 +11,10 @@ use Rattle.std.specs.Prelude.{ℕ, ◌+◌, ◌≤◌, ◌<◌, min, max, ◌≡
 use Rattle.planes.specs.Lists.{at, from, keep, count}
 use Rattle.planes.specs.Neighbours.{Near}
 use Rattle.planes.specs.Enumerations.{Enumerates}
-use Rattle.planes.specs.Shapes.{pixels, SizedShape}
+use Rattle.planes.specs.Shapes.{pixels}
 use Rattle.planes.specs.declared.Shape.{Shape}
 use Rattle.histograms.specs.Histograms.{Measured, Tally}
 use Rattle.histograms.specs.declared.Measures.{Measures}
-use Rattle.rows.specs.Rows.{inverse_of}
 use Rattle.components.specs.Regions.{region}
 
 -- the value v was counted, and taken into the measures
@@ -25,10 +24,8 @@ pub record Seen (v : ℕ) (c : Measures) (counts : List ℕ) (c' : Measures) (co
   pub greatest_is : c'.greatest ≡ max c.greatest v
   pub counts_are : counts' ≡ set counts v (at counts v + 1)
 
--- a plane whose shape is not refused, the inverse of its width, marks and a queue for it, and a pixel that has the code
-pub record Floodable (marks queue : List ℕ) (z : Shape) (inverse code start : ℕ) : Type 0 where
-  pub size : SizedShape z
-  pub inverse_is : inverse ≡ inverse_of z.w
+-- marks and a queue for a plane, and a pixel of it that has the code
+pub record Floodable (marks queue : List ℕ) (z : Shape) (code start : ℕ) : Type 0 where
   pub covered : pixels z ≤ length marks
   pub spare : pixels z ≤ length queue
   pub real : 1 ≤ code
@@ -57,9 +54,9 @@ pub record Gauged (near : Near) (n code start : ℕ) (plane marks : List ℕ) (c
     pub tally : Tally (region_values near n marks code start plane) counts'
 
 -- the plane is whole, and nothing was counted yet
-abbrev pub FloodAsks : (plane marks queue counts : List ℕ) (z : Shape) (inverse code start : ℕ) → Type 0
-FloodAsks plane marks queue counts z inverse code start =
-    Floodable marks queue z inverse code start × ((length plane ≡ pixels z) × Tally [] counts)
+abbrev pub FloodAsks : (plane marks queue counts : List ℕ) (z : Shape) (code start : ℕ) → Type 0
+FloodAsks plane marks queue counts z code start =
+    Floodable marks queue z code start × ((length plane ≡ pixels z) × Tally [] counts)
 
 -- by these neighbours the component of `start` was taken, measured and counted
 abbrev pub FloodGives : (near : Near) (n code start : ℕ) (plane marks queue marks' queue' counts' : List ℕ)

@@ -4,6 +4,7 @@ use Prim.Native.Nat.{ℕ, ◌+◌, ◌-◌, ◌≤◌, ◌<◌}
 use mathlib.Core.Path.{◌≡◌, sym, ◌∙◌}
 use mathlib.Core.Bool.{false}
 use mathlib.Core.List.{List}
+use native.Mathlib.Nat.{le_refl}
 use native.Mathlib.Omega.{arith}
 use lib.ListN.{length, take}
 use lib.Dec.{eqb, leb}
@@ -17,7 +18,7 @@ use Rattle.histograms.specs.Histograms.{Inside, Histogram, Ranged, Counted}
 use Rattle.histograms.specs.Sums.{SummedInPlace, Sums}
 use Rattle.histograms.specs.declared.Measures.{Measures}
 use Rattle.histograms.proofs.Components.{values_size, values_at}
-use Rattle.histograms.proofs.Sums.{sum_same, sum_to_mono}
+use Rattle.histograms.proofs.Sums.{sum_same, sum_to_mono, term_le}
 use Rattle.histograms.proofs.Values.{In, in-at, in-inside, inside_all, inside_sum}
 use Rattle.histograms.proofs.Values.{least_le, least_in, greatest_in}
 use Rattle.histograms.proofs.Measured.{measured_alike, tally_alike, alike_turned, measured_inside}
@@ -57,6 +58,16 @@ summed_rise {c = c} f range entry top =
       rises = λ v lv vg. omega (arith, entry v lv vg, last, sum_to_mono f c.least vg);
       top = omega (arith, last);
     }
+
+-- the sums of a component's counts
+pub counted_sums : {counts sums : List ℕ} {c : Measures} {a b : ℕ} → Counted counts c a b
+    → SummedInPlace c.least c.greatest counts sums → Sums sums c.size c a b
+counted_sums {counts} k s = summed_rise (at counts) k.range s.entry (omega (arith, k.whole))
+
+-- no more pixels have the least value than there are
+pub counted_first : {counts : List ℕ} {c : Measures} {a b : ℕ} → Counted counts c a b → at counts c.least ≤ c.size
+counted_first {counts} {c} k =
+    omega (arith, term_le (at counts) {a = c.least} (le_refl _) k.range.order, k.whole)
 
 -- ## Components
 

@@ -29,6 +29,11 @@ refilled_more {f} {a} {e} {x} {l} {l'} h ae room eq = record {
       ∙ h.old v (λ av ve. out av (omega arith));
 }
 
+-- the same entries, by other words for their first and their end
+pub refilled_at : {f : ℕ → ℕ} {a e : ℕ} (a' e' : ℕ) {l l' : List ℕ} → Refilled f a' e' l l' → a' ≡ a → e' ≡ e
+    → Refilled f a e l l'
+refilled_at a' e' h s t = rw (sym s, sym t) h
+
 -- ## What stays outside [a, b]
 
 pub outside_none : {a b : ℕ} (l : List ℕ) → Outside a b l l

@@ -8,14 +8,13 @@
 // refill                                entries of a table, each by its place
 // fill_same                             values that are kept, in a table
 // scale                                 a part of b - a, rounded
-// lesser, greater                       of two values
 // nearest                               within
 //
 // Counts are lent all 0, and cleared after use: those of the values of [least, greatest], for those of all others stay
-// 0. What clears or fills takes a slice, for an array that is lent as a slice is known to have all its entries.
+// 0. What clears or fills takes any slice that has the entries.
 #![tactic(auto)]
 
-ghost use Rattle.std.specs.Prelude.{ℕ, ◌≡◌, [], ◌+◌, ◌^◌, ◌≤◌, ◌<◌, min, max, length};
+ghost use Rattle.std.specs.Prelude.{ℕ, ◌≡◌, [], ◌+◌, ◌^◌, ◌≤◌, ◌<◌, max, length};
 ghost use Rattle.planes.specs.Lists.{at};
 ghost use Rattle.planes.specs.Rounding.{rounded};
 ghost use Rattle.histograms.specs.Values.{sum_to, scaled};
@@ -28,20 +27,6 @@ pub struct Measures {
     pub size: usize,
     pub least: u8,
     pub greatest: u8,
-}
-
-// The lesser of two values.
-pub fn lesser(x: u8, y: u8) -> u8
-    ensures { result ≡ min x y }
-{
-    if x < y { x } else { y }
-}
-
-// The greater of two values.
-pub fn greater(x: u8, y: u8) -> u8
-    ensures { result ≡ max x y }
-{
-    if x < y { y } else { x }
 }
 
 // The measures of all values of a plane.
@@ -97,14 +82,14 @@ pub fn sum_up(counts: &mut [u32; 256], a: u8, b: u8)
     }
 }
 
-// Fills the entries from first to last, each by its place.
-pub fn refill<F: Fn(usize) -> u8>(table: &mut [u8], first: usize, last: usize, tone: F)
-    requires bounds { (first ≤ last) × (last < length table.old) }
-    requires callable { (v : ℕ) → first ≤ v → v ≤ last → F.pre tone v }
-    ensures { (f : ℕ → ℕ) → ((v y : ℕ) → first ≤ v → v ≤ last → F.post tone v y → y ≡ f v) →
-        Refilled f first (last + 1) table.old table.new }
+// Fills the entries from first up to, and not including, end, each by its place.
+pub fn refill<F: Fn(usize) -> u8>(table: &mut [u8], first: usize, end: usize, tone: F)
+    requires bounds { end ≤ length table.old }
+    requires callable { (v : ℕ) → first ≤ v → v < end → F.pre tone v }
+    ensures { (f : ℕ → ℕ) → ((v y : ℕ) → first ≤ v → v < end → F.post tone v y → y ≡ f v) →
+        Refilled f first (max first end) table.old table.new }
 {
-    for v in first..=last {
+    for v in first..end {
         table[v] = tone(v);
     }
 }
@@ -114,7 +99,7 @@ pub fn fill_same(table: &mut [u8], first: u8, last: u8)
     requires { (first ≤ last) × (last < length table.old) }
     ensures { Refilled (λ v. v) first (last + 1) table.old table.new }
 {
-    refill(table, usize::from(first), usize::from(last), |v| v as u8);
+    refill(table, usize::from(first), usize::from(last) + 1, |v| v as u8);
 }
 
 // x / y to nearest, halves upward.

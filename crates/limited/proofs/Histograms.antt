@@ -39,6 +39,12 @@ pub clips_sum : {a b : ℕ} {counts clips : List ℕ} (most : ℕ)
 clips_sum {a} {b} {counts} {clips} most clip v av vb =
     sum_same (at clips) (clipped_at most counts) a (v - a + 1) (λ u au uv. clip.new u au (omega arith))
 
+pub clips_few : {a b : ℕ} (most : ℕ) {counts clips : List ℕ} {c : Measures} → Counted counts c a b
+    → Refilled (clipped_at most counts) c.least (c.greatest + 1) counts clips
+    → sum_to (at clips) c.least c.greatest ≤ 1000 * c.size
+clips_few most k clip =
+    omega (arith, clips_sum most clip _ k.range.order (omega arith), clips_le most k)
+
 -- clipped at k thousandths of all pixels, then summed in place
 pub clipped_of : {k most : ℕ} {c : Measures} {counts clips sums : List ℕ} → most ≡ k * c.size
     → Refilled (clipped_at most counts) c.least (c.greatest + 1) counts clips

@@ -14,15 +14,14 @@ use Rattle.limited.specs.Limited.{Filled}
 pub filled_none : {f : ℕ → ℕ} (plane queue table : List ℕ) → Filled f plane queue table 0
 filled_none plane queue table = record { entry = λ i h. absurd (omega arith) }
 
-pub filled_more : {f : ℕ → ℕ} {plane queue table : List ℕ} {i x : ℕ} → Filled f plane queue table i
-    → at plane (at queue i) < length table → x ≡ f (at plane (at queue i))
-    → Filled f plane queue (set table (at plane (at queue i)) x) (i + 1)
-filled_more {f} {plane} {queue} {table} {i} {x} h room eq =
+pub filled_more : {f : ℕ → ℕ} {plane queue table : List ℕ} (i v x : ℕ) → Filled f plane queue table i
+    → v ≡ at plane (at queue i) → v < length table → x ≡ f v → Filled f plane queue (set table v x) (i + 1)
+filled_more {f} {plane} {queue} {table} i v x h is room eq =
     let value : ℕ → ℕ = λ j. at plane (at queue j) in
     record {
-      entry = λ j ji. at_set (λ n. n ≡ f (value j)) table (value i) (value j) x room
-          (λ (e : value j ≡ value i). eq ∙ ap f (sym e))
-          (λ o. ⊎_elim (λ (e : j ≡ i). absurd (o (ap value e))) (λ n. h.entry j (omega arith)) (eq_or_not j i));
+      entry = λ j ji. at_set (λ n. n ≡ f (value j)) table v (value j) x room
+          (λ (e : value j ≡ v). eq ∙ ap f (sym e))
+          (λ o. ⊎_elim (λ (e : j ≡ i). absurd (o (ap value e ∙ sym is))) (λ n. h.entry j (omega arith)) (eq_or_not j i));
     }
 
 -- entries of all values of [a, b], where a component has its values, are entries of the listed pixels' values

@@ -1,9 +1,8 @@
--- Single steps of marking and painting: a pixel is marked; a pixel gets its new value and its next mark. Assumes
--- nothing.
+-- A single step of painting: a pixel gets its new value and its next mark. Assumes nothing.
 use Prim.Native.Nat.{ℕ, ◌+◌, ◌≤◌, ◌<◌}
 use mathlib.Core.Path.{◌≡◌, refl, sym, ap, subst, ◌∙◌}
 use mathlib.Core.Logic.{inl, inr}
-use mathlib.Core.Bool.{Bool, true, false, cond, ◌||◌, true≢false}
+use mathlib.Core.Bool.{Bool, true, false, true≢false}
 use mathlib.Core.List.{List}
 use native.Mathlib.Nat.{eq-or-lt_of_le}
 use native.Mathlib.Omega.{arith}
@@ -12,41 +11,13 @@ use lib.Dec.{leb, ltb}
 use borrow.Author.Tests.{leb-false, ltb-false}
 use Rattle.planes.specs.Lists.{at}
 use Rattle.planes.proofs.Tests.{or_none}
-use Rattle.planes.proofs.Lists.{beyond_refl}
 use Rattle.planes.proofs.Stores.{at_set}
-use Rattle.model.specs.declared.Pass.{Pass}
-use Rattle.model.specs.Passes.{within}
-use Rattle.painting.specs.Painting.{number, On, Clear, Marked, Painted}
+use Rattle.painting.specs.Painting.{number, no_sides, joined, On, Clear, Painted}
 use Rattle.painting.specs.declared.Next.{Next}
-
--- ## Marks
-
-pub marked_none : (s : Pass) (plane marks : List ℕ) → Marked s plane marks marks 0
-marked_none s plane marks = record {
-  bytes = λ p h. absurd (omega arith);
-  drawn = λ p h. absurd (omega arith);
-  rest = beyond_refl 0 marks;
-}
-
-pub marked_more : {s : Pass} {k v : ℕ} {plane marks marks' : List ℕ} → Marked s plane marks marks' k → k < length marks'
-    → at plane k < 256 → v ≡ cond (within s (at plane k)) 1 0 → Marked s plane marks (set marks' k v) (k + 1)
-marked_more {s} {k} {v} {plane} {marks} {marks'} M h b e = record {
-  bytes = λ p l. let l' : p ≤ k = omega arith in
-      elim (eq-or-lt_of_le l') [ inl q ↦ rw q b | inr q ↦ M.bytes p q ];
-  drawn = λ p l. at_set (λ (x : ℕ). x ≡ cond (within s (at plane p)) 1 0) marks' k p v h
-      (λ q. e ∙ ap (λ (j : ℕ). cond (within s (at plane j)) 1 0) (sym q))
-      (λ q. M.drawn p (omega (arith, q)));
-  rest = record {
-    size = simp length-set M.rest.size;
-    rest = λ p l. at_set (λ (x : ℕ). x ≡ at marks p) marks' k p v h
-        (λ q. absurd (omega arith)) (λ q. M.rest.rest p (omega arith));
-  };
-}
-
--- ## Painting
+use Rattle.painting.specs.declared.Sides.{Sides}
 
 pub painted_none : (f : ℕ → ℕ) (t : Next) (plane marks queue : List ℕ)
-    → Painted f t plane marks queue plane marks 0 false false
+    → Painted f t plane marks queue plane marks 0 no_sides
 painted_none f t plane marks queue = record {
   size = refl;
   marks_size = refl;
@@ -57,22 +28,21 @@ painted_none f t plane marks queue = record {
 }
 
 -- the flags of one value
-sides_of : (t : Next) (v : ℕ) (side : Bool) → Clear side (leb v t.mid) (ltb t.mid v) → On t side v → ⊥
+sides_of : (t : Next) (v : ℕ) (side : Bool) → Clear side (record { low = leb v t.mid; high = ltb t.mid v }) → On t side v → ⊥
 sides_of t v true e o = true≢false (sym o ∙ e)
 sides_of t v false e o = let h = leb-false v t.mid o in let k = ltb-false t.mid v e in omega (arith, h, k)
 
 -- a flag that is false was and is so
-pub clear_both : (side low high low' high' : Bool) → Clear side (low || low') (high || high')
-    → Clear side low high × Clear side low' high'
-clear_both true low high low' high' e = or_none low low' e
-clear_both false low high low' high' e = or_none high high' e
+pub clear_both : (side : Bool) (r r' : Sides) → Clear side (joined r r') → Clear side r × Clear side r'
+clear_both true r r' e = or_none r.low r'.low e
+clear_both false r r' e = or_none r.high r'.high e
 
-pub painted_more : {f : ℕ → ℕ} {t : Next} {plane marks queue plane' marks' : List ℕ} {i v x : ℕ} {low high : Bool}
-    → Painted f t plane marks queue plane' marks' i low high → at queue i < length plane → at queue i < length marks
+pub painted_more : {f : ℕ → ℕ} {t : Next} {plane marks queue plane' marks' : List ℕ} {i v x : ℕ} {r : Sides}
+    → Painted f t plane marks queue plane' marks' i r → at queue i < length plane → at queue i < length marks
     → ((j : ℕ) → j < i → at queue j ≡ at queue i → ⊥) → v ≡ f (at plane' (at queue i)) → x ≡ number t v
     → Painted f t plane marks queue (set plane' (at queue i) v) (set marks' (at queue i) x) (i + 1)
-    (low || leb v t.mid) (high || ltb t.mid v)
-painted_more {f} {t} {plane} {marks} {queue} {plane'} {marks'} {i} {v} {x} {low} {high} P h k once e d = record {
+    (joined r (record { low = leb v t.mid; high = ltb t.mid v }))
+painted_more {f} {t} {plane} {marks} {queue} {plane'} {marks'} {i} {v} {x} {r} P h k once e d = record {
   size = simp length-set P.size;
   marks_size = simp length-set P.marks_size;
   drawn = λ j l. at_set (λ (y : ℕ). y ≡ f (at plane (at queue j))) plane' (at queue i) (at queue j) v h'
@@ -83,7 +53,7 @@ painted_more {f} {t} {plane} {marks} {queue} {plane'} {marks'} {i} {v} {x} {low}
     at_set (λ (y : ℕ). y ≡ at plane p) plane' (at queue i) p v h' (λ q. absurd (g i (omega arith) (sym q))) (λ q. s.0),
     at_set (λ (y : ℕ). y ≡ at marks p) marks' (at queue i) p x k' (λ q. absurd (g i (omega arith) (sym q))) (λ q. s.1),
   );
-  none = λ side c j l o. let both = clear_both side low high _ _ c in
+  none = λ side c j l o. let both = clear_both side r _ c in
       elim (eq-or-lt_of_le (le-of-lt-add j l)) [
         | inl q ↦ sides_of t v side both.1 (subst (On t side) (sym (new j (ap (at queue) q))) o)
         | inr q ↦ P.none side both.0 j q o

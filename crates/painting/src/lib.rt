@@ -2,18 +2,20 @@
 //
 // mark_section   marks a section's pixels
 // paint          gives the pixels of a component their new values and their next marks
+// Next           these marks, by the side of the middle that a value is on
+// Sides          the sides that values are on
 #![tactic(auto)]
 
 ghost use Rattle.std.specs.Prelude.{◌≡◌, cond, ◌≤◌, length};
 ghost use Rattle.planes.specs.Lists.{at};
 ghost use Rattle.histograms.specs.Histograms.{Distinct};
 ghost use Rattle.model.specs.Passes.{within};
-ghost use Rattle.painting.specs.Painting.{number, Listed, Marked, Painted};
+ghost use Rattle.painting.specs.Painting.{number, no_sides, joined, Listed, Marked, Painted};
 
 use model::Pass;
 
 // The next marks of treated pixels: `low` for values up to `mid`, `high` for those above.
-#[derive(Clone, Copy)]
+#[derive(Clone, Copy, Debug, PartialEq, Eq)]
 pub struct Next {
     pub mid: u8,
     pub low: u8,
@@ -21,23 +23,32 @@ pub struct Next {
 }
 
 // Whether pixels have a value up to the middle, and above it. A flag that is false says that none has.
-#[derive(Clone, Copy)]
+#[derive(Clone, Copy, Debug, PartialEq, Eq)]
 pub struct Sides {
     pub low: bool,
     pub high: bool,
 }
 
-// 1 for a value in [a, b], else 0.
-fn mark_of(v: u8, pass: Pass) -> u8
-    ensures { result ≡ cond (within pass v) 1 0 }
-{
-    if v < pass.a {
-        return 0;
+impl Sides {
+    // Those of pixels that have no value.
+    pub fn none() -> Self
+        ensures { result ≡ no_sides }
+    {
+        Sides {
+            low: false,
+            high: false,
+        }
     }
-    if pass.b < v {
-        return 0;
+
+    // Those of these pixels and of others.
+    pub fn join(self, other: Self) -> Self
+        ensures { result ≡ joined self other }
+    {
+        Sides {
+            low: self.low | other.low,
+            high: self.high | other.high,
+        }
     }
-    1
 }
 
 // Marks the first n pixels: 1 for a value in the section of the pass, else 0.
@@ -45,11 +56,8 @@ pub fn mark_section(plane: &[u8], marks: &mut [u8], n: usize, pass: Pass)
     requires { (n ≤ length plane.now) × (n ≤ length marks.old) }
     ensures { Marked pass plane.now marks.old marks.new n }
 {
-    let mut p = 0;
-    while p < n {
-        let v = plane[p];
-        marks[p] = mark_of(v, pass);
-        p += 1;
+    for (p, mark) in marks[..n].iter_mut().enumerate() {
+        *mark = u8::from((pass.a..=pass.b).contains(&plane[p]));
     }
 }
 
@@ -57,10 +65,7 @@ pub fn mark_section(plane: &[u8], marks: &mut [u8], n: usize, pass: Pass)
 fn next_mark(v: u8, next: Next) -> u8
     ensures { result ≡ number next v }
 {
-    if next.mid < v {
-        return next.high;
-    }
-    next.low
+    if next.mid < v { next.high } else { next.low }
 }
 
 // Gives the queue's first m pixels the table's values and their next marks. Which sides of the middle the values are
@@ -75,20 +80,17 @@ pub fn paint(
 ) -> Sides
     requires { Listed marks.old plane.old queue.now m × Distinct queue.now m }
     ensures { Painted (at table.now) next plane.old marks.old
-        queue.now plane.new marks.new m result.low result.high }
+        queue.now plane.new marks.new m result }
 {
-    let mut low = false;
-    let mut high = false;
-    let mut i = 0;
-    while i < m {
-        let p = queue[i] as usize;
+    let mut sides = Sides::none();
+    for place in &queue[..m] {
+        let p = *place as usize;
         let old = plane[p];
-        let v = table[old as usize];
+        let v = table[usize::from(old)];
         plane[p] = v;
         marks[p] = next_mark(v, next);
-        low |= v <= next.mid;
-        high |= next.mid < v;
-        i += 1;
+        sides.low |= v <= next.mid;
+        sides.high |= next.mid < v;
     }
-    Sides { low, high }
+    sides
 }

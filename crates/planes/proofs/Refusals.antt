@@ -190,6 +190,12 @@ sized_none w h limit S =
 
 pub ruleset in_order = (refused_by, passed_first, pixels_fit)
 
+-- the same where the size is tested first
+pub size_small : (w h limit : ℕ) → size_refusal w h limit ≡ 0 → w * h ≤ limit
+size_small w h limit e = (sized w h limit e).few
+
+pub ruleset by_size = (refused_by, passed_first, size_small)
+
 -- ## What finds the contract of a function that is one test
 
 pub ruleset by_test = (lt-ltb, le-ltb, ne_eqb, eq-eqb)

@@ -1,5 +1,5 @@
 -- `components::flood` meets its contract: the neighbours by 8 are the eight, by any other number those of the shape.
--- `taken` is the place after either call, `test` that after the test. Assumes nothing.
+-- Assumes nothing.
 use borrow.Author.Tests.{eq-eqb, ne_eqb}
 use Rattle.planes.proofs.Shapes.{adjacency_eight, adjacency_other}
 use Rattle.components.proofs.flood.Goals as goal
@@ -7,11 +7,11 @@ use Rattle.components.proofs.flood.Goals as goal
 pub returns-then-neighbours-eq-EIGHT : goal.returns-then-neighbours-eq-EIGHT
 returns-then-neighbours-eq-EIGHT c =
     let a = c.args in
-    let is = adjacency_eight a.shape a.neighbours (eq-eqb _ 8 c.if-neighbours-eq-EIGHT.true) in
-    rw is c.flood_eight.ensures
+    let is = adjacency_eight a.grid.shape a.neighbours (eq-eqb _ 8 c.if-neighbours-eq-EIGHT.true) in
+    rw is c.flood_by.ensures
 
 pub returns : goal.returns
 returns c =
     let a = c.args in
-    let is = adjacency_other a.shape a.neighbours (ne_eqb _ 8 c.if-neighbours-eq-EIGHT.false) in
-    rw is c.flood_four.ensures
+    let is = adjacency_other a.grid.shape a.neighbours (ne_eqb _ 8 c.if-neighbours-eq-EIGHT.false) in
+    rw is c.flood_by-2.ensures
