@@ -36,7 +36,7 @@ fill_lines-requires c =
     let a = c.args in
     let y = c.top_height-y.ensures in
     let some = not_kept a.s.segments (a.b - a.a) c.top_height-y.result (sym c.keeps.ensures ∙ c.if-keeps.false) in
-    (cumulative c.requires.histogram c.requires.range c.sum_up.ensures, ((some.0, (some.1, y.1)), y.0))
+    (cumulative c.requires.histogram c.requires.range c.sum_up.ensures, ((some.0, (omega (arith, some.1), omega (arith, y.1))), y.0))
 
 pub returns : goal.returns
 returns c =

@@ -13,5 +13,5 @@ scale-requires c =
     let heights = c.requires.1.0 in
     let few : y * d ≤ 4294967295 * 255 = mul-le-mul {n₂ = 4294967295} {m₂ = 255} (omega arith) (omega arith) in
     let some : 1 ≤ y * d = mul-pos c.requires.1.1.0 (omega arith) in
-    let both = le_trans (part_le heights.0 inside.0.1 inside.1.0) (mul-le-mul_right d heights.1) in
-    (inside.0.0, (both, (some, omega arith)))
+    let high = mul-le-mul_right d heights.1 in
+    (inside.0.0, (le_trans (part_le _ _ d _ heights.0 (omega arith)) high, (some, omega arith)))
