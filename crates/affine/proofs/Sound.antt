@@ -58,14 +58,11 @@ scaled_down a b x (suc y) x' d pos h =
 
 -- ## Lines
 
--- the height on a line is no more than that of its end
-pub part_le : {p q : Point} → p.height ≤ q.height → {v : ℕ} → p.place ≤ v → v < q.place
-    → p.height * (q.place - p.place) + (q.height - p.height) * (v - p.place) ≤ q.height * (q.place - p.place)
-part_le {p} {q} heights {v} from to =
-    let d = q.place - p.place in
-    let whole : q.height * d ≡ p.height * d + (q.height - p.height) * d =
-    sym (ap (◌* d) (add-sub_of_le heights)) ∙ add-mul p.height (q.height - p.height) d in
-    omega (arith, mul-le-mul_left {m = v - p.place} {n = d} (q.height - p.height) (omega arith), whole)
+-- the height on a line is no more than that of its end: the line rises from h to g over d, of which e are gone
+pub part_le : (h g d e : ℕ) → h ≤ g → e ≤ d → h * d + (g - h) * e ≤ g * d
+part_le h g d e heights along =
+    let whole : g * d ≡ h * d + (g - h) * d = sym (ap (◌* d) (add-sub_of_le heights)) ∙ add-mul h (g - h) d in
+    omega (arith, mul-le-mul_left {m = e} {n = d} (g - h) along, whole)
 
 module _ (a b y : ℕ) {p q : Point} (heights : p.height ≤ q.height) {v : ℕ} (from : p.place ≤ v)
     (to : v < q.place) where
@@ -77,7 +74,7 @@ module _ (a b y : ℕ) {p q : Point} (heights : p.height ≤ q.height) {v : ℕ}
   line-lower = scaled_up a b p.height y _ d (omega arith) (omega arith)
 
   line-upper : line_tone a b y p q v ≤ scaled a b q.height y
-  line-upper = scaled_down a b q.height y _ d (omega arith) (part_le heights from to)
+  line-upper = scaled_down a b q.height y _ d (omega arith) (part_le p.height q.height d (v - p.place) heights (omega arith))
 
 line_mono : (a b y : ℕ) (p q : Point) {v u : ℕ} → v ≤ u → line_tone a b y p q v ≤ line_tone a b y p q u
 line_mono a b y p q {v} {u} vu =

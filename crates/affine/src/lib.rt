@@ -8,8 +8,7 @@
 // Counts and table are lent, with any content in the table, and only their entries of [least, greatest], from the
 // component's least value to its greatest, are read or written. The points are gone over twice, once for the last
 // height and once for the tones: a component costs time in the spread of its values and in its segments. What is
-// divided is a height, below 2^32, times two numbers of 8 bits. What fills takes a slice, for an array that is lent as
-// a slice is known to have all its entries.
+// divided is a height, below 2^32, times two numbers of 8 bits.
 #![tactic(auto)]
 
 ghost use Rattle.std.specs.Prelude.{◌≡◌, ◌+◌, ◌^◌, ◌≤◌, ◌<◌, max, length};
@@ -19,20 +18,14 @@ ghost use Rattle.histograms.specs.Tables.{Ruled};
 ghost use Rattle.points.specs.Points.{start, points, top_of, Cumulative};
 ghost use Rattle.affine.specs.Affine.{line_tone, joined, kept_at, affine_tone, affine_kept, Drawn};
 
-use histograms::{Measures, fill_same, scale, sum_up};
-use points::{Point, Slopes, later, next_point, top_height};
+use histograms::{Measures, fill_same, refill, scale, sum_up};
+use points::{Point, Slopes, next_point, top_height};
 
 // Whether the old values are kept, by the number n of segments, d = b - a, and the last height y.
 fn keeps(n: u8, d: u8, y: u64) -> bool
     ensures { result ≡ kept_at n d y }
 {
-    if d == 0 {
-        return true;
-    }
-    if n == 0 {
-        return true;
-    }
-    y < 100 * n as u64 * d as u64
+    d == 0 || n == 0 || y < 100 * u64::from(n) * u64::from(d)
 }
 
 // The tone of v on the line from p to q, where the height y becomes b.
@@ -48,41 +41,40 @@ fn line_tone(p: Point, q: Point, y: u64, a: u8, b: u8, v: usize) -> u8
 }
 
 // The tones of the values from x to below q on the line from p to q.
-fn fill_line(table: &mut [u8], p: Point, q: Point, y: u64, a: u8, b: u8, x: usize)
-    requires { (((a ≤ b) × (p.place ≤ x)) × ((q.place < 256) × (q.place ≤ length table.old)))
+fn fill_line(table: &mut [u8; 256], p: Point, q: Point, y: u64, a: u8, b: u8, x: usize)
+    requires { (((a ≤ b) × (p.place ≤ x)) × (q.place < 256))
         × (((p.height ≤ q.height) × (q.height ≤ y)) × ((1 ≤ y) × (y < 2 ^ 32))) }
     ensures { Refilled (line_tone a b y p q) x (max x q.place) table.old table.new }
 {
-    let end = q.place;
-    let mut v = x;
-    while v < end {
-        table[v] = line_tone(p, q, y, a, b, v);
-        v += 1;
-    }
+    refill(table, x, q.place, |v| line_tone(p, q, y, a, b, v));
 }
 
 // The tones of the values of [least, greatest], where the height y of the last point becomes b.
-fn fill_lines(sums: &[u32; 256], table: &mut [u8], c: Measures, s: Slopes, a: u8, b: u8, y: u64)
-    requires { (((length sums.now ≡ 256) × Cumulative sums.now c a b) × (c.greatest < length table.old))
+fn fill_lines(
+    sums: &[u32; 256],
+    table: &mut [u8; 256],
+    c: Measures,
+    s: Slopes,
+    a: u8,
+    b: u8,
+    y: u64,
+)
+    requires { Cumulative sums.now c a b
         × (((1 ≤ s.segments) × ((1 ≤ y) × (y < 2 ^ 32)))
         × (y ≡ (top_of (start a) (points s a b (at sums.now) c.size)).height)) }
     ensures { Refilled (joined a b y (start a) (points s a b (at sums.now) c.size))
         c.least (c.greatest + 1) table.old table.new }
 {
-    let n = s.segments as u64;
-    let least = c.least as usize;
-    let mut place = a as usize;
-    let mut height = 0;
-    let mut i = 0;
-    while i < n {
-        let p = Point { place, height };
+    let mut p = Point {
+        place: usize::from(a),
+        height: 0,
+    };
+    for i in 0..u64::from(s.segments) {
         let q = next_point(sums, c, s, a, b, i, p);
-        fill_line(table, p, q, y, a, b, later(place, least));
-        place = q.place;
-        height = q.height;
-        i += 1;
+        fill_line(table, p, q, y, a, b, p.place.max(usize::from(c.least)));
+        p = q;
     }
-    table[c.greatest as usize] = b;
+    table[usize::from(c.greatest)] = b;
 }
 
 // The table of the rule; whether the component is retoned.

@@ -17,10 +17,9 @@ use Rattle.texts.proofs.Placing.{put_more, put_length}
 use Rattle.model.specs.declared.Pass.{Pass}
 use Rattle.listformat.specs.declared.Edition.{Edition}
 use Rattle.listformat.specs.declared.Edition.TheVariants.{First, Second}
-use Rattle.listformat.specs.Format.{other, version, record_length, fields_length, record_start, count_of, edition_of}
-use Rattle.listformat.specs.Format.{pass_at, pass_here, passes_of, bytes16, encode_rest, encode_pass, encode_passes}
+use Rattle.listformat.specs.Format.{other, record_length, fields_length, record_start, count_of, edition_of}
+use Rattle.listformat.specs.Format.{pass_at, pass_here, passes_of, encode_rest, encode_pass, encode_passes}
 use Rattle.listformat.specs.Format.{encode_head, encode, Bytes}
-use Rattle.listformat.proofs.Numbers.{split16}
 use Rattle.listformat.proofs.Format.{written_fields, length_pass, length_passes_of, no_pass, passes_of_at}
 use Rattle.listformat.proofs.Format.{record-inside, fields_within}
 use Rattle.listchecks.proofs.Refusals.{formed_each}
@@ -28,20 +27,6 @@ use Rattle.conversion.specs.Conversion.{converted}
 use Rattle.conversion.proofs.Refusals.{Convertible, head_sound}
 
 -- ## The parts of a list
-
-pub version_low : (e : Edition) → version e ≤ 2
-version_low First = omega arith
-version_low Second = omega arith
-
--- the head of a list of the edition with as many records as the given one
-pub head_put : (e : Edition) (bs : List ℕ) {v : ℕ} → v ≡ version e → at bs 5 < 256 → at bs 6 < 256
-    → 77 ∷ 76 ∷ 80 ∷ v ∷ 0 ∷ at bs 5 ∷ at bs 6 ∷ [] ≡ encode_head e (count_of bs)
-head_put e bs is low high =
-    ap₂ (λ (v : ℕ) (r : List ℕ). 77 ∷ 76 ∷ 80 ∷ v ∷ 0 ∷ r) is (sym (split16 (at bs 5) (at bs 6) low high)) ∙ named e
-  where
-    named : (e : Edition) → 77 ∷ 76 ∷ 80 ∷ version e ∷ 0 ∷ bytes16 (count_of bs) ≡ encode_head e (count_of bs)
-    named First = refl
-    named Second = refl
 
 pub put_nothing : (output : List ℕ) (at : ℕ) → Put output at [] at output
 put_nothing output at = record {

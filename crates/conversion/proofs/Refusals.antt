@@ -3,16 +3,18 @@
 --   length_converted   how long the list is in the other edition
 --   convert_order      the refusals in the order in which they are tested
 --   Convertible        what a list has that is not refused
---   refused_head, refused_record, refused_short, refused_none
---                      each answer, by the tests that led to it
-use Prim.Native.Nat.{ℕ, ◌≤◌, ◌<◌}
+--   refused_head, refused_record, refused_room
+--                      each result, by the tests that led to it
+use Prim.Native.Nat.{ℕ, ◌≤◌}
 use mathlib.Core.Path.{◌≡◌, sym, ap, ap₂, ◌∙◌}
-use mathlib.Core.Bool.{Bool}
 use mathlib.Core.List.{List}
 use lib.ListN.{length}
-use borrow.Author.Tests.{lt-ltb}
-use Rattle.planes.specs.Refusals.{when, ◌▷◌, output_refusal}
-use Rattle.planes.proofs.Refusals.{▷_none, ▷_both, ▷_left, ▷_right, ▷_assoc, output_fits, output_none}
+use Rattle.std.specs.Prelude.{Result}
+use Rattle.std.specs.Result.{IsErrAnd}
+use Rattle.planes.specs.declared.refusal.Refusal.{Refusal}
+use Rattle.planes.specs.Refusals.{number, number_in, ◌▷◌, output_refusal}
+use Rattle.planes.proofs.Refusals.{▷_none, ▷_both, ▷_assoc, output_fits, output_none}
+use Rattle.planes.proofs.Refusals.{refused_by, passed_first}
 use Rattle.listformat.specs.declared.Edition.{Edition}
 use Rattle.listformat.specs.Format.{other, record_start, count_of, edition_of, passes_of, head_refusal}
 use Rattle.listformat.proofs.Format.{length_encode, length_passes_of}
@@ -67,35 +69,34 @@ pub head_sound : (bs : List ℕ) {output : ℕ} → Convertible bs output → he
 unfolding list_refusal
 head_sound bs fine = (▷_none (head_refusal bs) (first_refusal (record_refusals bs)) fine.sound).0
 
--- ## The answers, by the tests that led to them
+-- ## The results, by the tests that led to them
 
 module _ (bs : List ℕ) (output : ℕ) where
   abbrev needed : ℕ
   needed = record_start (other (edition_of bs)) (count_of bs)
 
-  pub refused_head : {k : ℕ} → k ≡ head_refusal bs → (k ≡ 0 → ⊥) → k ≡ convert_refusal bs output
-  refused_head e some = e ∙ sym (convert_order bs output ∙ ▷_left _ _ (λ z. some (e ∙ z)))
+  pub refused_head : {A : Type 0} (r : Result A Refusal) (d : Refusal) → IsErrAnd r (λ x. x ≡ d)
+      → number d ≡ head_refusal bs → number_in r ≡ convert_refusal bs output
+  refused_head r d h e = refused_by r d _ _ h e ∙ sym (convert_order bs output)
 
-  module _ (head : head_refusal bs ≡ 0) {e : Edition} (edition : e ≡ other (edition_of bs)) {k : ℕ}
-      (told : k ≡ first_refusal (record_refusals bs) ▷ places_refusal e (passes_of bs)) where
-    records-told : k ≡ first_refusal (record_refusals bs) ▷ unplaced bs
-    records-told =
+  module _ (head : 0 ≡ head_refusal bs) {e : Edition} (edition : e ≡ other (edition_of bs)) where
+    -- the refusal of the records, by the edition that they go to
+    records-told : {k : ℕ} → k ≡ first_refusal (record_refusals bs) ▷ places_refusal e (passes_of bs)
+        → k ≡ first_refusal (record_refusals bs) ▷ unplaced bs
+    records-told told =
         told ∙ ap (λ (d : Edition). first_refusal (record_refusals bs) ▷ places_refusal d (passes_of bs)) edition
 
-    pub refused_record : (k ≡ 0 → ⊥) → k ≡ convert_refusal bs output
-    refused_record some =
-        records-told
-        ∙ sym (convert_order bs output ∙ ▷_right _ _ head ∙ ▷_left _ _ (λ z. some (records-told ∙ z)))
+    pub refused_record : {A : Type 0} (r : Result A Refusal) (d : Refusal) → IsErrAnd r (λ x. x ≡ d)
+        → number d ≡ first_refusal (record_refusals bs) ▷ places_refusal e (passes_of bs)
+        → number_in r ≡ convert_refusal bs output
+    refused_record r d h told =
+        passed_first _ _ _ head (refused_by r d _ _ h (records-told told)) ∙ sym (convert_order bs output)
 
-    module _ (none : k ≡ 0) {n count : ℕ} (start : n ≡ record_start e count) (counted : count ≡ count_of bs) where
-      by-room : convert_refusal bs output ≡ output_refusal output n
-      by-room =
-          convert_order bs output ∙ ▷_right _ _ head ∙ ▷_right _ _ (sym records-told ∙ none)
-          ∙ sym (ap (output_refusal output) (start ∙ ap₂ record_start edition counted))
-
-      pub refused_short : output < n → 14 ≡ convert_refusal bs output
-      unfolding output_refusal
-      refused_short h = sym (by-room ∙ ap (λ (t : Bool). when t 14) (lt-ltb output n h))
-
-      pub refused_none : n ≤ output → 0 ≡ convert_refusal bs output
-      refused_none h = sym (by-room ∙ output_none output n h)
+    pub refused_room : {k n count : ℕ}
+        → 0 ≡ first_refusal (record_refusals bs) ▷ places_refusal e (passes_of bs) → n ≡ record_start e count
+        → count ≡ count_of bs → k ≡ output_refusal output n → k ≡ convert_refusal bs output
+    refused_room none start counted told =
+        passed_first _ _ _ head
+        (passed_first _ _ _ (records-told none)
+        (told ∙ ap (output_refusal output) (start ∙ ap₂ record_start edition counted)))
+        ∙ sym (convert_order bs output)

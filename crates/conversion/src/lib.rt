@@ -7,6 +7,7 @@
 #![tactic(auto)]
 
 ghost use Rattle.std.specs.Prelude.{◌≡◌, ◌++◌, ◌+◌, ◌≤◌, length, take, drop};
+ghost use Rattle.planes.specs.Refusals.{number_in};
 ghost use Rattle.texts.specs.Placing.{Put};
 ghost use Rattle.texts.specs.Writing.{written_reply};
 ghost use Rattle.listformat.specs.Format.{record_length, fields_length, head_length, count_of, encode_head};
@@ -14,27 +15,17 @@ ghost use Rattle.listformat.specs.Format.{encode_rest};
 ghost use Rattle.conversion.specs.Conversion.{converted, convert_refusal, ConvertOutcome};
 
 use listformat::{COUNT_AT, Edition, FIELDS_LENGTH};
-use planes::FOUR;
-use planes::refused::OUTPUT;
-use texts::Written;
+use planes::{FOUR, Refusal};
 
-// The refusal of a list that is to be written to an output of so many bytes, or 0.
-fn convert_refusal(list: &[u8], output: usize) -> u8
-    ensures { result ≡ convert_refusal list.now output }
+// The refusal of a list that is to be written to an output of so many bytes.
+fn convert_refusal(list: &[u8], output: usize) -> Result<(), Refusal>
+    ensures { number_in result ≡ convert_refusal list.now output }
 {
-    let head = listchecks::head_refusal(list);
-    if head != 0 {
-        return head;
-    }
-    let edition = listformat::other(listformat::edition_of(list));
-    let records = listchecks::records_refusal(list, edition);
-    if records != 0 {
-        return records;
-    }
-    if output < listformat::record_start(edition, listformat::count_of(list)) {
-        return OUTPUT;
-    }
-    0
+    listchecks::head_refusal(list)?;
+    let edition = listformat::edition_of(list).other();
+    listchecks::records_refusal(list, edition)?;
+    let needed = listformat::record_start(edition, listformat::count_of(list));
+    planes::output_refusal(output, needed)
 }
 
 // Writes the head of a list of the edition, with as many records as the given one, at the beginning of the output, and
@@ -44,10 +35,16 @@ fn put_head(output: &mut [u8], list: &[u8], edition: Edition) -> usize
     ensures { Put output.old 0 (encode_head edition (count_of list.now)) result
         output.new }
 {
-    let version = listformat::version(edition) as u8;
-    let low = list[COUNT_AT];
-    let high = list[COUNT_AT + 1];
-    let head = [b'M', b'L', b'P', version, 0, low, high];
+    let [low, high] = edition.version().to_le_bytes();
+    let head = [
+        b'M',
+        b'L',
+        b'P',
+        low,
+        high,
+        list[COUNT_AT],
+        list[COUNT_AT + 1],
+    ];
     texts::put_bytes(output, 0, &head)
 }
 
@@ -80,27 +77,21 @@ fn put_converted(output: &mut [u8], list: &[u8]) -> usize
     ensures { Put output.old 0 (converted list.now) result output.new }
 {
     let edition = listformat::edition_of(list);
-    let target = listformat::other(edition);
+    let target = edition.other();
     let count = listformat::count_of(list);
     let mut at = put_head(output, list, target);
-    let mut j = 0;
-    while j < count {
+    for j in 0..count {
         let i = listformat::record_start(edition, j);
         at = put_record(output, at, list, i, target);
-        j += 1;
     }
     at
 }
 
 // Writes the list in the other edition at the beginning of the output, or answers the refusal that it meets with.
-pub fn convert(list: &[u8], output: &mut [u8]) -> Written
+pub fn convert(list: &[u8], output: &mut [u8]) -> Result<usize, Refusal>
     ensures { ConvertOutcome list.now output.old (written_reply result)
         output.new }
 {
-    let refusal = convert_refusal(list, output.len());
-    if refusal != 0 {
-        return Written::Refused(refusal);
-    }
-    let length = put_converted(output, list);
-    Written::Length(length)
+    convert_refusal(list, output.len())?;
+    Ok(put_converted(output, list))
 }

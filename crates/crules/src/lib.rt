@@ -5,7 +5,7 @@
 #![tactic(auto)]
 
 ghost use Rattle.std.specs.Prelude.{◌≡◌, min};
-ghost use Rattle.crules.specs.Rules.{ruled, numbers_for, neighbours_for};
+ghost use Rattle.crules.specs.Rules.{numbers_for, neighbours_for};
 
 use planes::FOUR;
 use tones::RuleNumbers;
@@ -14,10 +14,7 @@ use tones::RuleNumbers;
 fn byte_of(x: u16) -> u8
     ensures { result ≡ min x 255 }
 {
-    if x < 255 {
-        return x as u8;
-    }
-    255
+    x.min(255) as u8
 }
 
 // How many numbers are lent for a rule, and how many with a number of neighbours.
@@ -25,35 +22,24 @@ pub const RULE_NUMBERS: usize = 4;
 
 pub const PASS_NUMBERS: usize = 5;
 
-// Whether so many numbers are lent for a rule.
-fn is_ruled(count: usize) -> bool
-    ensures { result ≡ ruled count }
-{
-    count == RULE_NUMBERS || count == PASS_NUMBERS
-}
-
 // The numbers of a rule, by its code, first and second number, and segments; of fewer or more numbers, those of no
 // rule.
 pub fn rule_numbers(rule: &[u16]) -> RuleNumbers
     ensures { result ≡ numbers_for rule.now }
 {
-    if is_ruled(rule.len()) {
-        let code = byte_of(rule[0]);
-        let extra = byte_of(rule[3]);
-        let first = rule[1];
-        let second = rule[2];
-        return RuleNumbers {
-            code,
-            extra,
-            first,
-            second,
-        };
-    }
-    RuleNumbers {
-        code: 255,
-        extra: 0,
-        first: 0,
-        second: 0,
+    match rule {
+        [code, first, second, extra] | [code, first, second, extra, _] => RuleNumbers {
+            code: byte_of(*code),
+            extra: byte_of(*extra),
+            first: *first,
+            second: *second,
+        },
+        _ => RuleNumbers {
+            code: 255,
+            extra: 0,
+            first: 0,
+            second: 0,
+        },
     }
 }
 
@@ -61,8 +47,8 @@ pub fn rule_numbers(rule: &[u16]) -> RuleNumbers
 pub fn neighbour_number(rule: &[u16]) -> u8
     ensures { result ≡ neighbours_for rule.now }
 {
-    if rule.len() != PASS_NUMBERS {
-        return FOUR;
+    match rule {
+        [_, _, _, _, neighbours] => byte_of(*neighbours),
+        _ => FOUR,
     }
-    byte_of(rule[4])
 }

@@ -8,14 +8,13 @@
 // refill                                entries of a table, each by its place
 // fill_same                             values that are kept, in a table
 // scale                                 a part of b - a, rounded
-// lesser, greater                       of two values
 // nearest                               within
 //
 // Counts are lent all 0, and cleared after use: those of the values of [least, greatest], for those of all others stay
 // 0. What clears or fills takes any slice that has the entries.
 #![tactic(auto)]
 
-ghost use Rattle.std.specs.Prelude.{ℕ, ◌≡◌, [], ◌+◌, ◌^◌, ◌≤◌, ◌<◌, min, max, length};
+ghost use Rattle.std.specs.Prelude.{ℕ, ◌≡◌, [], ◌+◌, ◌^◌, ◌≤◌, ◌<◌, max, length};
 ghost use Rattle.planes.specs.Lists.{at};
 ghost use Rattle.planes.specs.Rounding.{rounded};
 ghost use Rattle.histograms.specs.Values.{sum_to, scaled};
@@ -28,20 +27,6 @@ pub struct Measures {
     pub size: usize,
     pub least: u8,
     pub greatest: u8,
-}
-
-// The lesser of two values.
-pub fn lesser(x: u8, y: u8) -> u8
-    ensures { result ≡ min x y }
-{
-    if x < y { x } else { y }
-}
-
-// The greater of two values.
-pub fn greater(x: u8, y: u8) -> u8
-    ensures { result ≡ max x y }
-{
-    if x < y { y } else { x }
 }
 
 // The measures of all values of a plane.

@@ -36,21 +36,7 @@ module _ (bs : List ℕ) (fine : head_refusal bs ≡ 0) where
       (subst (λ (e : Edition). record_start e j + record_length e ≤ length bs) (sym d) whole) in
       (omega (arith, inside, fields_within e), inside)
 
--- the refusal of record j, where its form is refused and where it is not
-pub record_err : {A : Type 0} (bs : List ℕ) (j : ℕ) (r : Result A Refusal) (d : Refusal) (e : Edition) (i : ℕ)
-    → j < count_of bs → e ≡ edition_of bs → i ≡ record_start e j → IsErrAnd r (λ x. x ≡ d) → number d ≡ form_at e bs i
-    → number_in r ≡ at (record_refusals bs) j
-record_err bs j r d e i l edition start h form =
-    refused_by r d (form_at e bs i) (numbers_refusal (pass_at e bs i)) h form ∙ record_told bs j l edition start
-
-pub record_ok : (bs : List ℕ) (j n : ℕ) (p : Pass) (e : Edition) (i : ℕ) → j < count_of bs → e ≡ edition_of bs
-    → i ≡ record_start e j → 0 ≡ form_at e bs i → p ≡ pass_at e bs i → n ≡ numbers_refusal p
-    → n ≡ at (record_refusals bs) j
-record_ok bs j n p e i l edition start form pass same =
-    passed_first n (form_at e bs i) (numbers_refusal (pass_at e bs i)) form (same ∙ ap numbers_refusal pass)
-    ∙ record_told bs j l edition start
-
 -- what finds them
 pub ruleset record_there = (head_stands, record_begins, record_stands)
 
-pub ruleset record_first = (head_stands, record_begins, record_stands, record_ok)
+pub ruleset record_first = (head_stands, record_begins, record_stands, refused_by, passed_first)

@@ -8,10 +8,10 @@
 #![tactic(auto)]
 
 ghost use Rattle.std.specs.Prelude.{◌≡◌, ◌≤◌, ◌<◌, length};
-ghost use Rattle.planes.specs.Lists.{at};
 ghost use Rattle.planes.specs.Refusals.{number_in, ◌▷◌};
 ghost use Rattle.listformat.specs.Format.{head_length, count_of, pass_here, passes_of, misnamed, miscounted, head_refusal};
-ghost use Rattle.listchecks.specs.Refusals.{first_refusal, record_refusals, list_refusal, passes_refusal};
+ghost use Rattle.listformat.specs.Format.{edition_of, record_start};
+ghost use Rattle.listchecks.specs.Refusals.{first_refusal, record_refusal, record_refusals, list_refusal, passes_refusal};
 ghost use Rattle.listchecks.specs.Refusals.{place_refusal, places_refusal};
 
 use listformat::{Edition, HEAD_LENGTH, VERSION_AT};
@@ -72,10 +72,11 @@ pub fn pass_of(list: &[u8], j: usize) -> Pass
 }
 
 // 17, then 5 to 8, 18, 19, for record j of a list whose head is not refused.
-#[tactic(auto, using(crate::proofs::Records::record_first))]
+#[tactic(auto, using(crate::proofs::Records::record_first), unfolding(crate::specs::Refusals::record_refusal))]
 fn record_refusal(list: &[u8], j: usize) -> Result<(), Refusal>
     requires { (head_refusal list.now ≡ 0) × (j < count_of list.now) }
-    ensures { number_in result ≡ at (record_refusals list.now) j }
+    ensures { number_in result ≡ record_refusal (edition_of list.now) list.now
+        (record_start (edition_of list.now) j) }
 {
     let edition = listformat::edition_of(list);
     let i = listformat::record_start(edition, j);

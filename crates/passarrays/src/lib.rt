@@ -10,34 +10,11 @@ ghost use Rattle.passlists.specs.Outcomes.{PassesOutcome};
 ghost use Rattle.passarrays.specs.Arrays.{array_length};
 
 use listchecks::COUNT;
-use model::{Answer, Pass};
-use planes::Shape;
+use model::{Counts, Pass};
+use planes::{Refusal, Shape};
 
 // One more than a list may have, so that a list that is too long fits too.
 pub const ROOM: usize = COUNT + 1;
-
-// The first `count` passes of the array, lent as a slice.
-fn run_front(
-    list: [Pass; ROOM],
-    count: usize,
-    plane: &mut [u8],
-    marks: &mut [u8],
-    queue: &mut [u32],
-    shape: Shape,
-) -> Answer
-    requires { count ≤ array_length }
-    ensures { PassesOutcome shape (take count list) plane.old marks.old
-        queue.old (answer_reply result) plane.new marks.new queue.new }
-{
-    passlists::run_passes(&list[..count], plane, marks, queue, shape)
-}
-
-// x, but at most as many as there is room for.
-fn at_most(x: usize) -> usize
-    ensures { result ≡ min x array_length }
-{
-    if x < ROOM { x } else { ROOM }
-}
 
 // The first `count` passes of the array, or all where it has fewer, over the lent plane of the shape, one after the
 // other, or the refusal that they meet with. Marks and queue are working memory of at least as many entries as the
@@ -49,10 +26,10 @@ pub fn run_array(
     marks: &mut [u8],
     queue: &mut [u32],
     shape: Shape,
-) -> Answer
+) -> Result<Counts, Refusal>
     ensures { PassesOutcome shape (take count list) plane.old marks.old
         queue.old (answer_reply result) plane.new marks.new queue.new }
 {
-    let end = at_most(count);
-    run_front(list, end, plane, marks, queue, shape)
+    let end = count.min(ROOM);
+    passlists::run_passes(&list[..end], plane, marks, queue, shape)
 }

@@ -5,6 +5,7 @@
 #![tactic(auto)]
 
 ghost use Rattle.std.specs.Prelude.{◌≡◌, ◌≤◌, length};
+ghost use Rattle.planes.specs.Refusals.{number_in};
 ghost use Rattle.planes.specs.Shapes.{pixels, Lent};
 ghost use Rattle.model.specs.Neighbourhoods.{pass_neighbours};
 ghost use Rattle.model.specs.Calls.{pass_refusal};
@@ -12,9 +13,9 @@ ghost use Rattle.model.specs.Effects.{pass_effect};
 ghost use Rattle.model.specs.Outcomes.{answer_reply, Over};
 ghost use Rattle.passes.specs.Calls.{call_on, PassOutcome};
 
-use model::{Answer, Counts, Pass};
+use model::{Counts, Pass};
 use painting::Next;
-use planes::Shape;
+use planes::{Refusal, Shape};
 
 // A pass over a plane with room for it. How many components were retoned, and how many kept back.
 pub fn treat(
@@ -43,14 +44,18 @@ pub fn treat(
     }
 }
 
-// 1 to 8, 18 or 19 for a call of a pass, or 0.
-fn refusal_of(shape: Shape, plane: usize, marks: usize, queue: usize, pass: Pass) -> u8
-    ensures { result ≡ pass_refusal shape plane (call_on marks queue pass) }
+// 1 to 8, 18 or 19 for a call of a pass.
+#[tactic(auto, using(planes::proofs::Refusals::in_order), unfolding(model::specs::Calls::pass_refusal))]
+fn refusal_of(
+    shape: Shape,
+    plane: usize,
+    marks: usize,
+    queue: usize,
+    pass: Pass,
+) -> Result<(), Refusal>
+    ensures { number_in result ≡ pass_refusal shape plane (call_on marks queue pass) }
 {
-    let lent = planes::lent_refusal(shape, plane, marks, queue);
-    if lent != 0 {
-        return lent;
-    }
+    planes::lent_refusal(shape, plane, marks, queue)?;
     model::pass_refusal(pass)
 }
 
@@ -62,14 +67,11 @@ pub fn pass(
     queue: &mut [u32],
     shape: Shape,
     pass: Pass,
-) -> Answer
+) -> Result<Counts, Refusal>
     ensures { PassOutcome shape pass
         plane.old marks.old queue.old (answer_reply result)
         plane.new marks.new queue.new }
 {
-    let refusal = refusal_of(shape, plane.len(), marks.len(), queue.len(), pass);
-    if refusal != 0 {
-        return Answer::Refused(refusal);
-    }
-    Answer::Done(treat(plane, marks, queue, shape, pass))
+    refusal_of(shape, plane.len(), marks.len(), queue.len(), pass)?;
+    Ok(treat(plane, marks, queue, shape, pass))
 }

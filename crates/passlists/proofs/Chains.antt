@@ -5,7 +5,7 @@
 --   list_chain                a list of bytes
 --   passes_taken, list_taken  none of the calls is refused
 use Prim.Native.Nat.{ℕ}
-use mathlib.Core.Path.{◌≡◌, refl, sym, ap, ap₂, subst, ◌∙◌}
+use mathlib.Core.Path.{◌≡◌, refl, sym, ap₂, subst, ◌∙◌}
 use mathlib.Core.List.{List, [], ◌∷◌, map}
 use lib.ListN.{length}
 use Rattle.planes.specs.Refusals.{◌▷◌}

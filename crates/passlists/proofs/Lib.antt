@@ -4,5 +4,3 @@ pub mod Lists
 pub mod Chains
 pub mod Recursion
 pub mod Editions
-pub mod Turns
-pub mod Plans

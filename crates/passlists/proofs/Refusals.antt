@@ -1,26 +1,22 @@
--- The refusals of passes in memory. Assumes nothing.
-use Prim.Native.Nat.{ℕ, zero, suc, ◌≤◌, ◌<◌}
-use mathlib.Core.Path.{◌≡◌, refl, sym, subst, ◌∙◌}
-use mathlib.Core.List.{List, [], ◌∷◌, map}
-use native.Mathlib.Omega.{arith}
+-- The refusals of passes, and what passes have that are not refused. Assumes nothing.
+use Prim.Native.Nat.{ℕ, ◌≤◌, ◌<◌}
+use mathlib.Core.Path.{◌≡◌, sym, subst, ◌∙◌}
+use mathlib.Core.List.{List, map}
 use lib.ListN.{length, get_or, length-map}
 use lib.Dec.{ltb}
 use borrow.Author.Tests.{ltb-false}
-use Rattle.planes.specs.Lists.{at}
-use Rattle.planes.specs.Refusals.{when, ◌▷◌}
+use Rattle.planes.specs.Refusals.{when}
 use Rattle.planes.proofs.Refusals.{when_none, ▷_none}
 use Rattle.model.specs.declared.Pass.{Pass}
 use Rattle.model.specs.Calls.{numbers_refusal}
-use Rattle.listformat.specs.Format.{greatest_count}
+use Rattle.planes.specs.declared.Shape.{Shape}
+use Rattle.listformat.specs.Format.{greatest_count, passes_of, head_refusal}
 use Rattle.listformat.proofs.Format.{no_pass}
-use Rattle.listchecks.specs.Refusals.{first_refusal, passes_refusal}
+use Rattle.listchecks.specs.Refusals.{first_refusal, record_refusals, list_refusal, passes_refusal}
 use Rattle.listchecks.proofs.First.{clear_each}
-
-pub passes_at : (ss : List Pass) (i : ℕ) → i < length ss
-    → at (map numbers_refusal ss) i ≡ numbers_refusal (get_or ss i no_pass)
-passes_at [] i h = absurd (omega arith)
-passes_at (s ∷ ss) zero h = refl
-passes_at (s ∷ ss) (suc i) h = passes_at ss i (omega arith)
+use Rattle.listchecks.proofs.Refusals.{passes_at, accepted_list}
+use Rattle.passturns.specs.Steps.{Runnable}
+use Rattle.passlists.specs.Outcomes.{ListRunnable}
 
 -- what passes have that are not refused
 pub fine_passes : (ss : List Pass) → passes_refusal ss ≡ 0
@@ -34,4 +30,14 @@ pub fine_pass : (ss : List Pass) → passes_refusal ss ≡ 0 → (i : ℕ) → i
     → numbers_refusal (get_or ss i no_pass) ≡ 0
 fine_pass ss e i h =
     let inside : i < length (map numbers_refusal ss) = subst (i <◌) (sym (length-map ss numbers_refusal)) h in
-    sym (passes_at ss i h) ∙ clear_each (map numbers_refusal ss) (fine_passes ss e).1 i inside
+    sym (passes_at ss i no_pass h) ∙ clear_each (map numbers_refusal ss) (fine_passes ss e).1 i inside
+
+-- ## A list of bytes that is not refused
+
+module _ {z : Shape} {list plane marks queue : List ℕ} (r : ListRunnable z list plane marks queue) where
+  pub list_head : head_refusal list ≡ 0
+  unfolding list_refusal
+  list_head = (▷_none (head_refusal list) (first_refusal (record_refusals list)) r.fine).0
+
+  pub list_runs : Runnable z (passes_of list) plane marks queue
+  list_runs = record { lent = r.lent; fine = (accepted_list list r.fine).1 }

@@ -16,13 +16,14 @@ use Rattle.planes.proofs.Lists.{beyond_refl, beyond_trans}
 use Rattle.model.specs.declared.Pass.{Pass}
 use Rattle.model.specs.Neighbourhoods.{pass_neighbours}
 use Rattle.model.specs.Effects.{Effect, nothing, then, pass_effect, run_effect}
-use Rattle.model.specs.Outcomes.{Over}
+use Rattle.model.specs.declared.Counts.{Counts}
+use Rattle.model.specs.Outcomes.{came, Over}
 use Rattle.model.proofs.Order.{length_passed}
 use Rattle.model.proofs.Chains.{ordered}
 use Rattle.model.proofs.Recursion.{then_assoc, nothing_then, then_nothing}
 use Rattle.model.proofs.Sufficient.{run_few}
 use Rattle.listformat.specs.Format.{greatest_count}
-use Rattle.passturns.specs.Steps.{further, Countable, StepReady, Runnable}
+use Rattle.passturns.specs.Steps.{further, Countable, StepReady, StepOutcome, Runnable}
 use Rattle.listformat.proofs.Format.{no_pass}
 use Rattle.passlists.proofs.Refusals.{fine_passes, fine_pass}
 
@@ -115,6 +116,18 @@ module _ {z : Shape} {ss : List Pass} {plane₀ marks₀ queue₀ : List ℕ} wh
       marks_rest = beyond_trans along.marks_rest m;
       queue_rest = beyond_trans along.queue_rest q;
     }
+
+    -- of the pass that is due
+    module _ {p : Pass} (is : p ≡ here) (l : i < length ss) where
+      pub along_asks : Runnable z ss plane₀ marks₀ queue₀ → StepReady z p e marks queue
+      along_asks r = subst (λ (q : Pass). StepReady z q e marks queue) (sym is) (along_ready r l)
+
+      pub along_step : {r : Counts} {plane' marks' queue' : List ℕ}
+          → StepOutcome z p e marks queue r plane' marks' queue'
+          → Along z ss plane₀ marks₀ queue₀ (i + 1) (came plane' r) marks' queue'
+      along_step {marks' = marks'} {queue' = queue'} o =
+          subst (λ (f : Effect). Along z ss plane₀ marks₀ queue₀ (i + 1) f marks' queue')
+          (sym (o.effect_is ∙ ap (λ (q : Pass). further z q e) is)) (along_more l o.marks_rest o.queue_rest)
 
     pub along_all : length ss ≤ i → Over (pixels z) (effect_of z ss plane₀) marks₀ queue₀ e.plane marks queue
         (record { retoned = e.retoned; kept = e.kept })

@@ -6,22 +6,47 @@
 // list_refusal  the refusal that a list of bytes meets with, and nothing is run
 // convert       a list of bytes in the other version, into a lent output, or the refusal that it meets with
 //
-// A run is one walk: a run begins, takes a turn for each pass, first to check it and then to run it, and answers. All
-// passes are checked before the first one runs, so a refusal changes nothing.
+// All passes are checked before the first one runs, so a refusal changes nothing.
 #![tactic(auto)]
 
 ghost use Rattle.std.specs.Prelude.{◌≡◌};
-ghost use Rattle.planes.specs.Refusals.{◌▷◌};
-ghost use Rattle.planes.specs.Shapes.{lent_refusal};
+ghost use Rattle.planes.specs.Refusals.{number_in, ◌▷◌};
+ghost use Rattle.planes.specs.Shapes.{pixels, lent_refusal};
 ghost use Rattle.texts.specs.Writing.{written_reply};
-ghost use Rattle.model.specs.Outcomes.{answer_reply};
+ghost use Rattle.model.specs.Neighbourhoods.{pass_neighbours};
+ghost use Rattle.model.specs.Effects.{run_effect};
+ghost use Rattle.model.specs.Outcomes.{answer_reply, Over};
+ghost use Rattle.listformat.specs.Format.{passes_of};
 ghost use Rattle.listchecks.specs.Refusals.{list_refusal};
 ghost use Rattle.conversion.specs.Conversion.{ConvertOutcome};
-ghost use Rattle.passlists.specs.Outcomes.{ListOutcome, PassesOutcome};
+ghost use Rattle.passturns.specs.Steps.{Runnable};
+ghost use Rattle.passlists.specs.Outcomes.{ListOutcome, ListRunnable, PassesOutcome};
 
-use model::{Answer, Pass};
-use planes::Shape;
-use texts::Written;
+use model::{Counts, Pass};
+use planes::{Refusal, Shape};
+
+// The passes of a list of bytes that is not refused, one after the other.
+fn run_records(
+    list: &[u8],
+    plane: &mut [u8],
+    marks: &mut [u8],
+    queue: &mut [u32],
+    shape: Shape,
+) -> Counts
+    requires { ListRunnable shape list.now plane.old marks.old queue.old }
+    ensures { Over (pixels shape) (run_effect (pass_neighbours shape) (passes_of list.now) plane.old)
+        marks.old queue.old plane.new marks.new queue.new result }
+{
+    let mut counts = Counts {
+        retoned: 0,
+        kept: 0,
+    };
+    for j in 0..listformat::count_of(list) {
+        let pass = listchecks::pass_of(list, j);
+        counts = passturns::turn(plane, marks, queue, shape, pass, counts);
+    }
+    counts
+}
 
 // The passes of a list of bytes over the lent plane of the shape, one after the other, or the refusal that the list
 // meets with. Marks and queue are working memory of at least as many entries as the plane has pixels, with any content.
@@ -31,37 +56,59 @@ pub fn run_list(
     marks: &mut [u8],
     queue: &mut [u32],
     shape: Shape,
-) -> Answer
+) -> Result<Counts, Refusal>
     ensures { ListOutcome shape list.now plane.old marks.old
         queue.old (answer_reply result) plane.new marks.new queue.new }
 {
-    let mut s = passturns::begin_list(list, shape, plane.len(), marks.len(), queue.len());
-    while s.at < s.end {
-        let record = listchecks::record_at(list, s.at);
-        s = passturns::turn(plane, marks, queue, shape, record.form, record.pass, s);
-    }
-    passturns::answer(s)
+    list_refusal(list, shape, plane.len(), marks.len(), queue.len())?;
+    Ok(run_records(list, plane, marks, queue, shape))
 }
 
-// The refusal that a list of bytes meets with where memory of these lengths is lent, or 0. Nothing is run.
-pub fn list_refusal(list: &[u8], shape: Shape, plane: usize, marks: usize, queue: usize) -> u8
-    ensures { result ≡ lent_refusal shape plane marks queue ▷ list_refusal list.now }
+// The refusal that a list of bytes meets with where memory of these lengths is lent. Nothing is run.
+#[tactic(auto, using(planes::proofs::Refusals::in_order))]
+pub fn list_refusal(
+    list: &[u8],
+    shape: Shape,
+    plane: usize,
+    marks: usize,
+    queue: usize,
+) -> Result<(), Refusal>
+    ensures { number_in result ≡ lent_refusal shape plane marks queue ▷ list_refusal list.now }
 {
-    let lent = planes::lent_refusal(shape, plane, marks, queue);
-    if lent != 0 {
-        return lent;
-    }
+    planes::lent_refusal(shape, plane, marks, queue)?;
     listchecks::list_refusal(list)
 }
 
 // The list in the other version at the beginning of the output, and its length: version 1 becomes version 2, and
 // version 2 becomes version 1. Or the refusal that it meets with: those of a list, then 20 where a pass with eight
 // neighbours is to become version 1, then 14 where the output is too short.
-pub fn convert(list: &[u8], output: &mut [u8]) -> Written
+pub fn convert(list: &[u8], output: &mut [u8]) -> Result<usize, Refusal>
     ensures { ConvertOutcome list.now output.old (written_reply result)
         output.new }
 {
     conversion::convert(list, output)
+}
+
+// Passes that are not refused, one after the other.
+fn run_each(
+    passes: &[Pass],
+    plane: &mut [u8],
+    marks: &mut [u8],
+    queue: &mut [u32],
+    shape: Shape,
+) -> Counts
+    requires { Runnable shape passes.now plane.old marks.old queue.old }
+    ensures { Over (pixels shape) (run_effect (pass_neighbours shape) passes.now plane.old)
+        marks.old queue.old plane.new marks.new queue.new result }
+{
+    let mut counts = Counts {
+        retoned: 0,
+        kept: 0,
+    };
+    for pass in passes {
+        counts = passturns::turn(plane, marks, queue, shape, *pass, counts);
+    }
+    counts
 }
 
 // Lent passes over the lent plane of the shape, one after the other, or the refusal that they meet with. Marks and
@@ -72,13 +119,11 @@ pub fn run_passes(
     marks: &mut [u8],
     queue: &mut [u32],
     shape: Shape,
-) -> Answer
+) -> Result<Counts, Refusal>
     ensures { PassesOutcome shape passes.now plane.old marks.old
         queue.old (answer_reply result) plane.new marks.new queue.new }
 {
-    let mut s = passturns::begin(shape, plane.len(), marks.len(), queue.len(), passes.len());
-    while s.at < s.end {
-        s = passturns::turn(plane, marks, queue, shape, 0, passes[s.at], s);
-    }
-    passturns::answer(s)
+    planes::lent_refusal(shape, plane.len(), marks.len(), queue.len())?;
+    listchecks::passes_refusal(passes)?;
+    Ok(run_each(passes, plane, marks, queue, shape))
 }

@@ -30,8 +30,9 @@ use Rattle.histograms.proofs.Measured.{measured_inside}
 use Rattle.histograms.proofs.Histograms.{summed_counts}
 use Rattle.points.specs.declared.Slopes.{Slopes}
 use Rattle.points.specs.declared.Point.{Point}
-use Rattle.points.specs.Points.{place_of, point_at, next_point, start, points_after, points, up_to}
+use Rattle.points.specs.Points.{growth, place_of, point_at, next_point, start, points_after, points, up_to}
 use Rattle.points.specs.Points.{Cumulative, First, Reached}
+use Rattle.points.proofs.Sizes.{three_few}
 use Rattle.points.proofs.Search.{least_ge, least_first, least_is, least_below, least_passes, least_same}
 
 -- ## Reached points
@@ -164,6 +165,19 @@ module _ (s : Slopes) {sums : List ℕ} {c : Measures} {a b : ℕ} (k : Cumulati
       )))
       (λ l. le_antisymm r.to l)
       (less_or_not p.place c.greatest)
+
+-- heights and growths fit: slopes have 16 bits, segments and distances 8
+pub reached_few : {s : Slopes} {sums : List ℕ} {c : Measures} {a i : ℕ} {p : Point} → Reached s sums c a i p
+    → s.smax < 65536 → s.segments < 256 → c.greatest < 256 → p.height < 4294967296
+reached_few {s} {a = a} {p = p} r slope few byte =
+    omega (arith, r.low, three_few {x = s.smax} {n = s.segments} {d = p.place - a} slope few (omega (arith, r.to)))
+
+pub growth_few : (s : Slopes) (d w : ℕ) → s.smax < 65536 → s.segments < 256 → d < 256 → growth s d w < 4294967296
+growth_few s d w slope few byte = omega (
+  arith,
+  min-le_left (s.smax * s.segments * d) (max (s.smin * s.segments * d) w),
+  three_few {x = s.smax} {n = s.segments} {d = d} slope few byte,
+)
 
 -- ## Sums of a component's counts
 

@@ -1,21 +1,18 @@
 -- `conversion::convert` meets its contract: a refusal leaves the output alone, and else the list is put from its
 -- beginning on. Assumes nothing.
-use mathlib.Core.Path.{sym, ◌∙◌}
+use Rattle.std.proofs.Common.{sym, ap, ◌∙◌}
+use Rattle.std.proofs.lemmas.Result.{err_from_is_err_and}
+use Rattle.planes.specs.Refusals.{number}
 use Rattle.texts.proofs.Writing.{wrote_refused, wrote_accepted}
 use Rattle.conversion.proofs.convert.Goals as goal
 
-pub returns-then-refusal-ne0 : goal.returns-then-refusal-ne0
-returns-then-refusal-ne0 c =
-    let args = c.args in
-    wrote_refused _ _ args.output.now c.convert_refusal-refusal.result c.convert_refusal-refusal.ensures
-    c.if-refusal-ne0.true
+pub returns-in_err-convert_refusal : goal.returns-in_err-convert_refusal
+returns-in_err-convert_refusal c =
+    let (d, is, same) = err_from_is_err_and c.from_residual.result c.from_residual.ensures.1 in
+    rw is (wrote_refused _ _ _ d (ap number same ∙ c.in_err-convert_refusal.ensures))
 
-pub put_converted-length-requires : goal.put_converted-length-requires
-put_converted-length-requires c = sym c.convert_refusal-refusal.ensures ∙ c.if-refusal-ne0.false
+pub put_converted-requires : goal.put_converted-requires
+put_converted-requires c = sym c.in_ok-convert_refusal.ensures
 
 pub returns : goal.returns
-returns c =
-    let args = c.args in
-    let accepted = sym c.convert_refusal-refusal.ensures ∙ c.if-refusal-ne0.false in
-    wrote_accepted _ _ args.output.now c.put_converted-length.result c.put_converted-length.new.output accepted
-    c.put_converted-length.ensures
+returns c = wrote_accepted _ _ _ _ _ c.in_ok-convert_refusal.ensures c.put_converted.ensures

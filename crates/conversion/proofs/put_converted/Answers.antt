@@ -1,6 +1,6 @@
 -- `conversion::put_converted` meets its contract. The invariant: where the loop began with the head put into a lent
 -- output, the first j records are put (`Putting`). The measure is what is left of the count. Assumes nothing.
-use Prim.Native.Nat.{◌-◌, ◌≤◌, ◌<◌}
+use Prim.Native.Nat.{◌≤◌, ◌<◌}
 use mathlib.Core.Path.{ap, subst, ◌∙◌}
 use native.Mathlib.Omega.{arith}
 use lib.ListN.{length}
@@ -58,15 +58,6 @@ put_record-at-requires c =
     omega (arith, c.loop-j-test.true, c.count_of-count.ensures) in
     turn_asks fine named turned c.record_start-i.ensures due (c.loop-j.invariant lent fine (begun
     (goal.at.put_record-at-requires c).After-put_head-at))
-
-pub overflow_add-j : goal.overflow_add-j
-overflow_add-j c =
-    let head = headed _ (head_sound _ (convertible _ _ c.requires)) in
-    let counted = c.count_of-count.ensures in
-    omega (arith, c.loop-j-test.true, counted, head.few)
-
-pub loop-j-smaller : goal.loop-j-smaller
-loop-j-smaller c = omega (arith, c.loop-j-test.true)
 
 pub loop-j-preserved : goal.loop-j-preserved
 loop-j-preserved c = λ lent fine p.

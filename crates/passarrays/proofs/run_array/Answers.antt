@@ -25,7 +25,7 @@ take_min count n xs e = ⊎_elim
 pub returns : goal.returns
 returns c =
     let full : length c.args.list ≡ array_length = search rules in
-    let front : take c.at_most-end.result c.args.list ≡ take c.args.count c.args.list =
-    ap (λ (k : ℕ). take k c.args.list) c.at_most-end.ensures
+    let front : take c.min-end.result c.args.list ≡ take c.args.count c.args.list =
+    ap (λ (k : ℕ). take k c.args.list) c.min-end.ensures
     ∙ take_min c.args.count array_length c.args.list full in
-    rw front at c.run_front.ensures
+    rw front at c.run_passes.ensures
