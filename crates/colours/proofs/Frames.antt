@@ -12,7 +12,8 @@ use Rattle.planes.proofs.Rounding.{rounded_in}
 use Rattle.planes.proofs.Tests.{less_or_not}
 use Rattle.channels.specs.Channels.{third, new_channel, new_pixel}
 use Rattle.channels.proofs.Channels.{channel_mono, channel_byte}
-use Rattle.colours.specs.Frames.{red, green, blue, pixel_at, pixel_intensity, intensity, greatest_channel, new_channel_at, recolour}
+use Rattle.colours.specs.Frames.{red, green, blue, pixel_at, pixel_intensity, intensity, greatest_channel}
+use Rattle.colours.specs.Frames.{new_channel_at, recolour}
 
 -- ## Intensity
 

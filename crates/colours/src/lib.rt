@@ -83,7 +83,7 @@ fn recolour_frame(frame: &[u8], plane: &[u8], output: &mut [u8])
 }
 
 // 1, 2, 3 or 14 for a frame, a plane and an output of these lengths.
-#[tactic(auto, using(crate::proofs::Calls::in_order), unfolding(crate::specs::Calls::intensity_refusal, crate::specs::Calls::recolour_refusal))]
+#[tactic(auto, using(crate::proofs::Calls::in_order))]
 fn recolour_refusal(
     w: usize,
     h: usize,

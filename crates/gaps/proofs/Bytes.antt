@@ -1,11 +1,11 @@
 -- What the reader's next move tells of the byte: a digit, whitespace, a number sign, or none of them. Assumes nothing.
 use Prim.Native.Nat.{ℕ, ◌-◌, ◌≤◌}
 use mathlib.Core.Path.{◌≡◌, refl, sym, ◌∙◌}
-use mathlib.Core.Bool.{Bool, true, false, false≢true, cond}
+use mathlib.Core.Bool.{Bool, true, false, false≢true, ◌&&◌, ◌||◌, cond}
 use mathlib.Mathlib.Data.Bool.Basic.{and_elim_left, and_elim_right}
 use native.Mathlib.Omega.{arith}
-use lib.Dec.{leb}
-use borrow.Author.Tests.{leb-true, eqb-true, le-leb, lt-leb, ne_eqb}
+use lib.Dec.{leb, eqb}
+use borrow.Author.Tests.{leb-true, eqb-true, le-leb, lt-leb, ne_eqb, eq-eqb}
 use Rattle.texts.specs.Ascii.{is_digit}
 use Rattle.gaps.specs.Bytes.{is_white, is_sign, move_for}
 use Rattle.gaps.specs.declared.Move.{Move}
@@ -64,7 +64,7 @@ white_not_sign b = turned (is_sign b) (is_white b) (sign_not_white b)
 -- ## Moves
 
 -- the move by the answers of the three tests
-abbrev moved : ℕ → Bool → Bool → Bool → Move
+abbrev pub moved : ℕ → Bool → Bool → Bool → Move
 moved b digit white sign = cond digit (Take (b - 48)) (cond white Skip (cond sign Comment Stop))
 
 module _ (b : ℕ) where
@@ -117,3 +117,48 @@ module _ (b : ℕ) where
       go false true u d w n h = let clash : ◌≡◌ {A = ℕ} 0 1 = cc in absurd (omega arith)
       go false false true d w n h = let clash : ◌≡◌ {A = ℕ} 0 1 = cc in absurd (omega arith)
       go false false false d w n h = record { no_digit = d; no_white = w; no_sign = n }
+
+-- ## The move by the tests
+
+  pub digit_move : is_digit b ≡ true → move_for b ≡ Take (b - 48)
+  unfolding move_for
+  digit_move e = rw e
+
+  pub white_move : is_white b ≡ true → move_for b ≡ Skip
+  unfolding move_for
+  white_move e = rw (white_not_digit b e, e)
+
+  -- what is not taken is no digit, and what is not skipped is not whitespace
+  pub not_taken : ((digit : ℕ) → move_for b ≡ Take digit → ⊥) → is_digit b ≡ false
+  not_taken h = go (is_digit b) refl
+    where
+      go : (t : Bool) → is_digit b ≡ t → t ≡ false
+      go true e = absurd (h (b - 48) (digit_move e))
+      go false e = refl
+
+  pub not_skipped : (move_for b ≡ Skip → ⊥) → is_white b ≡ false
+  not_skipped h = go (is_white b) refl
+    where
+      go : (t : Bool) → is_white b ≡ t → t ≡ false
+      go true e = absurd (h (white_move e))
+      go false e = refl
+
+-- ## What finds the move by the value of the byte
+
+pub move_is : (b : ℕ) → move_for b ≡ moved b (is_digit b) (is_white b) (is_sign b)
+unfolding move_for
+move_is b = refl
+
+pub digit_is : (b : ℕ) → is_digit b ≡ (leb 48 b && leb b 57)
+unfolding is_digit
+digit_is b = refl
+
+pub white_is : (b : ℕ) → is_white b ≡ ((leb 9 b && leb b 13) || eqb b 32)
+unfolding is_white
+white_is b = refl
+
+pub sign_test : (b : ℕ) → is_sign b ≡ eqb b 35
+unfolding is_sign
+sign_test b = refl
+
+pub ruleset moves = (move_is, digit_is, white_is, sign_test, le-leb, lt-leb, ne_eqb, eq-eqb)

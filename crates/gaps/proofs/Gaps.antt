@@ -6,14 +6,14 @@
 --   gap_spaces    a gap with no number sign is whitespace
 --
 -- Assumes nothing.
-use Prim.Native.Nat.{ℕ, ◌≤◌}
+use Prim.Native.Nat.{ℕ, ◌≤◌, ◌<◌}
 use mathlib.Core.Path.{◌≡◌, refl, sym, ap, ◌∙◌}
 use mathlib.Core.Bool.{Bool, true, false, ◌||◌, cond, false≢true}
 use mathlib.Core.Logic.{◌⊎◌, inl, inr}
 use mathlib.Core.List.{List, [], ◌∷◌, ◌++◌, append_assoc}
 use mathlib.Mathlib.Data.Bool.Basic.{and_elim_left, and_elim_right}
 use native.Mathlib.Omega.{arith}
-use lib.ListN.{length}
+use lib.ListN.{length, length-append}
 use borrow.Author.Tests.{not-true}
 use Rattle.planes.specs.Lists.{every}
 use Rattle.planes.proofs.Tests.{or_none}
@@ -230,6 +230,17 @@ gap_splits (b ∷ bytes) rest e = go (begun (b ∷ bytes)) refl e
         → GapSplit (b ∷ bytes) rest
     go true d h = split-begun b bytes rest d (split-pieces bytes rest) (split-comment bytes rest) h
     go false d h = let clash : ◌≡◌ {A = ℕ} 0 1 = cc in absurd (omega arith)
+
+-- it is not empty
+pub gap_some : {s : List ℕ} → Gap s → 1 ≤ length s
+gap_some g = let b = gap_begins g in rw b.is (omega arith)
+
+-- so that it leaves less than all
+pub gap_shorter : (bytes rest : List ℕ) → gap bytes ≡ parsed tt rest → length rest < length bytes
+gap_shorter bytes rest e =
+    let s = gap_splits bytes rest e in
+    let some = gap_some s.gap_is in
+    rw s.is (simp length-append (omega arith))
 
 -- ## Gaps with no number sign
 

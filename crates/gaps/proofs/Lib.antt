@@ -1,6 +1,4 @@
 pub mod Bytes
 pub mod Parsers
 pub mod Gaps
-pub mod Ends
-pub mod Skipping
-pub mod Cursors
+pub mod Comments

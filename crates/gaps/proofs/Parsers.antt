@@ -1,46 +1,15 @@
 -- Laws of the parsers: what each tells of the bytes where it passes, and runs of bytes that pass a test, one byte at a
 -- time from a place of the list on. Assumes nothing.
-use Prim.Native.Nat.{ℕ, ◌+◌, ◌-◌, ◌≤◌, ◌<◌}
+use Prim.Native.Nat.{ℕ, ◌≤◌}
 use mathlib.Core.Path.{◌≡◌, refl, sym, ap, ◌∙◌}
-use mathlib.Core.Logic.{⊎_elim}
-use mathlib.Core.Bool.{Bool, true, false, false≢true, true≢false, cond}
+use mathlib.Core.Bool.{Bool, true, false, cond}
 use mathlib.Core.List.{List, [], ◌∷◌, ◌++◌, append-nil}
 use mathlib.Mathlib.Data.Bool.Basic.{and_elim_left, and_elim_right}
-use native.Mathlib.Nat.{sub-zero}
-use native.Mathlib.Numerals.{add-one}
 use native.Mathlib.Omega.{arith}
-use lib.ListN.{length, drop, drop_of_length-le, length-drop}
-use lib.Seq.{drop-cons, drop-drop, drop-length, drop-append_seam}
-use Rattle.planes.specs.Lists.{every, at}
-use Rattle.planes.proofs.Tests.{less_or_not}
+use lib.ListN.{length}
+use Rattle.planes.specs.Lists.{every}
 use Rattle.gaps.specs.Parsers.{Parsed, failed, parsed, Parser, next, check}
 use Rattle.gaps.specs.Parsers.{one_byte, some, take_while1, take_while, drop_while}
-use Rattle.gaps.specs.Cursors.{succeeded}
-
--- what is left of a list, from some place on
-pub record Suffix (rest bytes : List ℕ) : Type 0 where
-  pub place : ℕ
-  pub is : rest ≡ drop place bytes
-
-pub suffix_of_suffix : {a b c : List ℕ} → Suffix a b → Suffix b c → Suffix a c
-suffix_of_suffix {c = c} s t =
-    let is = s.is ∙ ap (drop s.place) t.is ∙ drop-drop s.place t.place c in
-    record { place = t.place + s.place; is = is }
-
--- the place is the length of all less the length of what is left
-pub suffix_place : {rest bytes : List ℕ} → Suffix rest bytes → rest ≡ drop (length bytes - length rest) bytes
-suffix_place {rest} {bytes} s = ⊎_elim inside outside (less_or_not s.place (length bytes))
-  where
-    outside : length bytes ≤ s.place → rest ≡ drop (length bytes - length rest) bytes
-    outside h =
-        let none : rest ≡ [] = s.is ∙ drop_of_length-le bytes h in
-        rw none (sym (rw sub-zero (drop-length bytes)))
-
-    inside : s.place < length bytes → rest ≡ drop (length bytes - length rest) bytes
-    inside h =
-        let counted : length rest ≡ length bytes - s.place = ap length s.is ∙ length-drop s.place bytes in
-        let same : s.place ≡ length bytes - length rest = omega arith in
-        s.is ∙ ap (λ (i : ℕ). drop i bytes) same
 
 -- where a first parser and then a second pass, the first passes, and the second on what it leaves
 pub record Both {A B : Type 0} (p : Parsed A) (f : A → Parser B) (b : B) (rest : List ℕ) : Type 0 where
@@ -111,13 +80,6 @@ while_split f (x ∷ xs) = go (f x) (while_split f xs)
 pub while_none : (f : ℕ → Bool) (xs : List ℕ) → take_while f xs ≡ [] → drop_while f xs ≡ xs
 while_none f xs e = sym (ap (λ (l : List ℕ). l ++ drop_while f xs) e) ∙ while_split f xs
 
-while_rest : (f : ℕ → Bool) (xs : List ℕ) → drop_while f xs ≡ drop (length (take_while f xs)) xs
-while_rest f xs =
-    sym (drop-append_seam (take_while f xs) (drop_while f xs)) ∙ ap (drop (length (take_while f xs))) (while_split f xs)
-
-pub run_suffix : {f : ℕ → Bool} {bytes taken rest : List ℕ} → Run f bytes taken rest → Suffix rest bytes
-run_suffix {f} {bytes} r = record { place = length (take_while f bytes); is = r.rest_is ∙ while_rest f bytes }
-
 -- the longest beginning that passes a test, of a list that begins with bytes that all pass
 module _ (f : ℕ → Bool) where
   while-every : (xs : List ℕ) → every f (take_while f xs) ≡ true
@@ -147,39 +109,3 @@ pub run_splits : {f : ℕ → Bool} {bytes taken rest : List ℕ} → Run f byte
     → (bytes ≡ taken ++ rest) × (every f taken ≡ true)
 run_splits {f} {bytes} r =
     (sym (rw (r.taken_is, r.rest_is) (while_split f bytes)), rw r.taken_is (while-every f bytes))
-
--- what stands from a place on: the byte there, and what stands after it
-pub drop_here : (xs : List ℕ) (i : ℕ) → i < length xs → drop i xs ≡ at xs i ∷ drop (i + 1) xs
-drop_here xs i h = rw (add-one, drop-cons xs i 0)
-
-pub not_passed : {A : Type 0} (p : Parsed A) → succeeded p ≡ false → p ≡ failed
-not_passed failed e = refl
-not_passed (parsed a rest) e = absurd (true≢false e)
-
-pub passed_test : (t : Bool) (rest : List ℕ) → succeeded {A = Unit {0}} (cond t (parsed tt rest) failed) ≡ t
-passed_test true rest = refl
-passed_test false rest = refl
-
-module _ (f : ℕ → Bool) (xs : List ℕ) (i : ℕ) where
-  -- no run begins at a byte that fails the test, and none at the end
-  pub none_here : i < length xs → f (at xs i) ≡ false → take_while f (drop i xs) ≡ []
-  none_here h e = rw (drop_here xs i h, e)
-
-  pub none_end : length xs ≤ i → take_while f (drop i xs) ≡ []
-  none_end h = rw (drop_of_length-le xs h)
-
-  -- one byte that passes the test
-  pub one_here : i < length xs → succeeded (one_byte f (drop i xs)) ≡ f (at xs i)
-  one_here h = rw (drop_here xs i h) (passed_test (f (at xs i)) (drop (i + 1) xs))
-
-  pub one_end : length xs ≤ i → succeeded (one_byte f (drop i xs)) ≡ false
-  one_end h = rw (drop_of_length-le xs h)
-
-  pub one_within : succeeded (one_byte f (drop i xs)) ≡ true → i < length xs
-  one_within e = ⊎_elim (λ h. h) (λ h. absurd (false≢true (sym (one_end h) ∙ e))) (less_or_not i (length xs))
-
-  pub one_rest : succeeded (one_byte f (drop i xs)) ≡ true → one_byte f (drop i xs) ≡ parsed tt (drop (i + 1) xs)
-  one_rest e =
-      let within = one_within e in
-      let test : f (at xs i) ≡ true = sym (one_here within) ∙ e in
-      rw (drop_here xs i within, test)

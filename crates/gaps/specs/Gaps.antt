@@ -5,6 +5,7 @@
 --   Gap s         s is one or more pieces
 --
 -- As parsers:
+--   rest_of_comment   what is left of a comment that has begun; fails where it does not end
 --   pieces            zero or more pieces, up to the first byte that begins none; fails where a comment does not end
 --   comment_and_then  what is left of a comment that has begun, and then zero or more pieces
 --   gap               one or more pieces
@@ -25,6 +26,11 @@ pub data Piece : List ℕ → Type 0 where
 pub data Gap : List ℕ → Type 0 where
   one : {p : List ℕ} → Piece p → Gap p
   more : {p s : List ℕ} → Piece p → Gap s → Gap (p ++ s)
+
+-- what is left of a comment that has begun, up to and including its end
+unfoldable pub rest_of_comment : Parser (Unit {0})
+rest_of_comment [] = failed
+rest_of_comment (b ∷ bytes) = cond (ends_comment b) (parsed tt bytes) (rest_of_comment bytes)
 
 unfoldable mutual
   pub pieces : Parser (Unit {0})

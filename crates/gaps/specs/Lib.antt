@@ -1,4 +1,3 @@
 pub mod Bytes
 pub mod Parsers
 pub mod Gaps
-pub mod Cursors

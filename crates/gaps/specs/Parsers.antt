@@ -7,7 +7,9 @@
 --   byte b         the byte b
 --   one_byte f     one byte that passes the test f
 --   take_while1 f  all bytes up to the first that fails the test f, or to the end; at least one
-use Rattle.std.specs.Prelude.{ℕ, Bool, cond, List, [], ◌∷◌, eqb}
+--   left, made     what a function of the reader answers, as what a parser makes of the bytes
+use Rattle.std.specs.Prelude.{ℕ, Bool, cond, List, [], ◌∷◌, eqb, Option, Some, None}
+use Rattle.std.specs.Borrow.{Bor}
 
 -- what a parser makes of a list of bytes
 pub data Parsed (A : Type 0) : Type 0 where
@@ -61,3 +63,13 @@ some (b ∷ taken) rest = parsed (b ∷ taken) rest
 
 abbrev pub take_while1 : (ℕ → Bool) → Parser (List ℕ)
 take_while1 f bytes = some (take_while f bytes) (drop_while f bytes)
+
+-- the bytes that are left, if the parser does not fail
+abbrev pub left : Option (Bor (List ℕ)) → Parsed (Unit {0})
+left None = failed
+left (Some rest) = parsed tt rest.now
+
+-- the same with a value
+abbrev pub made : {A : Type 0} → Option (A × Bor (List ℕ)) → Parsed A
+made None = failed
+made (Some (a, rest)) = parsed a rest.now

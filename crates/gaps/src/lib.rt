@@ -1,16 +1,16 @@
 // What stands before each number of a P6 header: whitespace and comments.
 //
-// sorted     the header reader's next move, by the byte at its place
-// skip_gap   the place after the whitespace and the comments that begin at a place
+// sorted     the header reader's next move, by the next byte
+// skip_gap   what follows the whitespace and the comments that begin the bytes
 #![tactic(auto)]
 
-ghost use Rattle.std.specs.Prelude.{◌≡◌, ◌≤◌, length, drop};
+ghost use Rattle.std.specs.Prelude.{◌≡◌, position};
 ghost use Rattle.gaps.specs.Bytes.{ends_comment, move_for};
-ghost use Rattle.gaps.specs.Gaps.{pieces};
-ghost use Rattle.gaps.specs.Cursors.{rest_of_comment, gap_end_at};
+ghost use Rattle.gaps.specs.Gaps.{rest_of_comment, pieces, gap};
+ghost use Rattle.gaps.specs.Parsers.{left};
 
-// What the header reader does next, by the byte at its place.
-#[derive(Clone, Copy)]
+// What the header reader does next, by the next byte.
+#[derive(Clone, Copy, Debug, PartialEq, Eq)]
 pub enum Move {
     // A digit of this value: take it into the number.
     Take(u8),
@@ -22,74 +22,67 @@ pub enum Move {
     Stop,
 }
 
-// Where whitespace and comments end: the place after them, unless a comment has no end.
-#[derive(Clone, Copy)]
-pub enum GapEnd {
-    At(usize),
-    Unended,
-}
-
 // Header bytes sorted into digits, whitespace (TAB, LF, VT, FF and CR, which are 9 to 13, and space), the number sign,
-// which opens a comment, and the rest. Digits are told first, so that none waits for the tests of the others.
+// which opens a comment, and the rest.
+#[tactic(auto, using(crate::proofs::Bytes::moves))]
 pub fn sorted(byte: u8) -> Move
     ensures { result ≡ move_for byte }
 {
     match byte {
         b'0'..=b'9' => Move::Take(byte - b'0'),
-        _ => match byte {
-            b'\t'..=b'\r' | b' ' => Move::Skip,
-            b'#' => Move::Comment,
-            _ => Move::Stop,
-        },
+        b'\t'..=b'\r' | b' ' => Move::Skip,
+        b'#' => Move::Comment,
+        _ => Move::Stop,
     }
 }
 
 // Whether a byte ends a comment, as LF and CR do.
+#[tactic(auto, unfolding(crate::specs::Bytes::ends_comment))]
 fn ends_comment(byte: u8) -> bool
     ensures { result ≡ ends_comment byte }
 {
-    match byte {
-        b'\n' | b'\r' => true,
-        _ => false,
-    }
+    matches!(byte, b'\n' | b'\r')
 }
 
-// The place after the comment whose text begins at `from`.
-fn skip_comment(bytes: &[u8], from: usize) -> GapEnd
-    requires { from ≤ length bytes.now }
-    ensures { result ≡ gap_end_at (length bytes.now) (rest_of_comment (drop from bytes.now)) }
+// The place of the first byte that ends a comment.
+fn comment_end(bytes: &[u8]) -> Option<usize>
+    ensures { result ≡ position ends_comment bytes.now }
 {
-    let mut at = from;
-    while at < bytes.len() {
-        let byte = bytes[at];
-        at += 1;
-        if ends_comment(byte) {
-            return GapEnd::At(at);
-        }
-    }
-    GapEnd::Unended
+    bytes.iter().position(|b| ends_comment(*b))
 }
 
-// The place after the gap, of whitespace and comments, that begins at `from`; `from` itself where none does.
-pub fn skip_gap(bytes: &[u8], from: usize) -> GapEnd
-    requires { from ≤ length bytes.now }
-    ensures { result ≡ gap_end_at (length bytes.now) (pieces (drop from bytes.now)) }
+// What follows the comment whose text begins the bytes, unless it has no end.
+#[tactic(auto, using(crate::proofs::Comments::ends))]
+fn skip_comment(bytes: &[u8]) -> Option<&[u8]>
+    ensures { left result ≡ rest_of_comment bytes.now }
 {
-    let mut at = from;
-    while at < bytes.len() {
-        let byte = bytes[at];
-        let next = sorted(byte);
-        match next {
-            Move::Skip => at += 1,
-            Move::Comment => {
-                let GapEnd::At(after) = skip_comment(bytes, at + 1) else {
-                    return GapEnd::Unended;
-                };
-                at = after;
-            }
-            Move::Take(_) => return GapEnd::At(at),
-            Move::Stop => return GapEnd::At(at),
+    let end = comment_end(bytes)?;
+    Some(&bytes[end + 1..])
+}
+
+// What follows any whitespace and comments that begin the bytes, unless a comment has no end.
+#[tactic(auto, using(crate::proofs::Comments::steps))]
+fn skip_pieces(bytes: &[u8]) -> Option<&[u8]>
+    ensures { left result ≡ pieces bytes.now }
+{
+    let mut rest = bytes;
+    while let Some((byte, after)) = rest.split_first() {
+        match sorted(*byte) {
+            Move::Skip => rest = after,
+            Move::Comment => rest = skip_comment(after)?,
+            Move::Take(_) | Move::Stop => return Some(rest),
         }
     }
-    GapEnd::At(at)
+    Some(rest)
+}
+
+// The same, where there are some.
+#[tactic(auto, using(crate::proofs::Comments::begins), unfolding(crate::specs::Gaps::gap))]
+pub fn skip_gap(bytes: &[u8]) -> Option<&[u8]>
+    ensures { left result ≡ gap bytes.now }
+{
+    match sorted(*bytes.first()?) {
+        Move::Skip | Move::Comment => skip_pieces(bytes),
+        Move::Take(_) | Move::Stop => None,
+    }
 }

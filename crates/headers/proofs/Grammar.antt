@@ -1,58 +1,25 @@
 -- The parts of a header, each where its parser passes: the bytes that it takes and the bytes that it leaves.
 -- `header_passed` gathers them, whatever parser takes what stands before each number. Assumes nothing.
-use Prim.Native.Nat.{ℕ, ◌≤◌, ◌<◌}
+use Prim.Native.Nat.{ℕ, ◌+◌, ◌≤◌}
 use mathlib.Core.Path.{◌≡◌, refl, sym, ap, ◌∙◌}
-use mathlib.Core.Bool.{Bool, true, false, ◌&&◌, cond, false≢true}
+use mathlib.Core.Bool.{Bool, true, false, ◌&&◌, cond}
 use mathlib.Core.List.{List, [], ◌∷◌}
 use native.Mathlib.Omega.{arith}
 use lib.Dec.{eqb, leb}
-use lib.ListN.{length, drop}
-use Rattle.planes.specs.Lists.{at}
+use lib.ListN.{length, take, drop, length-append}
 use borrow.Author.Tests.{leb-true, eqb-true}
 use Rattle.texts.specs.Ascii.{is_digit, value}
-use Rattle.gaps.specs.Bytes.{is_white}
-use Rattle.gaps.specs.Parsers.{Parser, failed, parsed, next, check, one_byte, byte, take_while1}
+use lib.Pointwise.{pointwise}
+use Rattle.std.specs.Prelude.{Option, Some, None, MatchOption}
+use Rattle.std.specs.Borrow.{Bor}
+use Rattle.gaps.specs.Bytes.{is_white, move_for}
+use Rattle.gaps.specs.declared.Move.TheVariants.{Skip}
+use Rattle.gaps.proofs.Bytes.{skipped, not_skipped}
+use Rattle.gaps.specs.Parsers.{Parser, failed, parsed, next, check, one_byte, byte, take_while1, left}
 use Rattle.gaps.specs.Gaps.{gap}
-use Rattle.gaps.specs.Cursors.{succeeded}
 use Rattle.headers.specs.Grammar.{mark, numeral, field, Numbers, header_with, header}
-use Rattle.gaps.proofs.Parsers.{passed_test, next_passed, check_passed, Run, run_passed}
-use Rattle.gaps.proofs.Parsers.{Head, one_passed, Suffix, suffix_of_suffix, run_suffix}
-use Rattle.gaps.proofs.Cursors.{gap_suffix}
-
--- the mark is the first two bytes
-pub mark_is : (xs : List ℕ) → 2 ≤ length xs → succeeded (mark xs) ≡ (eqb (at xs 0) 80 && eqb (at xs 1) 54)
-unfolding mark
-mark_is [] h = absurd (omega arith)
-mark_is (x ∷ []) h = absurd (omega arith)
-mark_is (x ∷ y ∷ xs) h = go (eqb x 80)
-  where
-    go : (s : Bool)
-        → succeeded (next (cond s (parsed tt (y ∷ xs)) failed) (λ (u : Unit {0}). byte 54)) ≡ (s && eqb y 54)
-    go true = passed_test (eqb y 54) xs
-    go false = refl
-
-pub mark_short : (xs : List ℕ) → length xs < 2 → succeeded (mark xs) ≡ false
-unfolding mark
-mark_short [] h = refl
-mark_short (x ∷ []) h = go (eqb x 80)
-  where
-    go : (s : Bool) → succeeded (next (cond s (parsed tt []) failed) (λ (u : Unit {0}). byte 54)) ≡ false
-    go true = refl
-    go false = refl
-mark_short (x ∷ y ∷ xs) h = absurd (omega arith)
-
-pub mark_rest : (xs : List ℕ) → succeeded (mark xs) ≡ true → (mark xs ≡ parsed tt (drop 2 xs)) × (2 ≤ length xs)
-unfolding mark
-mark_rest [] e = absurd (false≢true e)
-mark_rest (x ∷ []) e = absurd (false≢true (sym (mark_short (x ∷ []) (omega arith)) ∙ e))
-mark_rest (x ∷ y ∷ xs) e = (go (eqb x 80) (eqb y 54) refl e, omega arith)
-  where
-    go : (s t : Bool) → eqb y 54 ≡ t
-        → succeeded (next (cond s (parsed tt (y ∷ xs)) failed) (λ (u : Unit {0}). byte 54)) ≡ true
-        → next (cond s (parsed tt (y ∷ xs)) failed) (λ (u : Unit {0}). byte 54) ≡ parsed tt xs
-    go true true d h = rw d
-    go true false d h = absurd (false≢true (sym d ∙ sym (passed_test (eqb y 54) xs) ∙ h))
-    go false t d h = absurd (false≢true h)
+use Rattle.gaps.proofs.Parsers.{next_passed, check_passed, Run, run_passed, run_splits, Head, one_passed}
+use Rattle.gaps.proofs.Gaps.{gap_shorter}
 
 -- a number after what another parser takes
 module _ (before : Parser (Unit {0})) (bytes : List ℕ) where
@@ -99,12 +66,12 @@ field_passed before bytes v rest e =
     let first = next_passed (before bytes) _ v rest e in
     record { left = first.left; taken = first.first; then = number_passed first.left v rest first.second }
 
-pub gapped_suffix : {bytes : List ℕ} {v : ℕ} {rest : List ℕ} → Field gap bytes v rest → Suffix rest bytes
-gapped_suffix {bytes} parts =
-    suffix_of_suffix (run_suffix parts.then.taken) (gap_suffix bytes parts.left parts.taken)
+-- it leaves less than all
+digits_shorter : {bytes : List ℕ} {v : ℕ} {rest : List ℕ} → Digits bytes v rest → length rest ≤ length bytes
+digits_shorter d = rw (run_splits d.taken).0 (simp length-append (omega arith))
 
-pub field_suffix : (bytes : List ℕ) (v : ℕ) (rest : List ℕ) → field gap bytes ≡ parsed v rest → Suffix rest bytes
-field_suffix bytes v rest e = gapped_suffix (field_passed gap bytes v rest e)
+field_shorter : {bytes : List ℕ} {v : ℕ} {rest : List ℕ} → Field gap bytes v rest → length rest ≤ length bytes
+field_shorter {bytes} p = omega (arith, digits_shorter p.then, gap_shorter bytes p.left p.taken)
 
 pub mark_passed : (bytes : List ℕ) (u : Unit {0}) (rest : List ℕ) → mark bytes ≡ parsed u rest → bytes ≡ 80 ∷ 54 ∷ rest
 unfolding mark
@@ -162,10 +129,49 @@ pub header_passed : (bytes : List ℕ) (n : Numbers) (raster : List ℕ) → hea
 unfolding header
 header_passed bytes n raster e = header_passed_with gap bytes n raster e
 
-pub header_suffix : {bytes : List ℕ} {n : Numbers} {raster : List ℕ} → Parts gap bytes n raster → Suffix raster bytes
-header_suffix parts =
-    let mark : Suffix parts.after_mark _ = record { place = 2; is = sym (ap (drop 2) parts.marked) } in
-    let one = parts.separator.is in
-    let separator : Suffix _ parts.after_maxval = record { place = 1; is = sym (ap (drop 1) one) } in
-    suffix_of_suffix separator (suffix_of_suffix (gapped_suffix parts.maxval_is)
-    (suffix_of_suffix (gapped_suffix parts.height_is) (suffix_of_suffix (gapped_suffix parts.width_is) mark)))
+-- the raster is no longer than all
+pub header_shorter : (bytes : List ℕ) (n : Numbers) (raster : List ℕ) → header bytes ≡ parsed n raster
+    → length raster ≤ length bytes
+header_shorter bytes n raster e =
+    let p = header_passed bytes n raster e in
+    let whole = ap length p.marked in
+    let last = ap length p.separator.is in
+    omega (arith, field_shorter p.width_is, field_shorter p.height_is, field_shorter p.maxval_is)
+
+-- ## The mark and the separator, by what is read
+
+-- the first two bytes, as they are compared with the mark
+abbrev pub marks : List ℕ → Bool
+marks bytes = pointwise eqb (take 2 bytes) (80 ∷ 54 ∷ [])
+
+mark_by : (bytes : List ℕ) → mark bytes ≡ cond (marks bytes) (parsed tt (drop 2 bytes)) failed
+unfolding mark
+mark_by [] = refl
+mark_by (x ∷ []) = elim (eqb x 80) as (λ s. next (cond s (parsed tt []) failed) (λ (u : Unit {0}). byte 54)
+    ≡ cond (s && false) (parsed tt []) failed) [ true ↦ refl | false ↦ refl ]
+mark_by (x ∷ y ∷ xs) = first (eqb x 80)
+  where
+    second : (t : Bool) → cond t (parsed (tt {0}) xs) failed ≡ cond (t && true) (parsed tt xs) failed
+    second true = refl
+    second false = refl
+
+    first : (s : Bool) → next (cond s (parsed tt (y ∷ xs)) failed) (λ (u : Unit {0}). byte 54)
+        ≡ cond (s && (eqb y 54 && true)) (parsed tt xs) failed
+    first true = second (eqb y 54)
+    first false = refl
+
+pub mark_stripped : (bytes : List ℕ) (r : Option (Bor (List ℕ)))
+    → MatchOption r (marks bytes ≡ false)
+    (λ x. (marks bytes ≡ true) × (x.now ≡ drop 2 bytes) × (length x.now + 2 ≡ length bytes))
+    → left r ≡ mark bytes
+mark_stripped bytes None other = sym (mark_by bytes ∙ rw other)
+mark_stripped bytes (Some rest) (mark-is, rest_is, long) =
+    ap (parsed tt) rest_is ∙ sym (mark_by bytes ∙ rw mark-is)
+
+pub white_there : (bytes : List ℕ) {b : ℕ} {rest : List ℕ} → bytes ≡ b ∷ rest → move_for b ≡ Skip
+    → one_byte is_white bytes ≡ parsed tt rest
+white_there bytes {b} is e = rw (is, skipped b e)
+
+pub white_absent : (bytes : List ℕ) {b : ℕ} {rest : List ℕ} → bytes ≡ b ∷ rest → (move_for b ≡ Skip → ⊥)
+    → one_byte is_white bytes ≡ failed
+white_absent bytes {b} is h = rw (is, not_skipped b h)

@@ -1,24 +1,24 @@
 -- Reading a number digit by digit. `number_after k v` is what is left to do once k digits of value v were taken. With
 -- none taken it is `number`; a further digit is taken into both; any other byte, and the end, ends the number.
 -- Assumes nothing.
-use Prim.Native.Nat.{ℕ, zero, suc, ◌+◌, ◌-◌, ◌*◌, ◌^◌, ◌≤◌, ◌<◌}
-use mathlib.Core.Path.{◌≡◌, refl, sym, ap, ◌∙◌}
+use Prim.Native.Nat.{ℕ, zero, suc, ◌+◌, ◌*◌, ◌^◌, ◌≤◌, ◌<◌}
+use mathlib.Core.Path.{◌≡◌, refl, ◌∙◌}
 use mathlib.Core.Bool.{Bool, true, false, cond}
 use mathlib.Core.List.{List, [], ◌∷◌}
 use native.Mathlib.Nat.{add-zero, zero-add, pow-suc, pow-le-pow_right}
 use native.Mathlib.Numerals.{add-one}
 use native.Mathlib.Omega.{arith}
 use lib.Dec.{leb, lit<}
-use lib.ListN.{length, drop, length-drop}
+use lib.ListN.{length}
 use borrow.Author.Tests.{le-leb, lt-leb}
-use Rattle.planes.specs.Lists.{at}
 use Rattle.texts.specs.Ascii.{is_digit, value_after}
 use Rattle.gaps.specs.Parsers.{Parsed, failed, parsed, Parser, next, pure, check, some, take_while, drop_while}
 use Rattle.headers.specs.Grammar.{numeral}
-use Rattle.headers.specs.Cursors.{ended_number, number_at}
-use Rattle.headers.specs.declared.Number.TheVariants.{Read, Malformed}
-use Rattle.gaps.proofs.Bytes.{Taken}
-use Rattle.gaps.proofs.Parsers.{drop_here, while_none}
+use Rattle.headers.specs.Reading.{FirstDigit}
+use Rattle.gaps.specs.Bytes.{move_for}
+use Rattle.gaps.specs.declared.Move.TheVariants.{Take}
+use Rattle.gaps.proofs.Bytes.{taken, not_taken}
+use Rattle.gaps.proofs.Parsers.{while_none}
 
 -- the number of so many digits and this value, before the rest
 abbrev pub number_of : ℕ → ℕ → List ℕ → Parsed ℕ
@@ -49,74 +49,90 @@ too_many : (n v : ℕ) (rest : List ℕ) → 6 < n → number_of n v rest ≡ fa
 too_many zero v rest h = refl
 too_many (suc n) v rest h = rw (lt-leb (suc n) 6 h)
 
-module _ (bytes : List ℕ) (i k v : ℕ) where
-  pub number_more : i < length bytes → is_digit (at bytes i) ≡ true
-      → number_after k v (drop i bytes) ≡ number_after (k + 1) (10 * v + (at bytes i - 48)) (drop (i + 1) bytes)
+-- ## A digit
+
+pub first_digit : (bytes : List ℕ) {b : ℕ} {rest : List ℕ} {digit : ℕ} → bytes ≡ b ∷ rest → move_for b ≡ Take digit
+    → FirstDigit bytes digit rest
+first_digit bytes {b} is e =
+    let t = taken b _ e in
+    record { byte = b; is = is; digit_is = t.digit_is; value_is = t.value_is; small = t.small }
+
+pub no_digit : (bytes : List ℕ) {b : ℕ} {rest : List ℕ} → bytes ≡ b ∷ rest
+    → ((digit : ℕ) → move_for b ≡ Take digit → ⊥) → take_while is_digit bytes ≡ []
+no_digit bytes {b} is h = rw (is, not_taken b h)
+
+pub end_digit : (bytes : List ℕ) → length bytes ≡ 0 → take_while is_digit bytes ≡ []
+end_digit [] e = refl
+end_digit (b ∷ bytes) e = absurd (omega arith)
+
+-- what finds the first digit
+pub ruleset first = (first_digit, no_digit, end_digit)
+
+-- ## A number
+
+module _ {bytes : List ℕ} {digit : ℕ} {rest : List ℕ} (d : FirstDigit bytes digit rest) (k v : ℕ) where
+  number_more : number_after k v bytes ≡ number_after (k + 1) (10 * v + digit) rest
   unfolding number_after
-  number_more h e =
-      let rest = drop (i + 1) bytes in
-      let counted : k + suc (length (take_while is_digit rest))
-      ≡ k + 1 + length (take_while is_digit rest) = omega arith in
-      rw (drop_here bytes i h, e, counted)
+  number_more =
+      let more = length (take_while is_digit rest) in
+      let counted : k + suc more ≡ k + 1 + more = omega arith in
+      rw (d.is, d.digit_is, d.value_is, counted)
 
   -- a seventh digit
-  pub number_long : i < length bytes → is_digit (at bytes i) ≡ true → number_after 6 v (drop i bytes) ≡ failed
+  number_long : number_after 6 v bytes ≡ failed
   unfolding number_after
-  number_long h e =
-      let digits = take_while is_digit (drop i bytes) in
-      let some : digits ≡ at bytes i ∷ take_while is_digit (drop (i + 1) bytes) = rw (drop_here bytes i h, e) in
-      too_many (6 + length digits) (value_after v digits) (drop_while is_digit (drop i bytes)) (rw some (omega arith))
+  number_long =
+      let digits = take_while is_digit bytes in
+      let some : digits ≡ d.byte ∷ take_while is_digit rest = rw (d.is, d.digit_is) in
+      too_many (6 + length digits) (value_after v digits) (drop_while is_digit bytes) (rw some (omega arith))
 
-  -- the number ends where no digit follows
-  pub number_ends : i ≤ length bytes → k ≤ 6 → take_while is_digit (drop i bytes) ≡ []
-      → number_at (length bytes) (number_after k v (drop i bytes)) ≡ ended_number k v i
-  unfolding number_after
-  number_ends h few e = rw (e, while_none is_digit (drop i bytes) e, add-zero k) (go k few)
-    where
-      go : (k : ℕ) → k ≤ 6 → number_at (length bytes) (number_of k v (drop i bytes)) ≡ ended_number k v i
-      go zero few = refl
-      go (suc k) few =
-          let place : length bytes - length (drop i bytes) ≡ i = rw length-drop (omega arith) in
-          rw (le-leb (suc k) 6 few) (ap (λ (n : ℕ). Read v n) place)
+-- the number ends where no digit follows
+number_ends : (bytes : List ℕ) (k v : ℕ) → k ≤ 6 → take_while is_digit bytes ≡ []
+    → number_after k v bytes ≡ number_of k v bytes
+unfolding number_after
+number_ends bytes k v few e = rw (e, while_none is_digit bytes e, add-zero k)
 
--- The invariant: k digits of value v were taken from `from` on, and the place is i.
-pub record Reading (bytes : List ℕ) (from i k v : ℕ) : Type 0 where
-  pub within : i ≤ length bytes
+-- The invariant: k digits of value v were taken from the bytes, and the rest follows them.
+pub record Reading (bytes rest : List ℕ) (k v : ℕ) : Type 0 where
   pub few : k ≤ 6
   pub small : v < 10 ^ k
-  pub left : numeral (drop from bytes) ≡ number_after k v (drop i bytes)
+  pub left : numeral bytes ≡ number_after k v rest
 
-pub reading_begins : (bytes : List ℕ) (from : ℕ) → from ≤ length bytes → Reading bytes from from 0 0
-reading_begins bytes from h =
-    record { within = h; few = omega arith; small = lit< tt; left = number_begins (drop from bytes) }
+pub reading_begins : (bytes : List ℕ) → Reading bytes bytes 0 0
+reading_begins bytes = record { few = omega arith; small = lit< tt; left = number_begins bytes }
 
-module _ {bytes : List ℕ} {from i k v : ℕ} (r : Reading bytes from i k v) where
+module _ {bytes rest : List ℕ} {k v : ℕ} (r : Reading bytes rest k v) where
   pub reading_small : v < 1000000
   reading_small =
       let power : 10 ^ k ≤ 10 ^ 6 = pow-le-pow_right (lit< tt) r.few in
       let below = r.small in
       omega arith
 
-  pub reading_more : (digit : ℕ) → i < length bytes → Taken (at bytes i) digit → (k ≡ 6 → ⊥)
-      → Reading bytes from (i + 1) (k + 1) (10 * v + digit)
-  reading_more digit h t not-six =
+  pub reading_more : {digit : ℕ} {after : List ℕ} → FirstDigit rest digit after → (k ≡ 6 → ⊥)
+      → Reading bytes after (k + 1) (10 * v + digit)
+  reading_more d not-six =
       let few = r.few in
       let below = r.small in
       let power : 10 ^ (k + 1) ≡ 10 ^ k * 10 = rw (add-one k) (pow-suc 10 k) in
-      let digit-small = t.small in
+      let digit-small = d.small in
       record {
-        within = omega arith;
         few = omega arith;
         small = rw power (omega arith);
-        left = r.left ∙ rw t.value_is (number_more bytes i k v h t.digit_is);
+        left = r.left ∙ number_more d k v;
       }
 
-  pub reading_ends : take_while is_digit (drop i bytes) ≡ []
-      → ended_number k v i ≡ number_at (length bytes) (numeral (drop from bytes))
-  reading_ends e = rw r.left (sym (number_ends bytes i k v r.within r.few e))
+  pub reading_long : {digit : ℕ} {after : List ℕ} → FirstDigit rest digit after → k ≡ 6 → numeral bytes ≡ failed
+  reading_long d six = r.left ∙ rw six (number_long d k v)
 
-  pub reading_long : i < length bytes → is_digit (at bytes i) ≡ true → k ≡ 6
-      → Malformed ≡ number_at (length bytes) (numeral (drop from bytes))
-  reading_long h e six =
-      let long : number_after k v (drop i bytes) ≡ failed = rw six (number_long bytes i k v h e) in
-      rw (r.left, long)
+  pub reading_none : take_while is_digit rest ≡ [] → k ≡ 0 → numeral bytes ≡ failed
+  reading_none e none = r.left ∙ number_ends rest k v r.few e ∙ rw none
+
+  pub reading_ends : take_while is_digit rest ≡ [] → (k ≡ 0 → ⊥) → numeral bytes ≡ parsed v rest
+  reading_ends e some = r.left ∙ number_ends rest k v r.few e ∙ go k some r.few
+    where
+      go : (k : ℕ) → (k ≡ 0 → ⊥) → k ≤ 6 → number_of k v rest ≡ parsed v rest
+      go zero some few = absurd (some refl)
+      go (suc k) some few = rw (le-leb (suc k) 6 few)
+
+-- what finds what a number makes
+pub ruleset digits = (reading_begins, reading_small, reading_more, reading_long, reading_none, reading_ends)

@@ -19,8 +19,7 @@ use Rattle.gaps.specs.Parsers.{Parsed, failed, parsed, take_while, take_while1}
 use Rattle.gaps.specs.Gaps.{Gap}
 use Rattle.gaps.proofs.Bytes.{digit_not_white, digit_not_sign, white_not_sign}
 use Rattle.gaps.proofs.Parsers.{next_passed, Run, run_passed, some_present, while_stops, run_splits}
-use Rattle.gaps.proofs.Gaps.{gap_spaces, spaces_gap}
-use Rattle.gaps.proofs.Cursors.{gap_some}
+use Rattle.gaps.proofs.Gaps.{gap_some, gap_spaces, spaces_gap}
 use Rattle.headers.specs.Grammar.{Numbers, header}
 use Rattle.headers.specs.Headers.{IsHeader}
 use Rattle.headers.specs.Uncommented.{spaces, uncommented_header, signless, Uncommented}

@@ -1,4 +1,4 @@
 pub mod Grammar
 pub mod Headers
 pub mod Uncommented
-pub mod Cursors
+pub mod Reading
