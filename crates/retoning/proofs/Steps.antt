@@ -3,13 +3,13 @@
 use Prim.Native.Nat.{ℕ, ◌≤◌}
 use mathlib.Core.Path.{◌≡◌, refl, sym, ap, subst, ◌∙◌}
 use mathlib.Core.Logic.{inl, inr}
-use mathlib.Core.Bool.{Bool, true, false, cond, not, ◌&&◌, ◌||◌, true≢false}
+use mathlib.Core.Bool.{Bool, true, false, cond, not, ◌&&◌, true≢false}
 use mathlib.Core.List.{List}
-use mathlib.Mathlib.Data.Bool.Basic.{or_inl}
 use native.Mathlib.Omega.{arith}
 use lib.ListN.{length}
 use lib.Dec.{leb, ltb}
 use borrow.Author.Tests.{le-leb, lt-leb, ltb-true, ltb-false}
+use mir.Val.{bool_byte}
 use Rattle.planes.specs.Lists.{at}
 use Rattle.planes.proofs.Tests.{decide, or_none}
 use Rattle.tones.specs.Tones.{kept, tone}
@@ -22,6 +22,7 @@ use Rattle.model.specs.declared.Pass.{Pass}
 use Rattle.model.specs.Passes.{sufficient, changes, kept_back, retone}
 use Rattle.painting.specs.Painting.{number, On, Painted}
 use Rattle.painting.specs.declared.Next.{Next}
+use Rattle.painting.specs.declared.Sides.{Sides}
 use Rattle.retoning.specs.Retoning.{small, inert, one_if, alone_by, Toned, Done}
 use Rattle.retoning.specs.declared.Treatment.{Treatment}
 use Rattle.retoning.proofs.Inert.{inert_still, inert_leaves, inert_kept, lively_stays, inert_alike}
@@ -32,9 +33,10 @@ cond_not : (t : Bool) (x y : ℕ) → cond t x y ≡ cond (not t) y x
 cond_not true x y = refl
 cond_not false x y = refl
 
-other : (t : Bool) → ◌≡◌ {A = ℕ} (cond t 0 1) (one_if (not t))
-other true = refl
-other false = refl
+-- the number that a flag is converted to
+as_number : (t : Bool) → bool_byte t ≡ one_if t
+as_number true = refl
+as_number false = refl
 
 twice : (t : Bool) → not (not t) ≡ t
 twice true = refl
@@ -56,9 +58,9 @@ module _ (s : Pass) (vs : List ℕ) {m : ℕ} (size : length vs ≡ m) where
   kept-large h = ap (◌&& kept s.rule s.a s.b vs) (ap (leb s.area) size ∙ le-leb s.area m h)
 
   -- a component of the least area that has the values of the rule's table
-  toned : {plane marks queue plane' marks' table : List ℕ} {t : Next} {low high c : Bool} → s.area ≤ m
+  toned : {plane marks queue plane' marks' table : List ℕ} {t : Next} {r : Sides} {c : Bool} → s.area ≤ m
       → ToneTable s.rule s.a s.b vs plane queue table m c
-      → Painted (at table) t plane marks queue plane' marks' m low high → Toned s vs plane queue plane' m
+      → Painted (at table) t plane marks queue plane' marks' m r → Toned s vs plane queue plane' m
   unfolding retone
   toned {plane} {queue = queue} h T P = record {
     size = P.size;
@@ -92,15 +94,15 @@ module _ (s : Pass) (t : Next) {vs ws : List ℕ} (A : Alike vs ws) where
   -- another gets its tones and its next marks
   pub done : {plane marks queue plane' marks' table : List ℕ} {m : ℕ} {c : Bool} (r : Treatment)
       → length vs ≡ m → s.area ≤ m → inert s ws ≡ false → ToneTable s.rule s.a s.b vs plane queue table m c
-      → Painted (at table) t plane marks queue plane' marks' m r.low r.high
-      → r.retoned ≡ one_if c → r.kept ≡ cond c 0 1 → r.left ≡ 0
+      → Painted (at table) t plane marks queue plane' marks' m r.sides
+      → r.retoned ≡ bool_byte c → r.kept ≡ bool_byte (not c) → r.left ≡ 0
       → Done s t vs plane marks queue plane' marks' m r
   done {c = c} r size h e T P retoned kept left =
       let not-inert : inert s vs ≡ false = inert_alike s vs ws A ∙ e in
       record {
         toned = toned s vs size h T P;
-        retones = retoned ∙ ap one_if (T.answer ∙ sym (large s vs size h));
-        keeps = kept ∙ other c ∙ ap (λ (u : Bool). one_if (not u)) T.answer
+        retones = retoned ∙ as_number c ∙ ap one_if (T.answer ∙ sym (large s vs size h));
+        keeps = kept ∙ as_number (not c) ∙ ap (λ (u : Bool). one_if (not u)) T.answer
             ∙ ap one_if (twice _ ∙ sym (kept-large s vs size h));
         leaves_it = left ∙ ap one_if (sym (lively_stays s vs not-inert));
         size = P.marks_size;
@@ -110,16 +112,6 @@ module _ (s : Pass) (t : Next) {vs ws : List ℕ} (A : Alike vs ws) where
       }
 
 -- ## Small and lone components
-
--- a component of m pixels is inert where it is too small, and otherwise where it is lone
-pub small_inert : (s : Pass) (vs : List ℕ) (m : ℕ) → m ≡ length vs → ltb m s.area ≡ true → inert s vs ≡ true
-unfolding inert small
-small_inert s vs m size e = or_inl _ _ (ap (λ (k : ℕ). ltb k s.area) (sym size) ∙ e)
-
-pub large_inert : (s : Pass) (vs : List ℕ) (m : ℕ) → m ≡ length vs → ltb m s.area ≡ false
-    → inert s vs ≡ lone s.rule vs
-unfolding inert small
-large_inert s vs m size e = ap (◌|| lone s.rule vs) (ap (λ (k : ℕ). ltb k s.area) (sym size) ∙ e)
 
 -- one that is not inert has the least area
 pub lively_large : (s : Pass) (vs : List ℕ) → inert s vs ≡ false → s.area ≤ length vs

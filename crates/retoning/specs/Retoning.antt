@@ -8,7 +8,9 @@
 --   Done      what becomes of it, marks and all
 --   DoneBy    the same, by any list of its values
 --   alone_by  what is told of an inert one
-use Rattle.std.specs.Prelude.{ℕ, ◌<◌, ◌≡◌, Bool, false, cond, ◌&&◌, ◌||◌, List, length, ltb}
+--   untold    what is told of none
+--   together  what is told of some and others
+use Rattle.std.specs.Prelude.{ℕ, ◌+◌, ◌<◌, ◌≡◌, Bool, false, cond, ◌&&◌, ◌||◌, List, length, ltb}
 use Rattle.planes.specs.Lists.{at}
 use Rattle.histograms.specs.declared.Measures.{Measures}
 use Rattle.histograms.specs.Histograms.{values, Alike, Outside}
@@ -16,7 +18,7 @@ use Rattle.tones.specs.Lone.{lone}
 use Rattle.model.specs.declared.Pass.{Pass}
 use Rattle.model.specs.Passes.{sufficient, changes, kept_back, retone}
 use Rattle.painting.specs.declared.Next.{Next}
-use Rattle.painting.specs.Painting.{number, On, Clear}
+use Rattle.painting.specs.Painting.{number, no_sides, joined, On, Clear}
 use Rattle.retoning.specs.declared.Treatment.{Treatment}
 
 -- a component with the values vs is too small for the pass
@@ -53,7 +55,7 @@ pub record Done (s : Pass) (t : Next) (vs plane marks queue plane' marks' : List
   pub drawn : (i : ℕ) → i < m
       → at marks' (at queue i) ≡ cond (inert s vs) (at marks (at queue i)) (number t (at plane' (at queue i)))
   pub stays : (p : ℕ) → ((i : ℕ) → i < m → at queue i ≡ p → ⊥) → at marks' p ≡ at marks p
-  pub none : (side : Bool) → Clear side r.low r.high → inert s vs ≡ false
+  pub none : (side : Bool) → Clear side r.sides → inert s vs ≡ false
       → (i : ℕ) → i < m → On t side (at plane' (at queue i)) → ⊥
 
 -- the same for every list of the component's values; of the counts, only those of its values may have changed
@@ -63,6 +65,18 @@ pub record DoneBy (s : Pass) (t : Next) (c : Measures) (plane marks queue counts
       → Done s t vs plane marks queue plane' marks' c.size r
   pub counts_rest : Outside c.least c.greatest counts counts'
 
+-- what is told of no component, and of some and others
+abbrev pub untold : Treatment
+untold = record { retoned = 0; kept = 0; left = 0; sides = no_sides }
+
+abbrev pub together : Treatment → Treatment → Treatment
+together q r = record {
+  retoned = q.retoned + r.retoned;
+  kept = q.kept + r.kept;
+  left = q.left + r.left;
+  sides = joined q.sides r.sides;
+}
+
 -- what is told of an inert component that is too small, and of one that is not
 abbrev pub alone_by : Bool → Treatment
-alone_by few = record { retoned = 0; kept = cond few 0 1; left = cond few 0 1; low = false; high = false }
+alone_by few = record { retoned = 0; kept = cond few 0 1; left = cond few 0 1; sides = no_sides }

@@ -1,6 +1,6 @@
 -- The search for the next pixel that has a code. Definitions only.
 --
---   Searchable   what a search requires: marks of a plane, and a pixel of it
+--   Searchable   what a search requires: marks of a plane, and a pixel of it or its end
 --   FirstFrom    a pixel is the first from one on that has the code
 --   found_reply  the reply of each case of what a search finds
 --   NextPixel    what a search promises of its reply
@@ -11,10 +11,10 @@ use Rattle.planes.specs.Replies.{Reply, refuses, gives}
 use Rattle.planes.specs.declared.Shape.{Shape}
 use Rattle.rows.specs.Stretches.{None}
 
--- a mark for each pixel of a plane, and a pixel of it
+-- a mark for each pixel of a plane, and a pixel of it or one past the last
 pub record Searchable (marks : List ℕ) (z : Shape) (from : ℕ) : Type 0 where
   pub covered : pixels z ≤ length marks
-  pub inside : from < pixels z
+  pub inside : from ≤ pixels z
 
 -- p is the first pixel from `low` on, of n, that has the code
 pub record FirstFrom (marks : List ℕ) (code low n p : ℕ) : Type 0 where

@@ -15,11 +15,14 @@ use histograms::Measures;
 use planes::Shape;
 use rows::Grid;
 
-// The first pixel that has the code, in reading order from the pixel `from` on.
+// The first pixel that has the code, in reading order from the pixel `from` on; past the last pixel there is none.
 pub fn next_pixel(marks: &[u8], grid: Grid, code: u8, from: usize) -> Option<usize>
     requires { Searchable marks.now grid.shape from }
     ensures { NextPixel marks.now code from (pixels grid.shape) (found_reply result) }
 {
+    if from == grid.shape.pixels() {
+        return None;
+    }
     let w = grid.shape.w;
     let h = grid.shape.h;
     let mut found = None;

@@ -41,9 +41,9 @@ use Rattle.model.specs.Passes.{passed}
 use Rattle.model.specs.Passes.{counted, component_count, pass_count}
 use Rattle.model.proofs.Components.{in_tone, out_tone, still_tone}
 use Rattle.model.proofs.Order.{in-of, length_passed, passed_at}
-use Rattle.painting.specs.Painting.{number, On, Clear, Listed}
+use Rattle.painting.specs.Painting.{number, joined, On, Clear, Listed}
 use Rattle.sections.specs.Sections.{gone, Coded, Section, Treated, Treats}
-use Rattle.retoning.specs.Retoning.{inert, leaves, one_if, Done}
+use Rattle.retoning.specs.Retoning.{inert, leaves, one_if, untold, together, Done}
 use Rattle.painting.specs.declared.Next.{Next}
 use Rattle.retoning.specs.declared.Treatment.{Treatment}
 use Rattle.retoning.proofs.Inert.{inert_still, inert_leaves, inert_kept}
@@ -86,24 +86,11 @@ pub record Passing (near : Near) (n code : ℕ) (s : Pass) (t : Next)
   pub retones : q.retoned ≡ count (led (changes s) near code s plane₀ marks₀) (from 0 low)
   pub keeps : q.kept ≡ count (led (kept_back s) near code s plane₀ marks₀) (from 0 low)
   pub lefts : q.left ≡ count (led (leaves s) near code s plane₀ marks₀) (from 0 low)
-  pub none : (side : Bool) → Clear side q.low q.high → (p : ℕ) → taken p ≡ true
+  pub none : (side : Bool) → Clear side q.sides → (p : ℕ) → taken p ≡ true
       → inert s (component_values near s plane₀ p) ≡ false → On t side (new_tone near s plane₀ p) → ⊥
   pub size_is : length plane ≡ length plane₀
   pub marks_size : length marks ≡ length marks₀
   pub queue_rest : Beyond n queue₀ queue
-
--- what is told of no component, and of some and others
-abbrev pub untold : Treatment
-untold = record { retoned = 0; kept = 0; left = 0; low = false; high = false }
-
-abbrev pub together : Treatment → Treatment → Treatment
-together q r = record {
-  retoned = q.retoned + r.retoned;
-  kept = q.kept + r.kept;
-  left = q.left + r.left;
-  low = q.low || r.low;
-  high = q.high || r.high;
-}
 
 pub pass_begin : (near : Near) (n code : ℕ) (s : Pass) (t : Next) (plane marks queue : List ℕ)
     → Passing near n code s t plane marks queue plane marks queue 0 untold
@@ -294,7 +281,7 @@ module _ {near : Near} {n code : ℕ} {s : Pass} {t : Next} {plane₀ marks₀ q
           go false q = omega arith
 
       -- which sides its pixels are on
-      its-sides : (side : Bool) → Clear side r.low r.high → (p : ℕ) → Mine p ≡ true
+      its-sides : (side : Bool) → Clear side r.sides → (p : ℕ) → Mine p ≡ true
           → inert s (component_values near s plane₀ p) ≡ false → On t side (new_tone near s plane₀ p) → ⊥
       its-sides side c p d f o =
           let l : p < n = region_below near n code marks₀ low p d in
@@ -304,11 +291,11 @@ module _ {near : Near} {n code : ℕ} {s : Pass} {t : Next} {plane₀ marks₀ q
           R.none side c (ap (inert s) (same-vs p l d) ∙ f) i.index i.below
           (subst (On t side) (sym at_p) o)
 
-      sides : (side : Bool) → Clear side (q.low || r.low) (q.high || r.high)
+      sides : (side : Bool) → Clear side (joined q.sides r.sides)
           → (p : ℕ) → (W.taken p || Mine p) ≡ true
           → inert s (component_values near s plane₀ p) ≡ false → On t side (new_tone near s plane₀ p) → ⊥
       sides side c p g f o =
-          let both = clear_both side q.low q.high r.low r.high c in
+          let both = clear_both side q.sides r.sides c in
           elim (decide (Mine p)) [
             | inl d ↦ its-sides side both.1 p d f o
             | inr d ↦ W.none side both.0 p (sym (ap (W.taken p ||◌) d ∙ or-false (W.taken p)) ∙ g) f o
@@ -411,10 +398,10 @@ module _ {near : Near} {n code : ℕ} {s : Pass} {t : Next} {plane₀ marks₀ q
     }
 
     pub pass_end : (r : Treatment) → r.retoned ≡ q.retoned → r.kept ≡ q.kept → r.left ≡ q.left
-        → r.low ≡ q.low → r.high ≡ q.high → Treats near n code s t plane₀ marks₀ queue₀ plane marks queue r
-    pass_end r retoned kept left l g = record {
+        → r.sides ≡ q.sides → Treats near n code s t plane₀ marks₀ queue₀ plane marks queue r
+    pass_end r retoned kept left l = record {
       treated = treated r retoned kept left;
-      none = λ side c p h e f o. W.none side (sym (ap₂ (λ (x y : Bool). cond side x y) l g) ∙ c) p
+      none = λ side c p h e f o. W.none side (subst (Clear side) l c) p
           (last p h ∙ eq-eqb _ _ e) f (subst (On t side) (plane-at p h) o);
     }
 
@@ -436,18 +423,6 @@ module _ {near : Near} {n code : ℕ} {s : Pass} {t : Next} {plane₀ marks₀ q
         tally = tally_alike same G.tally;
       }
 
--- nothing is done yet, and where the section is not due, nothing is to be done
-pub pass_start : {near : Near} {n code : ℕ} {s : Pass} {t : Next} {plane marks : List ℕ} (queue : List ℕ)
-    → Treatable near n code s t plane marks → (due : Bool) (low : ℕ) → low ≡ cond due 0 n
-    → (due ≡ false → None marks code 0 n)
-    → Passing near n code s t plane marks queue plane marks queue low untold
-pass_start {near} {n} {code} {s} {t} {plane} {marks} queue D true low e f =
-    subst (λ (k : ℕ). Passing near n code s t plane marks queue plane marks queue k untold) (sym e)
-    (pass_begin near n code s t plane marks queue)
-pass_start {near} {n} {code} {s} {t} {plane} {marks} queue D false low e f =
-    subst (λ (k : ℕ). Passing near n code s t plane marks queue plane marks queue k untold) (sym e)
-    (go_on D (pass_begin near n code s t plane marks queue) n (omega arith) (omega arith) (f refl))
-
 -- a plane that is one component is done once that is treated
 module _ {near : Near} {n code : ℕ} {s : Pass} {t : Next} {plane marks queue marks' queue' : List ℕ} {k : ℕ}
     (D : Treatable near n code s t plane marks) (h : 0 < n) (e : at marks 0 ≡ code)
@@ -464,7 +439,7 @@ module _ {near : Near} {n code : ℕ} {s : Pass} {t : Next} {plane marks queue m
       real D begun p (sym (new-marks D begun h e F R p
       ∙ ap (λ (u : Bool). cond u (later near s t plane p) (at marks p)) (all p l)) ∙ d) in
       let W = go_on D (take_one D begun h e F R) n (omega arith) (omega arith) none in
-      pass_end D W (omega arith) r (omega arith) (omega arith) (omega arith) refl refl
+      pass_end D W (omega arith) r (omega arith) (omega arith) (omega arith) refl
 
 -- its component has all its pixels
 pub whole_size : {near : Near} {n code : ℕ} {s : Pass} {plane marks : List ℕ} → Symmetric near → length plane ≡ n
@@ -533,3 +508,13 @@ pub whole_plane : (z : Shape) (s : Pass) (code : ℕ) (marks : List ℕ) → 1 �
     → region (pass_neighbours z s) (pixels z) marks code 0 p ≡ true
 unfolding pass_neighbours
 whole_plane z s = plane_region z s.neighbours
+
+-- where the section is not due, no pixel has the code, and nothing is to be done
+pub pass_over : {z : Shape} {code : ℕ} {due : Bool} {s : Pass} {t : Next} {plane marks queue : List ℕ} {r : Treatment}
+    → Section plane marks queue z code due s t → due ≡ false → r ≡ untold
+    → Treats (pass_neighbours z s) (pixels z) code s t plane marks queue plane marks queue r
+pass_over {z} {code} {s = s} {t} {plane} {marks} {queue} {r} P e f =
+    let D = treatable P in
+    let W = go_on D (pass_begin (pass_neighbours z s) (pixels z) code s t plane marks queue) (pixels z)
+    (omega arith) (omega arith) (P.found e) in
+    rw f (pass_end D W (omega arith) untold refl refl refl refl)

@@ -63,5 +63,5 @@ pub record Treated (near : Near) (n code : ℕ) (s : Pass) (t : Next) (plane mar
 pub record Treats (near : Near) (n code : ℕ) (s : Pass) (t : Next) (plane marks queue plane' marks' queue' : List ℕ)
     (r : Treatment) : Type 0 where
   pub treated : Treated near n code s t plane marks queue plane' marks' queue' r
-  pub none : (side : Bool) → Clear side r.low r.high → (p : ℕ) → p < n → at marks p ≡ code
+  pub none : (side : Bool) → Clear side r.sides → (p : ℕ) → p < n → at marks p ≡ code
       → inert s (component_values near s plane p) ≡ false → On t side (at plane' p) → ⊥

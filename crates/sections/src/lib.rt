@@ -5,7 +5,7 @@
 // treat_plane     the same for a plane whose pixels all have the code
 #![tactic(auto)]
 
-ghost use Rattle.std.specs.Prelude.{◌≡◌, true, cond, ℕ, ◌<◌};
+ghost use Rattle.std.specs.Prelude.{◌≡◌, true, ℕ, ◌<◌};
 ghost use Rattle.planes.specs.Lists.{at};
 ghost use Rattle.planes.specs.Shapes.{pixels};
 ghost use Rattle.model.specs.Neighbourhoods.{pass_neighbours};
@@ -16,14 +16,7 @@ use model::Pass;
 use painting::Next;
 use planes::Shape;
 use retoning::{Treatment, treat_found};
-use scans::Found;
-
-// The first pixel that may have the code: 0 where the section is due, else n.
-fn first_due(due: bool, n: usize) -> usize
-    ensures { result ≡ cond due 0 n }
-{
-    if due { 0 } else { n }
-}
+use rows::Grid;
 
 // Treats the components of the pixels that have the code. None has it unless it is due.
 pub fn treat_section(
@@ -41,52 +34,31 @@ pub fn treat_section(
         plane.old marks.old queue.old
         plane.new marks.new queue.new result }
 {
-    let n = shape.pixels();
-    let inverse = rows::inverse(shape.w);
+    let mut told = Treatment::none();
+    if !due {
+        return told;
+    }
+    let grid = Grid::new(shape);
     let mut counts = [0u32; 256];
     let mut table = [0u8; 256];
-    let mut retoned = 0;
-    let mut kept = 0;
-    let mut left = 0;
-    let mut low = false;
-    let mut high = false;
-    let mut from = first_due(due, n);
-    while from < n {
-        let found = scans::next_pixel(marks, shape, inverse, code, from);
-        match found {
-            Found::At(p) => {
-                let c = flood(
-                    plane,
-                    marks,
-                    queue,
-                    &mut counts,
-                    shape,
-                    inverse,
-                    pass.neighbours,
-                    code,
-                    p,
-                );
-                let t = treat_found(plane, marks, queue, c, pass, next, &mut counts, &mut table);
-                histograms::clear(&mut counts, c);
-                retoned += t.retoned;
-                kept += t.kept;
-                left += t.left;
-                low |= t.low;
-                high |= t.high;
-                from = p + 1;
-            }
-            Found::Nothing => {
-                from = n;
-            }
-        }
+    let mut from = 0;
+    while let Some(p) = scans::next_pixel(marks, grid, code, from) {
+        let c = flood(
+            plane,
+            marks,
+            queue,
+            &mut counts,
+            grid,
+            pass.neighbours,
+            code,
+            p,
+        );
+        let t = treat_found(plane, marks, queue, c, pass, next, &mut counts, &mut table);
+        histograms::clear(&mut counts, c);
+        told = told.add(t);
+        from = p + 1;
     }
-    Treatment {
-        retoned,
-        kept,
-        left,
-        low,
-        high,
-    }
+    told
 }
 
 // The same for a plane whose pixels all have the code 1: it is one component. Its values are counted only where it is

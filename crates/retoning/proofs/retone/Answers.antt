@@ -11,7 +11,7 @@ returns c =
     record {
       done = λ vs A. done c.args.pass c.args.next A _ (gathered_size gathered A)
           (omega (arith, lively_large _ _ lively, gathered.measured.size)) lively
-          (c.tone_table-retoned.ensures.tones vs A) c.paint-sides.ensures
-          c.one_if.ensures c.one_unless.ensures refl;
+          (c.tone_table-retoned.ensures.tones vs A) c.paint.ensures
+          c.from.ensures c.from-2.ensures refl;
       counts_rest = c.tone_table-retoned.ensures.confined.counts_rest;
     }

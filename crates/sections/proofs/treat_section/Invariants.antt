@@ -1,19 +1,17 @@
 -- `sections::treat_section`: the components with a pixel before `from` are retoned and counted, and have their next
--- marks (`Passing`). The measure is what is left of n.
-use Prim.Native.Nat.{◌-◌}
-use mathlib.Core.List.{[]}
+-- marks (`Passing`). The measure is what is left of the plane. Assumes nothing.
+use Rattle.std.proofs.Common.{◌-◌, []}
 use Rattle.planes.specs.Shapes.{pixels}
 use Rattle.histograms.specs.Histograms.{Tally}
 use Rattle.model.specs.Neighbourhoods.{pass_neighbours}
 use Rattle.sections.proofs.Passing.{Passing}
 use Rattle.sections.proofs.treat_section.Given as goal
 
-abbrev pub invariant-loop-from : goal.invariant-loop-from
-invariant-loop-from l =
-    Passing (pass_neighbours l.shape l.pass) (pixels l.shape) l.code l.pass l.next l.initial.plane l.initial.marks
-    l.initial.queue l.plane l.marks l.queue l.from
-    (record { retoned = l.retoned; kept = l.kept; left = l.left; low = l.low; high = l.high })
+abbrev pub invariant-loop-p : goal.invariant-loop-p
+invariant-loop-p l =
+    Passing (pass_neighbours l.fn.shape l.pass) (pixels l.fn.shape) l.code l.pass l.next l.fn.plane l.fn.marks
+    l.fn.queue l.plane l.marks l.queue l.from l.told
     × Tally [] l.counts
 
-abbrev pub decreases-loop-from : goal.decreases-loop-from
-decreases-loop-from l = l.n - l.from
+abbrev pub decreases-loop-p : goal.decreases-loop-p
+decreases-loop-p l = pixels l.fn.shape - l.from
