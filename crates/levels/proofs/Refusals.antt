@@ -4,7 +4,6 @@ use mathlib.Core.Path.{◌≡◌}
 use native.Mathlib.Omega.{arith}
 use lib.Dec.{ltb}
 use borrow.Author.Tests.{ltb-false}
-use Rattle.planes.specs.Refusals.{◌▷◌}
 use Rattle.planes.proofs.Refusals.{when_none, ▷_none}
 use Rattle.tones.specs.Refusals.{rule_refusal}
 use Rattle.model.specs.Calls.{area_refusal, neighbour_refusal}

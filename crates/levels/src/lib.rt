@@ -2,7 +2,7 @@
 // each section is split into two halves for the next level, down to the last.
 //
 // Settings           the last level, the least area, the tone rule and the number of neighbours, with the house setting
-// settings_refusal   refusals 9, 6, 7, 8, 18, 19 for settings, or 0
+// settings_refusal   refusals 9, 6, 7, 8, 18, 19 for settings
 // below              how many levels there are below a section's own
 // deeper             whether a section has halves
 // next_of            the numbers of a section's halves
@@ -10,10 +10,11 @@
 #![tactic(auto)]
 
 ghost use Rattle.std.specs.Prelude.{◌≡◌, true, ℕ, ◌+◌, ◌-◌, ◌^◌, ◌≤◌};
+ghost use Rattle.planes.specs.Refusals.{number_in};
 ghost use Rattle.levels.specs.Levels.{house, level_refusal, settings_refusal, Below, Deeper, NextIs};
 
 use painting::Next;
-use planes::refused;
+use planes::Refusal;
 use tones::Rule;
 
 // The greatest last level.
@@ -21,7 +22,7 @@ pub const LAST: u8 = 7;
 
 // The levels 0 to `last` run; components from level 1 on have at least `area` pixels. On all levels they are taken by
 // the number of neighbours, 4 or 8.
-#[derive(Clone, Copy)]
+#[derive(Clone, Copy, Debug, PartialEq, Eq)]
 pub struct Settings {
     pub last: u8,
     pub area: u32,
@@ -68,33 +69,25 @@ impl Settings {
     }
 }
 
-// 9 where the last level is too large, else 0.
-fn level_refusal(last: u8) -> u8
-    ensures { result ≡ level_refusal last }
+// Refused by 9 where the last level is too large.
+#[tactic(auto, using(planes::proofs::Refusals::by_test), unfolding(crate::specs::Levels::level_refusal))]
+fn level_refusal(last: u8) -> Result<(), Refusal>
+    ensures { number_in result ≡ level_refusal last }
 {
     if LAST < last {
-        return refused::LEVEL;
+        return Err(Refusal::Level);
     }
-    0
+    Ok(())
 }
 
-// 9, 6, 7, 8, 18, 19 in that order for the settings, or 0.
-pub fn settings_refusal(settings: Settings) -> u8
-    ensures { result ≡ settings_refusal settings }
+// Refused by 9, 6, 7, 8, 18, 19 in that order.
+#[tactic(auto, using(planes::proofs::Refusals::in_order), unfolding(crate::specs::Levels::settings_refusal))]
+pub fn settings_refusal(settings: Settings) -> Result<(), Refusal>
+    ensures { number_in result ≡ settings_refusal settings }
 {
-    let last = level_refusal(settings.last);
-    if last != 0 {
-        return last;
-    }
-    let area = model::area_refusal(settings.area);
-    if area != 0 {
-        return area;
-    }
-    let rule = settings.rule;
-    let unfit = tones::rule_refusal(rule);
-    if unfit != 0 {
-        return unfit;
-    }
+    level_refusal(settings.last)?;
+    model::area_refusal(settings.area)?;
+    tones::rule_refusal(settings.rule)?;
     model::neighbour_refusal(settings.neighbours)
 }
 
@@ -102,8 +95,7 @@ pub fn settings_refusal(settings: Settings) -> u8
 fn level(width: u32) -> u32
     ensures { (k : ℕ) → k ≤ 8 → width ≡ 2 ^ k → result ≡ 8 - k }
 {
-    let e = u32::trailing_zeros(width);
-    if e <= 8 { 8 - e } else { 0 }
+    8u32.saturating_sub(width.trailing_zeros())
 }
 
 // How many levels there are below that of the section [a, b], down to the last.
@@ -111,12 +103,8 @@ pub fn below(a: u8, b: u8, last: u8) -> u32
     requires { (a ≤ b) × (last ≤ 7) }
     ensures { Below a b last result }
 {
-    let width = (b - a) as u32 + 1;
-    let l = level(width);
-    if l < last as u32 {
-        return last as u32 - l;
-    }
-    0
+    let width = u32::from(b - a) + 1;
+    u32::from(last).saturating_sub(level(width))
 }
 
 // Whether there is a level below that of the section [a, b].
@@ -124,10 +112,7 @@ pub fn deeper(a: u8, b: u8, last: u8) -> bool
     requires { (a ≤ b) × (last ≤ 7) }
     ensures { Deeper a b last result }
 {
-    if below(a, b, last) == 0 {
-        return false;
-    }
-    true
+    below(a, b, last) != 0
 }
 
 // The numbers of the halves of a section that has some, else 0. `mid` is the lower half's greatest value.
@@ -136,24 +121,22 @@ pub fn next_of(more: bool, mid: u8, code: u8, span: u8) -> Next
     ensures { NextIs more mid code span result }
 {
     if more {
-        let half = (span - 1) / 2;
         let low = code + 1;
-        let high = code + 1 + half;
-        return Next { mid, low, high };
-    }
-    Next {
-        mid,
-        low: 0,
-        high: 0,
+        let high = low + (span - 1) / 2;
+        Next { mid, low, high }
+    } else {
+        Next {
+            mid,
+            low: 0,
+            high: 0,
+        }
     }
 }
 
-// How many sections there are on the levels 0 to `last`.
+// How many sections there are on the levels 0 to `last`: 1 + 2 + 4 + .., up to 255 for 0 to 7.
 pub fn sections(last: u8) -> u8
     requires { last ≤ 7 }
     ensures { (result + 1 ≡ 2 ^ (last + 1)) × (result ≤ 255) }
 {
-    let spans = [1u8, 3, 7, 15, 31, 63, 127, 255];
-    let i = last as usize;
-    spans[i]
+    u8::MAX >> (7 - last)
 }

@@ -5,20 +5,19 @@
 --
 -- Assumes nothing.
 use Prim.Native.Nat.{ℕ, zero, suc, ◌-◌, ◌*◌}
-use mathlib.Core.Path.{◌≡◌, refl, ap, subst₂, subst₃, ◌∙◌}
+use mathlib.Core.Path.{◌≡◌, refl, subst₂, subst₃}
 use mathlib.Core.Logic.{◌↔◌}
 use mathlib.Core.List.{List}
 use native.Mathlib.Omega.{arith}
-use lib.ListN.{length, length-drop}
+use lib.ListN.{length}
 use Rattle.planes.specs.Refusals.{Sized}
 use Rattle.gaps.specs.Parsers.{Parsed, failed, parsed}
 use Rattle.headers.specs.Grammar.{Numbers, header}
 use Rattle.headers.specs.Headers.{IsHeader}
-use Rattle.headers.proofs.Grammar.{header_passed, header_suffix}
+use Rattle.headers.proofs.Grammar.{header_passed, header_shorter}
 use Rattle.headers.proofs.Headers.{header_accepts, header_parts, header_iff}
-use Rattle.netpbm.specs.Reading.{frame_refusal, framed, answered, read_answer}
+use Rattle.netpbm.specs.Reading.{Refused, Frame, frame_refusal, framed, answered, read_answer}
 use Rattle.netpbm.specs.Frames.{IsFrame}
-use Rattle.netpbm.specs.declared.Header.TheVariants.{Refused, Frame}
 use Rattle.netpbm.proofs.Refusals.{Accepted, frame_accepted, accepted_frame, never_malformed}
 
 framed_frame : (k w h offset w' h' offset' : ℕ) → framed k w h offset ≡ Frame w' h' offset'
@@ -39,8 +38,7 @@ accepted_is bytes limit w h offset e = go (header bytes) refl e
         let values = framed_frame refusal n.width n.height (length bytes - length raster) w h offset q in
         let parts = header_passed bytes n raster d in
         let fine = frame_accepted n.width n.height n.maxval (length raster) limit values.0 in
-        let left = header_suffix parts in
-        let counted = ap length left.is ∙ length-drop left.place bytes in
+        let shorter = header_shorter bytes n raster d in
         let place : length bytes - length raster ≡ offset = values.3 in
         record {
           raster = raster;

@@ -1,5 +1,4 @@
 pub mod Refusals
-pub mod Answers
 pub mod Frames
 pub mod Replies
 pub mod Writing

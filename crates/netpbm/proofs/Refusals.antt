@@ -6,13 +6,25 @@ use native.Mathlib.Omega.{arith}
 use lib.Dec.{eqb, ltb}
 use borrow.Author.Tests.{le-ltb, ltb-false, eq-eqb, eqb-true, not-false}
 use Rattle.planes.specs.Refusals.{when, ◌▷◌, bad_side, size_refusal, side_refusal, pixel_refusal, Sized}
-use Rattle.planes.proofs.Refusals.{when_none, ▷_none, pixels_fit, sized, sized_none}
+use Rattle.planes.proofs.Refusals.{when_none, ▷_none, pixels_fit, sized, sized_none, length_fits}
+use Rattle.planes.proofs.Refusals.{refused_by, passed_first}
+use Rattle.texts.proofs.Heading.{heading_short}
 use Rattle.netpbm.specs.Reading.{maxval_refusal, raster_refusal, trailing_refusal, frame_refusal}
 
 -- sides of at most 4,096 have a product that is far from overflow
 pub few_pixels : (w h limit : ℕ) → size_refusal w h limit ≡ 0 → w * h ≤ 4096 * 4096
 unfolding size_refusal
 few_pixels w h limit e = pixels_fit w h (▷_none (side_refusal w h) (pixel_refusal (w * h) limit) e).0
+
+pub few_columns : (w h limit : ℕ) → size_refusal w h limit ≡ 0 → w ≤ 4096
+few_columns w h limit e = (sized w h limit e).narrow
+
+pub few_rows : (w h limit : ℕ) → size_refusal w h limit ≡ 0 → h ≤ 4096
+few_rows w h limit e = (sized w h limit e).low
+
+-- what finds the contract of a function that tests one refusal after the other
+pub ruleset in_order =
+    (refused_by, passed_first, few_pixels, few_columns, few_rows, length_fits, heading_short)
 
 maxval_fits : (maxval : ℕ) → maxval_refusal maxval ≡ 0 → maxval ≡ 255
 unfolding maxval_refusal

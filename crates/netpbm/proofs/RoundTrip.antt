@@ -25,10 +25,9 @@ use Rattle.gaps.proofs.Bytes.{digit_not_sign}
 use Rattle.headers.specs.Headers.{IsHeader}
 use Rattle.headers.specs.Uncommented.{signless}
 use Rattle.headers.proofs.Uncommented.{before_rest}
-use Rattle.netpbm.specs.Reading.{read_answer}
+use Rattle.netpbm.specs.Reading.{Frame, read_answer}
 use Rattle.netpbm.specs.Frames.{IsFrame}
 use Rattle.netpbm.specs.Writing.{encoding, WriteOutcome}
-use Rattle.netpbm.specs.declared.Header.TheVariants.{Frame}
 use Rattle.netpbm.proofs.Frames.{accepted_iff}
 use Rattle.texts.proofs.Writing.{wrote_size, wrote_bytes}
 use Rattle.netpbm.proofs.Writing.{wrote_writable}

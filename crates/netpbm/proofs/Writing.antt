@@ -9,6 +9,7 @@ use Rattle.planes.proofs.Refusals.{▷_none, ▷_both, sized, sized_none, length
 use Rattle.planes.proofs.Refusals.{output_fits, output_none}
 use Rattle.planes.specs.Replies.{gives}
 use Rattle.texts.specs.Heading.{heading}
+use Rattle.texts.proofs.Placing.{put_length}
 use Rattle.texts.proofs.Writing.{wrote_none}
 use Rattle.netpbm.specs.Writing.{write_refusal, WriteOutcome}
 
@@ -43,3 +44,6 @@ writable_none {w} {h} {raster} {output} fine =
 pub wrote_writable : (raster : List ℕ) (w h : ℕ) {output : List ℕ} {size : ℕ} {output' : List ℕ}
     → WriteOutcome raster w h output (gives (size ∷ [])) output' → Writable w h (length raster) (length output)
 wrote_writable raster w h {output} wrote = writable w h (length raster) (length output) (wrote_none wrote)
+
+-- what finds the room for the heading and the raster
+pub ruleset room = (writable, put_length)

@@ -7,16 +7,14 @@ use Rattle.texts.specs.Ascii.{ascii, decimal}
 use Rattle.gaps.specs.Parsers.{failed, parsed}
 use Rattle.headers.specs.Grammar.{header}
 use Rattle.headers.specs.Uncommented.{uncommented_header}
-use Rattle.netpbm.specs.Reading.{read_answer}
+use Rattle.netpbm.specs.Reading.{Answer, Refused, Frame, read_answer}
 use Rattle.netpbm.specs.Writing.{encoding, write_refusal}
-use Rattle.netpbm.specs.declared.Header.{Header}
-use Rattle.netpbm.specs.declared.Header.TheVariants.{Refused, Frame}
 
 -- what the library's entry, and the program, answer to a text
-abbrev pub read : String → Header
+abbrev pub read : String → Answer
 read text = read_answer (ascii text) greatest_pixels
 
-abbrev pub read_small : String → Header
+abbrev pub read_small : String → Answer
 read_small text = read_answer (ascii text) 16384
 
 -- the refusals of reading, in the order in which they are tested, and then writing

@@ -1,103 +1,127 @@
 // P6 frames: reading, and writing.
 //
-// read          width, height and the raster's offset of a frame of at most 1,048,576 pixels, or a refusal
+// Header        the width and height of a frame that was read, and the place of its raster
+// read          the header of a frame of at most 1,048,576 pixels, or a refusal
 // read_within   the same, with the greatest number of pixels given
 // write         a frame into a lent output: the length written, or a refusal
 #![tactic(auto)]
 
 ghost use Rattle.std.specs.Prelude.{◌≡◌};
-ghost use Rattle.planes.specs.Refusals.{greatest_pixels};
-ghost use Rattle.netpbm.specs.Reading.{frame_refusal, header_reply, read_reply};
+ghost use Rattle.planes.specs.Refusals.{number_in, greatest_pixels};
+ghost use Rattle.netpbm.specs.Reading.{maxval_refusal, raster_refusal, trailing_refusal, frame_refusal};
+ghost use Rattle.netpbm.specs.Reading.{header_reply, read_reply};
 ghost use Rattle.texts.specs.Writing.{written_reply};
 ghost use Rattle.netpbm.specs.Writing.{write_refusal, WriteOutcome};
 
 use headers::Fields;
-use planes::refused;
-use texts::Written;
+use planes::Refusal;
 
 // The third number of a header: the greatest value of a channel.
 const MAXVAL: usize = 255;
 
-// The answer to reading: the frame's width, height and raster's offset, or the refusal's number.
-#[derive(Clone, Copy)]
-pub enum Header {
-    Refused(u8),
-    Frame { w: usize, h: usize, offset: usize },
+// A frame's width and height, and the place of its raster.
+#[derive(Clone, Copy, Debug, PartialEq, Eq)]
+pub struct Header {
+    pub w: usize,
+    pub h: usize,
+    pub offset: usize,
 }
 
-// The refusal of a frame whose header has these numbers and is followed by `raster` bytes, or 0.
-fn frame_refusal(w: usize, h: usize, maxval: usize, raster: usize, limit: usize) -> u8
-    ensures { result ≡ frame_refusal w h maxval raster limit }
+// Refused where the third number is another.
+#[tactic(auto, using(planes::proofs::Refusals::by_test), unfolding(crate::specs::Reading::maxval_refusal))]
+fn maxval_refusal(maxval: usize) -> Result<(), Refusal>
+    ensures { number_in result ≡ maxval_refusal maxval }
 {
-    let size = planes::size_refusal(w, h, limit);
-    if size != 0 {
-        return size;
-    }
     if maxval != MAXVAL {
-        return refused::MAXVAL;
+        return Err(Refusal::Maxval);
     }
-    let needed = 3 * (w * h);
+    Ok(())
+}
+
+// Refused where the raster is shorter than needed.
+#[tactic(auto, using(planes::proofs::Refusals::by_test), unfolding(crate::specs::Reading::raster_refusal))]
+fn raster_refusal(raster: usize, needed: usize) -> Result<(), Refusal>
+    ensures { number_in result ≡ raster_refusal raster needed }
+{
     if raster < needed {
-        return refused::RASTER;
+        return Err(Refusal::Raster);
     }
+    Ok(())
+}
+
+// Refused where bytes follow the raster.
+#[tactic(auto, using(planes::proofs::Refusals::by_test), unfolding(crate::specs::Reading::trailing_refusal))]
+fn trailing_refusal(raster: usize, needed: usize) -> Result<(), Refusal>
+    ensures { number_in result ≡ trailing_refusal raster needed }
+{
     if needed < raster {
-        return refused::TRAILING;
+        return Err(Refusal::Trailing);
     }
-    0
+    Ok(())
+}
+
+// The refusals of a frame whose header has these numbers and is followed by `raster` bytes.
+#[tactic(auto, using(crate::proofs::Refusals::in_order), unfolding(crate::specs::Reading::frame_refusal))]
+fn frame_refusal(
+    w: usize,
+    h: usize,
+    maxval: usize,
+    raster: usize,
+    limit: usize,
+) -> Result<(), Refusal>
+    ensures { number_in result ≡ frame_refusal w h maxval raster limit }
+{
+    planes::size_refusal(w, h, limit)?;
+    maxval_refusal(maxval)?;
+    let needed = 3 * (w * h);
+    raster_refusal(raster, needed)?;
+    trailing_refusal(raster, needed)
 }
 
 // Refused with 10 where the header is malformed or ended, and else with 1, 2, 11, 12 or 13, in that order.
-pub fn read_within(bytes: &[u8], limit: usize) -> Header
+#[tactic(auto, using(headers::proofs::Grammar::header_shorter), unfolding(crate::specs::Reading::read_reply))]
+pub fn read_within(bytes: &[u8], limit: usize) -> Result<Header, Refusal>
     ensures { header_reply result ≡ read_reply bytes.now limit }
 {
-    let Fields::Whole {
+    let Fields {
         w,
         h,
         maxval,
-        offset,
-    } = headers::read_header(bytes)
-    else {
-        return Header::Refused(refused::HEADER);
-    };
-    let refusal = frame_refusal(w, h, maxval, bytes.len() - offset, limit);
-    if refusal != 0 {
-        return Header::Refused(refusal);
-    }
-    Header::Frame { w, h, offset }
+        raster,
+    } = headers::read_header(bytes).ok_or(Refusal::Header)?;
+    frame_refusal(w, h, maxval, raster.len(), limit)?;
+    Ok(Header {
+        w,
+        h,
+        offset: bytes.len() - raster.len(),
+    })
 }
 
 // Refused as above, with 2 for more than 1,048,576 pixels.
-pub fn read(bytes: &[u8]) -> Header
+pub fn read(bytes: &[u8]) -> Result<Header, Refusal>
     ensures { header_reply result ≡ read_reply bytes.now greatest_pixels }
 {
     read_within(bytes, planes::PIXELS)
 }
 
-// The refusal of writing a frame with a raster and an output of so many bytes, or 0.
-fn write_refusal(w: usize, h: usize, raster: usize, output: usize) -> u8
-    ensures { result ≡ write_refusal w h raster output }
+// The refusals of writing a frame with a raster and an output of so many bytes.
+#[tactic(auto, using(crate::proofs::Refusals::in_order), unfolding(crate::specs::Writing::write_refusal))]
+fn write_refusal(w: usize, h: usize, raster: usize, output: usize) -> Result<(), Refusal>
+    ensures { number_in result ≡ write_refusal w h raster output }
 {
-    let size = planes::size_refusal(w, h, planes::PIXELS);
-    if size != 0 {
-        return size;
-    }
-    let length = planes::length_refusal(raster, 3 * (w * h));
-    if length != 0 {
-        return length;
-    }
+    planes::size_refusal(w, h, planes::PIXELS)?;
+    planes::length_refusal(raster, 3 * (w * h))?;
     planes::output_refusal(output, texts::heading_length(w, h) + raster)
 }
 
 // Refused with 1, 2, 3 or 14, in that order; then `output` stays as it is. Else its first bytes are P6, LF, width,
 // space, height, LF, 255, LF and the raster, and the bytes beyond stay.
-pub fn write(raster: &[u8], w: usize, h: usize, output: &mut [u8]) -> Written
+#[tactic(auto, using(crate::proofs::Writing::room))]
+pub fn write(raster: &[u8], w: usize, h: usize, output: &mut [u8]) -> Result<usize, Refusal>
     ensures { WriteOutcome raster.now w h output.old
         (written_reply result) output.new }
 {
-    let refusal = write_refusal(w, h, raster.len(), output.len());
-    if refusal != 0 {
-        return Written::Refused(refusal);
-    }
+    write_refusal(w, h, raster.len(), output.len())?;
     let offset = texts::put_heading(output, w, h);
-    Written::Length(texts::put_bytes(output, offset, raster))
+    Ok(texts::put_bytes(output, offset, raster))
 }
