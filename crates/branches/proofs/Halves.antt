@@ -198,7 +198,7 @@ module _ (z : Shape) (t : Settings) {code span d : ℕ} {s : Pass} {u : Next}
       subst (λ (near : Near). Coded near (pixels z) x (pass_on t a b) plane' marks') (halves_near z P.part)
       (part_coded ab whole T.treated P (pass_sym z s) K)
 
-  halves_of : Halves z s.a s.b code span r.low r.high t plane' marks'
+  halves_of : Halves z s.a s.b code span r.sides.low r.sides.high t plane' marks'
   halves_of = record {
     d = d;
     numbered = N;
@@ -260,7 +260,7 @@ module _ (z : Shape) (t : Settings) {code span : ℕ} {s : Pass} {u : Next}
     (numbers : (u.low ≡ code + 1) × (u.high ≡ code + 1 + (span - 1) / 2))
     (area : s.area ≤ t.area) (rule : t.rule ≡ s.rule) (same : t.neighbours ≡ s.neighbours) where
   pub next_halves : (d : ℕ) → 0 < d → Numbered t.last s.a s.b d code span
-      → Halves z s.a s.b code span r.low r.high t plane' marks'
+      → Halves z s.a s.b code span r.sides.low r.sides.high t plane' marks'
   next_halves zero i N = absurd (omega arith)
   next_halves (suc d) i N = halves_of z t whole T K are middle numbers area rule same N
 

@@ -1,6 +1,8 @@
 -- Branches, sections with the levels below them, by numbers in the marks. A pixel's mark is the number of the section
 -- that is due for it, and 0 where none is: those of an inert component are not entered again. Definitions only.
 --
+--   lower_half, upper_half
+--              the branches of a section's halves
 --   pass_on    the pass on a section
 --   Ready      a plane with room for it, and settings that are not refused
 --   Due        a section is due
@@ -26,8 +28,22 @@ use Rattle.sections.specs.Sections.{gone, Coded}
 use Rattle.retoning.specs.declared.Treatment.{Treatment}
 use Rattle.levels.specs.Levels.{Wide, Numbered, Away}
 use Rattle.levels.specs.declared.Settings.{Settings}
+use Rattle.branches.specs.declared.Branch.{Branch}
 
 -- ## Sections
+
+-- the section's values up to the middle, and those above it; of its branch's numbers but its own, the first half and the
+-- second
+abbrev pub lower_half : Branch → Branch
+lower_half s = record { a = s.a; b = (s.a + s.b) / 2; code = s.code + 1; span = (s.span - 1) / 2 }
+
+abbrev pub upper_half : Branch → Branch
+upper_half s = record {
+  a = (s.a + s.b) / 2 + 1;
+  b = s.b;
+  code = s.code + 1 + (s.span - 1) / 2;
+  span = (s.span - 1) / 2;
+}
 
 -- the pass on [a, b]
 abbrev pub pass_on : Settings → ℕ → ℕ → Pass

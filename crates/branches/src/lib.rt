@@ -1,5 +1,6 @@
 // Branches: a section with the levels below it.
 //
+// Branch     a section, and the numbers of its branch
 // counts_of  what a treated section counts for, with the levels below it
 // equalise   Algorithm 2, for all components of a section at once: the section, then its halves
 // split      Algorithm 2, lines 11 to 13: the lower half of a section, then the upper
@@ -10,13 +11,61 @@
 // component, and no sets are kept.
 #![tactic(auto)]
 
-ghost use Rattle.std.specs.Prelude.{◌≡◌, ◌≤◌, length};
-ghost use Rattle.branches.specs.Branches.{Ready, Due, Halves, all_told, Equalised, Halved};
+ghost use Rattle.std.specs.Prelude.{◌≡◌, ◌+◌, ◌-◌, ◌/◌, ◌≤◌, length};
+ghost use Rattle.branches.specs.Branches.{Ready, Due, Halves, all_told, Equalised, Halved, lower_half, upper_half};
 
 use levels::Settings;
 use model::{Counts, Pass};
+use painting::Sides;
 use planes::Shape;
 use retoning::Treatment;
+
+// The section [a, b], and the numbers of its branch, which are those of the sections on all levels from its own on:
+// `span` numbers from the code on, the code its own.
+#[derive(Clone, Copy, Debug, PartialEq, Eq)]
+pub struct Branch {
+    pub a: u8,
+    pub b: u8,
+    pub code: u8,
+    pub span: u8,
+}
+
+impl Branch {
+    // The lower half's greatest value.
+    pub fn mid(self) -> u8
+        ensures { result ≡ (self.a + self.b) / 2 }
+    {
+        ((u16::from(self.a) + u16::from(self.b)) / 2) as u8
+    }
+
+    // The branch of the lower half, [a, mid].
+    fn lower(self) -> Self
+        requires { (1 ≤ self.span) × (self.code + 1 ≤ 255) }
+        ensures { result ≡ lower_half self }
+    {
+        Branch {
+            a: self.a,
+            b: self.mid(),
+            code: self.code + 1,
+            span: (self.span - 1) / 2,
+        }
+    }
+
+    // The branch of the upper half, [mid + 1, b].
+    fn upper(self) -> Self
+        requires { (1 ≤ self.span) × ((self.code + 1 + (self.span - 1) / 2 ≤ 255)
+            × ((self.a + self.b) / 2 + 1 ≤ 255)) }
+        ensures { result ≡ upper_half self }
+    {
+        let half = (self.span - 1) / 2;
+        Branch {
+            a: self.mid() + 1,
+            b: self.b,
+            code: self.code + 1 + half,
+            span: half,
+        }
+    }
+}
 
 // The counts of a treated section with so many levels below it: a component that leaves is kept back on these too.
 pub fn counts_of(t: Treatment, below: u32) -> Counts
@@ -29,100 +78,64 @@ pub fn counts_of(t: Treatment, below: u32) -> Counts
     }
 }
 
-// Algorithm 2, for all components of the section [a, b] at once: treats the section, whose pixels are marked with the
-// code, and then its halves, unless this is the last level. The sections of the branch have the `span` numbers from the
-// code on. No pixel has the code unless the section is due. How many components were retoned and kept back; a lone one
-// that leaves is counted here for all levels below, and no more there.
+// Algorithm 2, for all components of the branch's section at once: treats the section, whose pixels are marked with the
+// code, and then its halves, unless this is the last level. No pixel has the code unless the section is due. How many
+// components were retoned and kept back; a lone one that leaves is counted here for all levels below, and no more
+// there.
 #[cycle(equalise_split)]
 fn equalise(
     plane: &mut [u8],
     marks: &mut [u8],
     queue: &mut [u32],
     shape: Shape,
-    a: u8,
-    b: u8,
-    code: u8,
-    span: u8,
+    branch: Branch,
     due: bool,
     settings: Settings,
 ) -> Counts
     requires { Ready shape (length plane.old) (length marks.old) (length queue.old) settings
-        × Due shape a b code span due settings plane.old marks.old }
-    ensures { Equalised shape a b code span settings plane.old marks.old
+        × Due shape branch.a branch.b branch.code branch.span due settings plane.old marks.old }
+    ensures { Equalised shape branch.a branch.b branch.code branch.span settings plane.old marks.old
         queue.old plane.new marks.new queue.new result }
 {
-    let last = settings.last;
-    let area = settings.area;
-    let rule = settings.rule;
-    let neighbours = settings.neighbours;
-    let mid = ((a as u16 + b as u16) / 2) as u8;
-    let more = levels::deeper(a, b, last);
-    let next = levels::next_of(more, mid, code, span);
+    let more = levels::deeper(branch.a, branch.b, settings.last);
+    let next = levels::next_of(more, branch.mid(), branch.code, branch.span);
     let section = Pass {
-        a,
-        b,
-        area,
-        rule,
-        neighbours,
+        a: branch.a,
+        b: branch.b,
+        area: settings.area,
+        rule: settings.rule,
+        neighbours: settings.neighbours,
     };
-    let t = sections::treat_section(plane, marks, queue, shape, code, due, section, next);
-    let counts = counts_of(t, levels::below(a, b, last));
+    let t = sections::treat_section(plane, marks, queue, shape, branch.code, due, section, next);
+    let counts = counts_of(t, levels::below(branch.a, branch.b, settings.last));
     if more {
-        let halves = split(
-            plane, marks, queue, shape, a, b, code, span, t.low, t.high, settings,
-        );
+        let halves = split(plane, marks, queue, shape, branch, t.sides, settings);
         return model::plus(counts, halves);
     }
     counts
 }
 
-// Algorithm 2, lines 11 to 13: the halves of the section [a, b], split at floor((a + b) / 2). Their pixels are marked
+// Algorithm 2, lines 11 to 13: the halves of the branch's section, split at floor((a + b) / 2). Their pixels are marked
 // with their numbers, and are the level sets of Algorithm 3; `equalise` has their components treated. No pixel has a
-// half's number unless that half is due. How many components were retoned and kept back.
+// half's number unless values are on that side. How many components were retoned and kept back.
 #[cycle(equalise_split)]
 pub fn split(
     plane: &mut [u8],
     marks: &mut [u8],
     queue: &mut [u32],
     shape: Shape,
-    a: u8,
-    b: u8,
-    code: u8,
-    span: u8,
-    low: bool,
-    high: bool,
+    branch: Branch,
+    sides: Sides,
     settings: Settings,
 ) -> Counts
     requires { Ready shape (length plane.old) (length marks.old) (length queue.old) settings
-        × Halves shape a b code span low high settings plane.old marks.old }
-    ensures { Halved shape a b code span settings plane.old marks.old
+        × Halves shape branch.a branch.b branch.code branch.span sides.low sides.high settings plane.old marks.old }
+    ensures { Halved shape branch.a branch.b branch.code branch.span settings plane.old marks.old
         queue.old plane.new marks.new queue.new result }
 {
-    let mid = ((a as u16 + b as u16) / 2) as u8;
-    let half = (span - 1) / 2;
-    let lower = equalise(
-        plane,
-        marks,
-        queue,
-        shape,
-        a,
-        mid,
-        code + 1,
-        half,
-        low,
-        settings,
-    );
-    let upper = equalise(
-        plane,
-        marks,
-        queue,
-        shape,
-        mid + 1,
-        b,
-        code + 1 + half,
-        half,
-        high,
-        settings,
-    );
+    let low = branch.lower();
+    let lower = equalise(plane, marks, queue, shape, low, sides.low, settings);
+    let high = branch.upper();
+    let upper = equalise(plane, marks, queue, shape, high, sides.high, settings);
     model::plus(lower, upper)
 }

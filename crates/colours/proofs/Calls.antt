@@ -1,24 +1,20 @@
--- Calls of `intensity` and `recolour`: what it means that none of their refusals applies, and the outcomes of a call
--- that is refused and of one that is done. Assumes nothing.
+-- Calls of `intensity` and `recolour`: what it means that none of their refusals applies, and what a call leaves that was
+-- not refused. Assumes nothing.
 use Prim.Native.Nat.{ℕ, ◌*◌, ◌≤◌}
 use mathlib.Core.Path.{◌≡◌, sym, ap, ◌∙◌}
-use mathlib.Core.List.{List, [], ◌++◌}
+use mathlib.Core.List.{List, []}
 use native.Mathlib.Omega.{arith}
-use lib.ListN.{length, drop}
+use lib.ListN.{length}
 use Rattle.planes.specs.Refusals.{◌▷◌, length_refusal, output_refusal, size_refusal, greatest_pixels}
 use Rattle.planes.proofs.Refusals.{▷_none, ▷_both, ▷_assoc, length_fits, length_none, output_fits, output_none}
 use Rattle.planes.proofs.Refusals.{sized, sized_none}
 use Rattle.planes.specs.Replies.{Reply, gives, replied, after, overwritten}
-use Rattle.planes.proofs.Replies.{replied_gives, replied_err, after_err, replied_ok, after_ok}
-use Rattle.std.specs.Prelude.{Ok, Err}
-use Rattle.planes.specs.declared.refusal.Refusal.{Refusal}
-use Rattle.planes.specs.Refusals.{number}
+use Rattle.planes.proofs.Replies.{replied_gives}
 use Rattle.planes.proofs.Refusals.{refused_by, passed_first}
 use Rattle.colours.specs.Frames.{intensity, recolour}
-use Rattle.colours.specs.Calls.{intensity_refusal, recolour_refusal, Accepted, status_reply}
+use Rattle.colours.specs.Calls.{intensity_refusal, recolour_refusal, Accepted}
 use Rattle.colours.specs.Calls.{IntensityOutcome, RecolourOutcome}
-use Rattle.colours.specs.Steps.{with_frame}
-use Rattle.colours.proofs.Frames.{length_intensity, length_recolour}
+use Rattle.colours.proofs.Frames.{length_intensity}
 
 -- ## Refusals
 
@@ -74,20 +70,6 @@ module _ (w h : ℕ) (frame plane : List ℕ) where
   abbrev filling : ℕ
   filling = intensity_refusal w h (length frame) (length plane)
 
-  pub intensity_refused : (r : Refusal) → number r ≡ filling
-      → IntensityOutcome w h frame plane (status_reply (Err r)) plane
-  intensity_refused r e = record {
-    answer = replied_err r filling [] e;
-    plane_is = after_err r filling plane (intensity frame) e;
-  }
-
-  pub intensity_done : {plane' : List ℕ} → 0 ≡ filling → plane' ≡ intensity frame
-      → IntensityOutcome w h frame plane (status_reply (Ok tt)) plane'
-  intensity_done e filled = record {
-    answer = replied_ok filling [] e;
-    plane_is = filled ∙ after_ok filling plane (intensity frame) e;
-  }
-
   -- a call that gives its values was not refused, and filled the plane
   pub intensity_given : {vs plane' : List ℕ} → IntensityOutcome w h frame plane (gives vs) plane'
       → (filling ≡ 0) × (plane' ≡ intensity frame)
@@ -108,22 +90,6 @@ module _ (w h : ℕ) (frame plane output : List ℕ) where
 
   abbrev coloured : List ℕ
   coloured = overwritten output (recolour frame plane)
-
-  pub recolour_refused : (r : Refusal) → number r ≡ colouring
-      → RecolourOutcome w h frame plane output (status_reply (Err r)) output
-  recolour_refused r e = record {
-    answer = replied_err r colouring [] e;
-    output_is = after_err r colouring output coloured e;
-  }
-
-  pub recolour_done : {output' : List ℕ} → 0 ≡ colouring → output' ≡ with_frame frame plane output
-      → RecolourOutcome w h frame plane output (status_reply (Ok tt)) output'
-  recolour_done e stored = record {
-    answer = replied_ok colouring [] e;
-    output_is = stored
-        ∙ ap (λ (k : ℕ). recolour frame plane ++ drop k output) (sym (length_recolour frame plane))
-        ∙ after_ok colouring output coloured e;
-  }
 
   -- what a call that was not refused leaves: the recoloured frame, and beyond it what was there
   pub recolour_given : {reply : Reply} {output' : List ℕ} → colouring ≡ 0

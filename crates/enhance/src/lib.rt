@@ -5,25 +5,16 @@
 #![tactic(auto)]
 
 ghost use Rattle.std.specs.Prelude.{◌≡◌, length};
-ghost use Rattle.planes.specs.Refusals.{◌▷◌};
+ghost use Rattle.planes.specs.Refusals.{number_in};
 ghost use Rattle.model.specs.Outcomes.{answer_reply};
 ghost use Rattle.enhance.specs.Calls.{memory_refusal, enhance_refusal, Enhances, EnhanceOutcome};
 
 pub use levels::Settings;
-use model::{Answer, Counts};
-use planes::Shape;
+use model::Counts;
+use planes::{Refusal, Shape};
 
-// The first of two refusals, or 0 where there is none.
-fn first(x: u8, y: u8) -> u8
-    ensures { result ≡ x ▷ y }
-{
-    if x != 0 {
-        return x;
-    }
-    y
-}
-
-// 1, 2, 3, 4, 14 in that order, by the shape and the lengths that are lent, or 0.
+// 1, 2, 3, 4, 14 in that order, by the shape and the lengths that are lent.
+#[tactic(auto, using(planes::proofs::Shapes::in_order), unfolding(crate::specs::Calls::memory_refusal))]
 pub fn memory_refusal(
     shape: Shape,
     frame: usize,
@@ -31,21 +22,19 @@ pub fn memory_refusal(
     marks: usize,
     queue: usize,
     output: usize,
-) -> u8
-    ensures { result ≡ memory_refusal shape frame plane marks queue output }
+) -> Result<(), Refusal>
+    ensures { number_in result ≡ memory_refusal shape frame plane marks queue output }
 {
-    let size = planes::shape_refusal(shape);
-    if size != 0 {
-        return size;
-    }
+    planes::shape_refusal(shape)?;
     let n = shape.pixels();
-    let pixels = planes::length_refusal(plane, n);
-    let channels = first(pixels, planes::length_refusal(frame, 3 * n));
-    let working = first(channels, planes::room_refusal(n, marks, queue));
-    first(working, planes::output_refusal(output, 3 * n))
+    planes::length_refusal(plane, n)?;
+    planes::length_refusal(frame, 3 * n)?;
+    planes::room_refusal(n, marks, queue)?;
+    planes::output_refusal(output, 3 * n)
 }
 
-// The same, then 9, 6, 7, 8, 18, 19 for the settings, or 0.
+// The same, then 9, 6, 7, 8, 18, 19 for the settings.
+#[tactic(auto, using(planes::proofs::Refusals::in_order), unfolding(crate::specs::Calls::enhance_refusal))]
 fn refusal_of(
     shape: Shape,
     frame: usize,
@@ -54,11 +43,11 @@ fn refusal_of(
     queue: usize,
     output: usize,
     settings: Settings,
-) -> u8
-    ensures { result ≡ enhance_refusal shape frame plane marks queue output settings }
+) -> Result<(), Refusal>
+    ensures { number_in result ≡ enhance_refusal shape frame plane marks queue output settings }
 {
-    let memory = memory_refusal(shape, frame, plane, marks, queue, output);
-    first(memory, levels::settings_refusal(settings))
+    memory_refusal(shape, frame, plane, marks, queue, output)?;
+    levels::settings_refusal(settings)
 }
 
 // The enhancement of a frame that is accepted. How many components were retoned and kept back. The answers of the calls
@@ -93,12 +82,12 @@ pub fn enhance(
     marks: &mut [u8],
     queue: &mut [u32],
     output: &mut [u8],
-) -> Answer
+) -> Result<Counts, Refusal>
     ensures { EnhanceOutcome shape settings frame.now plane.old marks.old
         queue.old output.old (answer_reply result) plane.new marks.new
         queue.new output.new }
 {
-    let refusal = refusal_of(
+    refusal_of(
         shape,
         frame.len(),
         plane.len(),
@@ -106,9 +95,6 @@ pub fn enhance(
         queue.len(),
         output.len(),
         settings,
-    );
-    if refusal != 0 {
-        return Answer::Refused(refusal);
-    }
-    Answer::Done(enhance_frame(frame, shape, settings, plane, marks, queue, output))
+    )?;
+    Ok(enhance_frame(frame, shape, settings, plane, marks, queue, output))
 }

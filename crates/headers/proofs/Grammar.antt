@@ -23,10 +23,6 @@ use Rattle.gaps.proofs.Gaps.{gap_shorter}
 
 -- a number after what another parser takes
 module _ (before : Parser (Unit {0})) (bytes : List ℕ) where
-  pub field_absent : before bytes ≡ failed → field before bytes ≡ failed
-  unfolding field
-  field_absent e = rw e
-
   pub field_present : (rest : List ℕ) → before bytes ≡ parsed tt rest → field before bytes ≡ numeral rest
   unfolding field
   field_present rest e = rw e

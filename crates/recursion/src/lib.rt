@@ -7,6 +7,7 @@ ghost use Rattle.std.specs.Prelude.{◌≡◌, length};
 ghost use Rattle.branches.specs.Branches.{Ready};
 ghost use Rattle.recursion.specs.Recursion.{levels_left, RecursionOutcome};
 
+use branches::Branch;
 use levels::Settings;
 use model::{Counts, Pass};
 use planes::Shape;
@@ -16,11 +17,11 @@ use planes::Shape;
 fn levels_left(n: usize, settings: Settings) -> u32
     ensures { result ≡ levels_left n settings }
 {
-    let area = settings.area as usize;
-    if n < area {
-        return 0;
+    if n < settings.area as usize {
+        0
+    } else {
+        u32::from(settings.last)
     }
-    settings.last as u32
 }
 
 // The recursion from level 0, the published call on the whole image, which has no area test. How many components were
@@ -36,27 +37,27 @@ pub fn run_levels(
     ensures { RecursionOutcome shape settings plane.old marks.old queue.old
         plane.new marks.new queue.new result }
 {
-    let last = settings.last;
-    let rule = settings.rule;
-    let neighbours = settings.neighbours;
-    let span = levels::sections(last);
-    let more = levels::deeper(0, 255, last);
-    let next = levels::next_of(more, 127, 1, span);
-    let whole = Pass {
+    let root = Branch {
         a: 0,
         b: 255,
+        code: 1,
+        span: levels::sections(settings.last),
+    };
+    let more = levels::deeper(root.a, root.b, settings.last);
+    let next = levels::next_of(more, root.mid(), root.code, root.span);
+    let whole = Pass {
+        a: root.a,
+        b: root.b,
         area: 1,
-        rule,
-        neighbours,
+        rule: settings.rule,
+        neighbours: settings.neighbours,
     };
     let n = shape.pixels();
     painting::mark_section(plane, marks, n, whole);
     let t = sections::treat_plane(plane, marks, queue, shape, whole, next);
     let counts = branches::counts_of(t, levels_left(n, settings));
     if more {
-        let halves = branches::split(
-            plane, marks, queue, shape, 0, 255, 1, span, t.low, t.high, settings,
-        );
+        let halves = branches::split(plane, marks, queue, shape, root, t.sides, settings);
         return model::plus(counts, halves);
     }
     counts

@@ -46,13 +46,13 @@ equalise-split-halves-requires t c =
     let D = c.deeper-more.ensures in
     let X = c.next_of-next.ensures in
     let e = c.if-more.true in
-    let measured : 2 * (c.args.b - c.args.a) + 1 ≡ t = c.decreases in (
+    let measured : 2 * (c.args.branch.b - c.args.branch.a) + 1 ≡ t = c.decreases in (
       omega (arith, D.some e),
       (
         still_ready ready (omega (arith, c.treat_section-t)) (omega (arith, c.treat_section-t))
             (omega (arith, c.treat_section-t)),
         next_halves c.args.shape c.args.settings ready.lent.whole c.treat_section-t.ensures
-            due.coded due.marks_are X.middle (X.halves e) (le_refl _) refl refl
+            due.coded due.marks_are (X.middle ∙ c.mid.ensures) (X.halves e) (le_refl _) refl refl
             due.d (D.yes e due.d N.k N.wide) N,
       ),
     )
@@ -67,7 +67,7 @@ equalise-plus-requires t c =
     let below = halves_few due.d some N (omega (arith, c.treat_section-t, lent.whole)) lent.size.few
     c.split-halves.ensures in
     let counts = c.counts_of-counts.ensures in
-    let spans : c.args.span * 1048576 ≤ 255 * 1048576 = omega (arith, N.fits, N.real) in (
+    let spans : c.args.branch.span * 1048576 ≤ 255 * 1048576 = omega (arith, N.fits, N.real) in (
       omega (arith, here.0, below.0, ap (λ (x : Counts). x.retoned) counts),
       omega (arith, here.1, below.1, ap (λ (x : Counts). x.kept) counts),
     )
@@ -85,10 +85,10 @@ equalise-returns-then-more t c =
     let some = D.yes e due.d N.k N.wide in
     let many = numbered_many due.d N some in
     let left = next_gone c.args.shape c.args.settings lent.whole c.treat_section-t.ensures due.coded
-    due.marks_are X.middle (X.halves e) (le_refl _) refl refl due.d some N in
+    due.marks_are (X.middle ∙ c.mid.ensures) (X.halves e) (le_refl _) refl refl due.d some N in
     let E = node c.args.shape c.args.settings c.below.ensures T D e H left
     (apart_node (numbered_order N) lent.whole T N.real many due.marks_are (X.halves e) H.apart) in
-    subst (Equalised c.args.shape c.args.a c.args.b c.args.code c.args.span c.args.settings
+    subst (Equalised c.args.shape c.args.branch.a c.args.branch.b c.args.branch.code c.args.branch.span c.args.settings
     c.args.plane.now c.args.marks.now c.args.queue.now
     c.split-halves.new.plane c.split-halves.new.marks c.split-halves.new.queue)
     (sym (c.plus.ensures ∙ ap (λ (x : Counts). sums x c.split-halves.result) c.counts_of-counts.ensures))
@@ -105,44 +105,41 @@ equalise-returns t c =
     let e = c.if-more.false in
     let E = leaf c.args.shape c.args.settings c.below.ensures T D e
     (apart_leaf (numbered_order N) lent.whole T N.real (numbered_some N) due.marks_are (X.none e)) in
-    subst (Equalised c.args.shape c.args.a c.args.b c.args.code c.args.span c.args.settings
+    subst (Equalised c.args.shape c.args.branch.a c.args.branch.b c.args.branch.code c.args.branch.span c.args.settings
     c.args.plane.now c.args.marks.now c.args.queue.now
     c.treat_section-t.new.plane c.treat_section-t.new.marks c.treat_section-t.new.queue)
     (sym c.counts_of-counts.ensures) E
 
 -- ## `split`, of measure t
 
-pub split-overflow_sub-half : goal.split-overflow_sub-half
-split-overflow_sub-half t c = numbered_some c.requires.1.numbered
-
-pub split-overflow_add-code : goal.split-overflow_add-code
-split-overflow_add-code t c = omega (arith, halves_room c.requires.1.numbered)
+pub split-lower-low-requires : goal.split-lower-low-requires
+split-lower-low-requires t c =
+    let N = c.requires.1.numbered in
+    (numbered_some N, omega (arith, halves_room N))
 
 pub split-equalise-lower-requires : goal.split-equalise-lower-requires
 split-equalise-lower-requires t c =
     let due = c.requires.1 in
-    let measured : 2 * (c.args.b - c.args.a) ≡ t = c.decreases in
-    (omega (arith, halves_order due.numbered), (c.requires.0, due_low due))
+    let measured : 2 * (c.args.branch.b - c.args.branch.a) ≡ t = c.decreases in
+    rw c.lower-low.ensures (omega (arith, halves_order due.numbered), (c.requires.0, due_low due))
 
-pub split-overflow_add-mid-2 : goal.split-overflow_add-mid-2
-split-overflow_add-mid-2 t c = omega (arith, halves_order c.requires.1.numbered)
-
-pub split-overflow_add-code-2 : goal.split-overflow_add-code-2
-split-overflow_add-code-2 t c = omega (arith, halves_room c.requires.1.numbered)
-
-pub split-overflow_add-code-3 : goal.split-overflow_add-code-3
-split-overflow_add-code-3 t c = omega (arith, halves_room c.requires.1.numbered)
+pub split-upper-high-requires : goal.split-upper-high-requires
+split-upper-high-requires t c =
+    let N = c.requires.1.numbered in
+    (numbered_some N, (omega (arith, halves_room N), omega (arith, halves_order N)))
 
 pub split-equalise-upper-requires : goal.split-equalise-upper-requires
 split-equalise-upper-requires t c =
     let ready = c.requires.0 in
     let due = c.requires.1 in
     let lower = c.equalise-lower in
-    let measured : 2 * (c.args.b - c.args.a) ≡ t = c.decreases in (
+    let low = rw c.lower-low.ensures at lower.ensures in
+    let measured : 2 * (c.args.branch.b - c.args.branch.a) ≡ t = c.decreases in
+    rw c.upper-high.ensures (
       omega (arith, halves_order due.numbered),
       (
         still_ready ready (omega (arith, lower)) (omega (arith, lower)) (omega (arith, lower)),
-        due_high due ready.lent.whole (omega (arith, lower)) lower.ensures.apart,
+        due_high due ready.lent.whole (omega (arith, lower)) low.apart,
       ),
     )
 
@@ -150,22 +147,23 @@ pub split-plus-requires : goal.split-plus-requires
 split-plus-requires t c =
     let lent = c.requires.0.lent in
     let N = c.requires.1.numbered in
-    let low = branch_few (low_numbered N) lent.whole lent.size.few c.equalise-lower.ensures in
-    let high = branch_few (high_numbered N) (omega (arith, c.equalise-lower, lent.whole)) lent.size.few
-    c.equalise-upper.ensures in
-    let spans : c.args.span * 1048576 ≤ 255 * 1048576 = omega (arith, N.fits, N.real) in (
+    let lower = rw c.lower-low.ensures at c.equalise-lower.ensures in
+    let upper = rw c.upper-high.ensures at c.equalise-upper.ensures in
+    let low = branch_few (low_numbered N) lent.whole lent.size.few lower in
+    let high = branch_few (high_numbered N) (omega (arith, c.equalise-lower, lent.whole)) lent.size.few upper in
+    let spans : c.args.branch.span * 1048576 ≤ 255 * 1048576 = omega (arith, N.fits, N.real) in (
       omega (arith, low.0, high.0, half_some N, twice N),
       omega (arith, low.1, high.1, half_some N, twice N),
     )
 
 pub split-returns : goal.split-returns
 split-returns t c =
-    let low = c.equalise-lower.ensures in
-    let high = c.equalise-upper.ensures in
+    let low = rw c.lower-low.ensures at c.equalise-lower.ensures in
+    let high = rw c.upper-high.ensures at c.equalise-upper.ensures in
     let whole = c.requires.0.lent.whole in
     let H = halves low high (gone_high c.requires.1 whole (omega (arith, c.equalise-lower)) low.apart)
     (apart_both c.requires.1 whole (omega (arith, c.equalise-lower)) low.apart high.apart) in
-    subst (Halved c.args.shape c.args.a c.args.b c.args.code c.args.span c.args.settings
+    subst (Halved c.args.shape c.args.branch.a c.args.branch.b c.args.branch.code c.args.branch.span c.args.settings
     c.args.plane.now c.args.marks.now c.args.queue.now
     c.equalise-upper.new.plane c.equalise-upper.new.marks c.equalise-upper.new.queue)
     (sym c.plus.ensures) H

@@ -4,7 +4,7 @@ use Prim.Native.Nat.{◌+◌, ◌-◌, ◌*◌}
 use Rattle.branches.proofs.+equalise_split.Given as goal
 
 abbrev pub decreases-equalise : goal.decreases-equalise
-decreases-equalise l = 2 * (l.b - l.a) + 1
+decreases-equalise l = 2 * (l.branch.b - l.branch.a) + 1
 
 abbrev pub decreases-split : goal.decreases-split
-decreases-split l = 2 * (l.b - l.a)
+decreases-split l = 2 * (l.branch.b - l.branch.a)

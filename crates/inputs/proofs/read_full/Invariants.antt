@@ -1,9 +1,9 @@
--- What was read lies in the buffer, which keeps its length. The measure is what is left of it.
-use Rattle.std.proofs.Common.{length, ◌-◌, ◌≤◌, ◌≡◌}
+-- What was read lies in the buffer. The measure is what is left of it.
+use Rattle.std.proofs.Common.{length, ◌-◌, ◌≤◌}
 use Rattle.inputs.proofs.read_full.Given as goal
 
 abbrev pub invariant-loop-done : goal.invariant-loop-done
-invariant-loop-done g l = (l.done ≤ length l.buf) × (length l.buf ≡ length l.initial.buf)
+invariant-loop-done g l = l.done ≤ length l.buf
 
 abbrev pub decreases-loop-done : goal.decreases-loop-done
 decreases-loop-done g l = length l.initial.buf - l.done

@@ -29,13 +29,13 @@ use Rattle.recursion.proofs.run_levels.Goals.{After-treat_plane-t}
 -- level 0 has the number 1
 numbered : (c : After-deeper-more) → (
     let last = c.args.settings.last in
-    Numbered last 0 255 last 1 c.sections-span.result)
+    Numbered last 0 255 last 1 c.sections.result)
 numbered c =
-    let span = c.sections-span.ensures in
+    let span = c.sections.ensures in
     root_numbered c.requires.last span.0 span.1
 
-pub sections-span-requires : goal.sections-span-requires
-sections-span-requires c = c.requires.last
+pub sections-requires : goal.sections-requires
+sections-requires c = c.requires.last
 
 pub deeper-more-requires : goal.deeper-more-requires
 deeper-more-requires c = (omega arith, c.requires.last)
@@ -88,7 +88,7 @@ split-halves-requires c =
       still_ready c.requires (omega (arith, c.treat_plane-t)) (omega (arith, c.treat_plane-t, c.mark_section))
           (omega (arith, c.treat_plane-t)),
       next_halves c.args.shape c.args.settings c.requires.lent.whole c.treat_plane-t.ensures
-          (marked_coded M) (root_marks _ M) X.middle (X.halves e) c.requires.area refl refl
+          (marked_coded M) (root_marks _ M) (X.middle ∙ c.mid.ensures) (X.halves e) c.requires.area refl refl
           _ (c.deeper-more.ensures.yes e _ N.k N.wide) N,
     )
 
@@ -111,7 +111,7 @@ plus-requires c =
     let halves = halves_few _ some N (omega (arith, c.treat_plane-t, lent.whole)) lent.size.few
     c.split-halves.ensures in
     let told = counts (goal.at.plus-requires c).After-counts_of-counts in
-    let spans : c.sections-span.result * 1048576 ≤ 255 * 1048576 = omega (arith, N.fits, N.real) in (
+    let spans : c.sections.result * 1048576 ≤ 255 * 1048576 = omega (arith, N.fits, N.real) in (
       omega (arith, here.0, halves.0, ap (λ (x : Counts). x.retoned) told),
       omega (arith, here.1, halves.1, ap (λ (x : Counts). x.kept) told),
     )
@@ -135,7 +135,7 @@ returns-then-more c =
     let sizes = whole_size (pass_sym z whole) lent.whole (marked_coded M) pixel (ones 0 pixel)
     (whole_plane z whole 1 _ lent.size.wide ones) in
     let left = next_gone z c.args.settings lent.whole c.treat_plane-t.ensures
-    (marked_coded M) (root_marks _ M) X.middle (X.halves e) c.requires.area refl refl _ some N in
+    (marked_coded M) (root_marks _ M) (X.middle ∙ c.mid.ensures) (X.halves e) c.requires.area refl refl _ some N in
     let R = root_halves z c.args.settings M c.treat_plane-t.ensures.treated some c.requires.last lent.whole
     pixel sizes left c.split-halves.ensures in
     subst (RecursionOutcome z c.args.settings c.args.plane.now c.args.marks.now c.args.queue.now
