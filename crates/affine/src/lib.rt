@@ -19,7 +19,7 @@ ghost use Rattle.points.specs.Points.{start, points, top_of, Cumulative};
 ghost use Rattle.affine.specs.Affine.{line_tone, joined, kept_at, affine_tone, affine_kept, Drawn};
 
 use histograms::{Measures, fill_same, refill, scale, sum_up};
-use points::{Point, Slopes, next_point, top_height};
+use points::{Curve, Point, Slopes};
 
 // Whether the old values are kept, by the number n of segments, d = b - a, and the last height y.
 fn keeps(n: u8, d: u8, y: u64) -> bool
@@ -50,31 +50,22 @@ fn fill_line(table: &mut [u8; 256], p: Point, q: Point, y: u64, a: u8, b: u8, x:
 }
 
 // The tones of the values of [least, greatest], where the height y of the last point becomes b.
-fn fill_lines(
-    sums: &[u32; 256],
-    table: &mut [u8; 256],
-    c: Measures,
-    s: Slopes,
-    a: u8,
-    b: u8,
-    y: u64,
-)
-    requires { Cumulative sums.now c a b
-        × (((1 ≤ s.segments) × ((1 ≤ y) × (y < 2 ^ 32)))
-        × (y ≡ (top_of (start a) (points s a b (at sums.now) c.size)).height)) }
-    ensures { Refilled (joined a b y (start a) (points s a b (at sums.now) c.size))
-        c.least (c.greatest + 1) table.old table.new }
+fn fill_lines(curve: Curve, table: &mut [u8; 256], y: u64)
+    requires { ((1 ≤ curve.s.segments) × ((1 ≤ y) × (y < 2 ^ 32)))
+        × (y ≡ (top_of (start curve.a)
+        (points curve.s curve.a curve.b (at curve.sums.now) curve.c.size)).height) }
+    ensures { Refilled (joined curve.entry.a curve.entry.b y (start curve.entry.a)
+        (points curve.entry.s curve.entry.a curve.entry.b (at curve.entry.sums.now) curve.entry.c.size))
+        curve.entry.c.least (curve.entry.c.greatest + 1) table.old table.new }
 {
-    let mut p = Point {
-        place: usize::from(a),
-        height: 0,
-    };
-    for i in 0..u64::from(s.segments) {
-        let q = next_point(sums, c, s, a, b, i, p);
-        fill_line(table, p, q, y, a, b, p.place.max(usize::from(c.least)));
+    let least = usize::from(curve.c.least);
+    let mut p = curve.start();
+    for i in 0..u64::from(curve.s.segments) {
+        let q = curve.next_point(i, p);
+        fill_line(table, p, q, y, curve.a, curve.b, p.place.max(least));
         p = q;
     }
-    table[usize::from(c.greatest)] = b;
+    table[usize::from(curve.c.greatest)] = curve.b;
 }
 
 // The table of the rule; whether the component is retoned.
@@ -92,11 +83,18 @@ pub fn affine_tones(
         counts.old table.old counts.new table.new }
 {
     sum_up(counts, c.least, c.greatest);
-    let y = top_height(counts, c, s, a, b);
+    let curve = Curve {
+        sums: counts,
+        c,
+        s,
+        a,
+        b,
+    };
+    let y = curve.top_height();
     if keeps(s.segments, b - a, y) {
         fill_same(table, c.least, c.greatest);
         return false;
     }
-    fill_lines(counts, table, c, s, a, b, y);
+    fill_lines(curve, table, y);
     true
 }

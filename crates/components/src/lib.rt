@@ -153,6 +153,7 @@ fn flood_by<F: Spreads>(
 // Takes the component of the pixel `start` among those that have the code, by the number of neighbours. The number of
 // its pixels, and its least and greatest value. Its values are counted; the counts are 0 before. Each number has a loop
 // of its own, so that four neighbours do not pay for eight.
+#[tactic(auto, unfolding(planes::specs::Shapes::adjacency))]
 pub fn flood(
     plane: &[u8],
     marks: &mut [u8],

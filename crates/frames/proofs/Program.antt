@@ -12,9 +12,8 @@ use mathlib.Core.List.{List}
 use lib.ListN.{length, drop}
 use borrow.Author.Tests.{lt-ltb, le-ltb}
 use Rattle.planes.specs.Replies.{refuses}
-use Rattle.netpbm.specs.Reading.{read_reply, read_answer}
+use Rattle.netpbm.specs.Reading.{Answer, read_reply, read_answer}
 use Rattle.netpbm.specs.Frames.{IsFrame}
-use Rattle.netpbm.specs.declared.Header.{Header}
 use Rattle.netpbm.proofs.Frames.{accepted_iff}
 use Rattle.netpbm.proofs.Replies.{refused_answer}
 use Rattle.printing.specs.Printing.{greatest_frame, refusal_line, enhanced_frame}
@@ -27,7 +26,7 @@ module _ (input : List ℕ) where
   unfolding program_output
   long_output long = rw (lt-ltb greatest_input (length input) long)
 
-  pub read_output : {answer : Header} → length input ≤ greatest_input → read_answer input greatest_frame ≡ answer
+  pub read_output : {answer : Answer} → length input ≤ greatest_input → read_answer input greatest_frame ≡ answer
       → program_output input ≡ output_for input answer
   unfolding program_output
   read_output short read = rw (le-ltb greatest_input (length input) short) (ap (output_for input) read)
@@ -45,6 +44,6 @@ module _ (input : List ℕ) where
         → Emitted (program_output input) output r output'
     long_emitted long = subst (λ (l : List ℕ). Emitted l output r output') (sym (long_output long))
 
-    pub read_emitted : {answer : Header} → length input ≤ greatest_input → read_answer input greatest_frame ≡ answer
+    pub read_emitted : {answer : Answer} → length input ≤ greatest_input → read_answer input greatest_frame ≡ answer
         → Emitted (output_for input answer) output r output' → Emitted (program_output input) output r output'
     read_emitted short read = subst (λ (l : List ℕ). Emitted l output r output') (sym (read_output short read))

@@ -2,9 +2,7 @@
 --
 --   program_output   what the program writes for an input
 use Rattle.std.specs.Prelude.{ℕ, cond, List, ltb, length, drop}
-use Rattle.netpbm.specs.Reading.{read_answer}
-use Rattle.netpbm.specs.declared.Header.{Header}
-use Rattle.netpbm.specs.declared.Header.TheVariants.{Refused, Frame}
+use Rattle.netpbm.specs.Reading.{Answer, Refused, Frame, read_answer}
 use Rattle.printing.specs.Printing.{greatest_frame, refusal_line, enhanced_frame}
 
 -- the greatest number of bytes of an input
@@ -12,7 +10,7 @@ abbrev pub greatest_input : ℕ
 greatest_input = 65536
 
 -- what is written for what reading the input answers
-abbrev pub output_for : List ℕ → Header → List ℕ
+abbrev pub output_for : List ℕ → Answer → List ℕ
 output_for input (Refused number) = refusal_line number
 output_for input (Frame w h offset) = enhanced_frame (drop offset input) w h
 

@@ -10,8 +10,7 @@ ghost use Rattle.frames.specs.Program.{program_output};
 mod export;
 
 pub use export::mlhe_program;
-use netpbm::Header;
-use planes::refused;
+use planes::Refusal;
 pub use printing::{OUTPUT, PIXELS};
 
 // The greatest number of bytes of an input.
@@ -22,11 +21,10 @@ pub fn program_output(input: &[u8], output: &mut [u8; OUTPUT]) -> usize
     ensures { Emitted (program_output input.now) output.old result output.new }
 {
     if INPUT < input.len() {
-        return printing::put_refusal(refused::TRAILING, output);
+        return printing::put_refusal(Refusal::Trailing, output);
     }
-    let header = netpbm::read_within(input, PIXELS);
-    match header {
-        Header::Refused(number) => printing::put_refusal(number, output),
-        Header::Frame { w, h, offset } => printing::put_enhanced(input, w, h, offset, output),
+    match netpbm::read_within(input, PIXELS) {
+        Ok(header) => printing::put_enhanced(input, header, output),
+        Err(refusal) => printing::put_refusal(refusal, output),
     }
 }

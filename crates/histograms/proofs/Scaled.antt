@@ -1,5 +1,5 @@
--- A part x of a whole y of b - a, rounded and added to a: it grows with x, lies in [a, b], and is a for none and b for
--- the whole. Assumes nothing.
+-- A part x of a whole y of b - a, rounded and added to a: it grows with x, lies in [a, b], and is b for the whole.
+-- Assumes nothing.
 use Prim.Native.Nat.{ℕ, ◌+◌, ◌-◌, ◌*◌, ◌/◌, ◌≤◌}
 use mathlib.Core.Path.{◌≡◌, ap, ap₂, ◌∙◌}
 use native.Mathlib.Nat.{div-eq_of_lt-le, mul-div-mul_left, mul-le-mul_left, mul-add}
@@ -30,11 +30,6 @@ rounded_cancel c x m h =
     let den : 2 * (c * m) ≡ c * (2 * m) = omega arith in
     ap₂ ◌/◌ num den ∙ mul-div-mul_left (2 * x + m) (2 * m) h
 
--- none of b - a leads to a, and all of it to b
-pub scaled_none : (a b m : ℕ) → 1 ≤ m → a ≡ scaled a b 0 m
-scaled_none a b m some =
-    let none : (b - a) * 0 ≡ 0 * m = omega arith in
-    omega (arith, ap (λ x. rounded x m) none, rounded_whole 0 m some)
-
+-- all of b - a leads to b
 pub scaled_all : (a b m : ℕ) → a ≤ b → 1 ≤ m → scaled a b m m ≡ b
 scaled_all a b m ab some = omega (arith, rounded_whole (b - a) m some)

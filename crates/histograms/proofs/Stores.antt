@@ -1,5 +1,5 @@
--- What stores leave: entries filled one after another, and sums made in place. The invariant of each loop has a law for
--- where it begins and one for a turn. Assumes nothing.
+-- What stores leave: entries filled one after another, and sums made in place: a law for a turn of each loop. Assumes
+-- nothing.
 use Prim.Native.Nat.{ℕ, ◌+◌, ◌≤◌, ◌<◌}
 use mathlib.Core.Path.{◌≡◌, refl, sym, ap, ◌∙◌}
 use mathlib.Core.List.{List}
@@ -14,9 +14,6 @@ use Rattle.histograms.specs.Sums.{SummedInPlace}
 use Rattle.histograms.proofs.Sums.{sum_to_first, sum_to_next}
 
 -- ## Entries filled one after another
-
-pub refilled_none : {f : ℕ → ℕ} {a : ℕ} (l : List ℕ) → Refilled f a a l l
-refilled_none l = record { size = refl; new = λ v h g. absurd (omega arith); old = λ v h. refl }
 
 pub refilled_more : {f : ℕ → ℕ} {a e x : ℕ} {l l' : List ℕ} → Refilled f a e l l' → a ≤ e → e < length l → x ≡ f e
     → Refilled f a (e + 1) l (set l' e x)
@@ -52,14 +49,6 @@ pub refilled_outside : {f : ℕ → ℕ} {a b : ℕ} {l l' : List ℕ} → Refil
 refilled_outside h = record { size = h.size; rest = λ v out. h.old v (λ av ve. out av (omega arith)) }
 
 -- ## Sums made in place
-
--- the entry at a is its own sum
-pub summing_first : (a : ℕ) (l : List ℕ) → Refilled (sum_to (at l) a) a (a + 1) l l
-summing_first a l = record {
-  size = refl;
-  new = λ v av ve. let s : v ≡ a = omega arith in rw s (sym (sum_to_first (at l) a));
-  old = λ v h. refl;
-}
 
 -- what is stored after v, by the sum up to v
 pub summing_next : {a v : ℕ} {l l' : List ℕ} → Refilled (sum_to (at l) a) a (v + 1) l l' → a ≤ v

@@ -1,4 +1,4 @@
--- Entries at the values of listed pixels: a law for where the loop begins, and one for a turn. Assumes nothing.
+-- Entries at the values of listed pixels: a law for a turn of the loop. Assumes nothing.
 use Prim.Native.Nat.{ℕ, ◌+◌, ◌<◌}
 use mathlib.Core.Path.{◌≡◌, sym, ap, ◌∙◌}
 use mathlib.Core.Logic.{⊎_elim}
@@ -10,9 +10,6 @@ use Rattle.planes.proofs.Stores.{at_set}
 use Rattle.planes.proofs.Tests.{eq_or_not}
 use Rattle.histograms.specs.Histograms.{Component, Refilled}
 use Rattle.limited.specs.Limited.{Filled}
-
-pub filled_none : {f : ℕ → ℕ} (plane queue table : List ℕ) → Filled f plane queue table 0
-filled_none plane queue table = record { entry = λ i h. absurd (omega arith) }
 
 pub filled_more : {f : ℕ → ℕ} {plane queue table : List ℕ} (i v x : ℕ) → Filled f plane queue table i
     → v ≡ at plane (at queue i) → v < length table → x ≡ f v → Filled f plane queue (set table v x) (i + 1)

@@ -1,9 +1,9 @@
 // The limited rule, which clips the counts at k thousandths of the pixels. Only `limited_tones` is public.
 //
-// limited_tones                             a component's table of tones
-// clip, sum_clipped                         clipped counts and their sums, in place
-// limited_tone                              one tone
-// fill_limited, fill_listed                 entries of the table
+// limited_tones           a component's table of tones
+// clip, sum_clipped       clipped counts and their sums, in place
+// Clipped                 those sums, and the tones by them: tone, of one value; fill_all, fill_listed and fill, of the
+//                         entries of the table
 //
 // Counts and table are lent, with any content in the table, and only their entries of [least, greatest], from the
 // component's least value to its greatest, are read or written. The table divides once for each value of
@@ -31,49 +31,65 @@ fn clip(counts: &mut [u32; 256], first: u8, last: u8, most: u64)
     }
 }
 
-// The limited rule's tone of v, by the sums of the clipped counts. Each value of [a, b] has its share of what the
-// clipping left over.
-fn limited_tone(sums: &[u32; 256], c: Measures, a: u8, b: u8, v: usize) -> u8
-    requires { Sums sums.now (1000 * c.size) c a b × ((c.least ≤ v) × (v ≤ c.greatest)) }
-    ensures { result ≡ limited_by sums.now c a b v }
-{
-    let w = u64::from(b - a) + 1;
-    let n = (v - usize::from(a)) as u64 + 1;
-    let all = 1000 * c.size as u64;
-    let e = all - u64::from(sums[usize::from(c.greatest)]);
-    scale(a, b, w * u64::from(sums[v]) + n * e, w * all)
-}
-
-// The tones of the values of [least, greatest] by the sums of the clipped counts.
-fn fill_limited(sums: &[u32; 256], table: &mut [u8; 256], c: Measures, a: u8, b: u8)
-    requires { Sums sums.now (1000 * c.size) c a b }
-    ensures { Refilled (limited_by sums.now c a b) c.least (c.greatest + 1)
-        table.old table.new }
-{
-    let first = usize::from(c.least);
-    let end = usize::from(c.greatest) + 1;
-    refill(table, first, end, |v| limited_tone(sums, c, a, b, v));
-}
-
-// The tones of the values of the component's pixels by the sums of the clipped counts.
-fn fill_listed(
-    plane: &[u8],
-    queue: &[u32],
-    sums: &[u32; 256],
-    table: &mut [u8; 256],
+// The sums of the clipped counts of a component in the section [a, b], by which the limited rule's tones go.
+#[derive(Clone, Copy)]
+struct Clipped<'a> {
+    sums: &'a [u32; 256],
     c: Measures,
     a: u8,
     b: u8,
-)
-    requires { Component plane.now queue.now c.size c.least c.greatest
-        × Sums sums.now (1000 * c.size) c a b }
-    ensures { Filled (limited_by sums.now c a b)
-        plane.now queue.now table.new c.size
-        × Outside c.least c.greatest table.old table.new }
-{
-    for p in &queue[..c.size] {
-        let v = usize::from(plane[*p as usize]);
-        table[v] = limited_tone(sums, c, a, b, v);
+    ghost rising: { Sums sums.now (1000 * c.size) c a b },
+}
+
+impl Clipped<'_> {
+    // The limited rule's tone of v. Each value of [a, b] has its share of what the clipping left over.
+    fn tone(&self, v: usize) -> u8
+        requires { (self.now.c.least ≤ v) × (v ≤ self.now.c.greatest) }
+        ensures { result ≡ limited_by self.now.sums.now self.now.c self.now.a self.now.b v }
+    {
+        let w = u64::from(self.b - self.a) + 1;
+        let n = (v - usize::from(self.a)) as u64 + 1;
+        let all = 1000 * self.c.size as u64;
+        let e = all - u64::from(self.sums[usize::from(self.c.greatest)]);
+        scale(self.a, self.b, w * u64::from(self.sums[v]) + n * e, w * all)
+    }
+
+    // The tones of the values of [least, greatest].
+    fn fill_all(&self, table: &mut [u8; 256])
+        ensures { Refilled (limited_by self.now.sums.now self.now.c self.now.a self.now.b)
+            self.now.c.least (self.now.c.greatest + 1) table.old table.new }
+    {
+        let first = usize::from(self.c.least);
+        let end = usize::from(self.c.greatest) + 1;
+        refill(table, first, end, |v| self.tone(v));
+    }
+
+    // The tones of the values of the component's pixels.
+    fn fill_listed(&self, plane: &[u8], queue: &[u32], table: &mut [u8; 256])
+        requires { Component plane.now queue.now self.now.c.size self.now.c.least self.now.c.greatest }
+        ensures { Filled (limited_by self.now.sums.now self.now.c self.now.a self.now.b)
+            plane.now queue.now table.new self.now.c.size
+            × Outside self.now.c.least self.now.c.greatest table.old table.new }
+    {
+        for p in &queue[..self.c.size] {
+            let v = usize::from(plane[*p as usize]);
+            table[v] = self.tone(v);
+        }
+    }
+
+    // The tones by whichever are fewer, the values of [least, greatest] or the pixels.
+    #[tactic(auto, using(crate::proofs::Stores::filled_all, histograms::proofs::Stores::refilled_outside))]
+    fn fill(&self, plane: &[u8], queue: &[u32], table: &mut [u8; 256])
+        requires { Component plane.now queue.now self.now.c.size self.now.c.least self.now.c.greatest }
+        ensures { Filled (limited_by self.now.sums.now self.now.c self.now.a self.now.b)
+            plane.now queue.now table.new self.now.c.size
+            × Outside self.now.c.least self.now.c.greatest table.old table.new }
+    {
+        if self.c.size <= usize::from(self.c.greatest - self.c.least) {
+            self.fill_listed(plane, queue, table);
+        } else {
+            self.fill_all(table);
+        }
     }
 }
 
@@ -103,10 +119,12 @@ pub fn limited_tones(
         c.size result counts.new table.new }
 {
     sum_clipped(counts, c, k);
-    if c.size <= usize::from(c.greatest - c.least) {
-        fill_listed(plane, queue, counts, table, c, a, b);
-    } else {
-        fill_limited(counts, table, c, a, b);
-    }
+    let clipped = Clipped {
+        sums: counts,
+        c,
+        a,
+        b,
+    };
+    clipped.fill(plane, queue, table);
     true
 }

@@ -1,6 +1,6 @@
 -- A single step of painting: a pixel gets its new value and its next mark. Assumes nothing.
 use Prim.Native.Nat.{ℕ, ◌+◌, ◌≤◌, ◌<◌}
-use mathlib.Core.Path.{◌≡◌, refl, sym, ap, subst, ◌∙◌}
+use mathlib.Core.Path.{◌≡◌, sym, ap, subst, ◌∙◌}
 use mathlib.Core.Logic.{inl, inr}
 use mathlib.Core.Bool.{Bool, true, false, true≢false}
 use mathlib.Core.List.{List}
@@ -12,23 +12,13 @@ use borrow.Author.Tests.{leb-false, ltb-false}
 use Rattle.planes.specs.Lists.{at}
 use Rattle.planes.proofs.Tests.{or_none}
 use Rattle.planes.proofs.Stores.{at_set}
-use Rattle.painting.specs.Painting.{number, no_sides, joined, On, Clear, Painted}
+use Rattle.painting.specs.Painting.{number, joined, On, Clear, Painted}
 use Rattle.painting.specs.declared.Next.{Next}
 use Rattle.painting.specs.declared.Sides.{Sides}
 
-pub painted_none : (f : ℕ → ℕ) (t : Next) (plane marks queue : List ℕ)
-    → Painted f t plane marks queue plane marks 0 no_sides
-painted_none f t plane marks queue = record {
-  size = refl;
-  marks_size = refl;
-  drawn = λ i h. absurd (omega arith);
-  numbered = λ i h. absurd (omega arith);
-  stays = λ p f. (refl, refl);
-  none = λ side e i h. absurd (omega arith);
-}
-
 -- the flags of one value
-sides_of : (t : Next) (v : ℕ) (side : Bool) → Clear side (record { low = leb v t.mid; high = ltb t.mid v }) → On t side v → ⊥
+sides_of : (t : Next) (v : ℕ) (side : Bool) → Clear side (record { low = leb v t.mid; high = ltb t.mid v })
+    → On t side v → ⊥
 sides_of t v true e o = true≢false (sym o ∙ e)
 sides_of t v false e o = let h = leb-false v t.mid o in let k = ltb-false t.mid v e in omega (arith, h, k)
 
@@ -37,6 +27,7 @@ pub clear_both : (side : Bool) (r r' : Sides) → Clear side (joined r r') → C
 clear_both true r r' e = or_none r.low r'.low e
 clear_both false r r' e = or_none r.high r'.high e
 
+-- the pixel of entry i is painted too
 pub painted_more : {f : ℕ → ℕ} {t : Next} {plane marks queue plane' marks' : List ℕ} {i v x : ℕ} {r : Sides}
     → Painted f t plane marks queue plane' marks' i r → at queue i < length plane → at queue i < length marks
     → ((j : ℕ) → j < i → at queue j ≡ at queue i → ⊥) → v ≡ f (at plane' (at queue i)) → x ≡ number t v

@@ -148,13 +148,6 @@ module _ (s : Slopes) {sums : List ℕ} {c : Measures} {a b : ℕ} (k : Cumulati
       unfolding next_point
       next_is found = ap (point_at s a b (i + 1) p) (place_found found)
 
-  -- no sum is above the number of pixels, which is not too large
-  pub sums_few : (v : ℕ) → v ≤ c.greatest → at sums v ≤ 1048576
-  sums_few v vg = ⊎_elim
-      (λ (l : v < c.greatest). omega (arith, k.part v l, k.range.few))
-      (λ l. let e : v ≡ c.greatest = le_antisymm vg l in omega (arith, ap (at sums) e, k.whole, k.range.few))
-      (less_or_not v c.greatest)
-
   -- the last point is at the greatest value: before it there are too few pixels
   pub reached_end : {p : Point} → 1 ≤ n → Reached s sums c a n p → p.place ≡ c.greatest
   reached_end {p} some r = ⊎_elim

@@ -1,10 +1,9 @@
 // The points of the piecewise affine rule: places and heights, by the sums of a component's counts.
 //
-// Slopes                          the rule's own numbers
-// Point                           a place and a height
-// next_point                      the point after one
-// top_height                      the height of the last point
-// find, grown                     within: a point's place and height
+// Slopes         the rule's own numbers
+// Point          a place and a height
+// Curve          the sums of a component's counts, and its points: start, next_point, top_height
+// find, grown    within: a point's place and height
 //
 // The points are gone over without being stored. Heights are below 2^32 for any numbers of the rule, since slopes have
 // 16 bits, segments 8 and distances 8; so all products fit 64 bits.
@@ -31,6 +30,17 @@ pub struct Point {
     pub height: u64,
 }
 
+// The sums of a component's counts in the section [a, b], with the rule's numbers: what the points go by.
+#[derive(Clone, Copy)]
+pub struct Curve<'a> {
+    pub sums: &'a [u32; 256],
+    pub c: Measures,
+    pub s: Slopes,
+    pub a: u8,
+    pub b: u8,
+    ghost cumulative: { Cumulative sums.now c a b },
+}
+
 // The least value from x on whose sum, times n, is at least `need`; y if none before it is.
 fn find(sums: &[u32; 256], n: u64, need: u64, x: usize, y: usize) -> usize
     requires { ((v : ℕ) → v ≤ y → at sums.now v ≤ 1048576)
@@ -45,7 +55,8 @@ fn find(sums: &[u32; 256], n: u64, need: u64, x: usize, y: usize) -> usize
     y
 }
 
-// The growth of the height over the distance d: what is wanted, held between low and high; where low is above high, high.
+// The growth of the height over the distance d: what is wanted, held between low and high; where low is above high,
+// high.
 fn grown(s: Slopes, d: u64, more: u64) -> u64
     requires { d < 256 }
     ensures { result ≡ growth s d more }
@@ -56,48 +67,44 @@ fn grown(s: Slopes, d: u64, more: u64) -> u64
     more.max(low).min(high)
 }
 
-// The point after p, which is point i.
-pub fn next_point(
-    sums: &[u32; 256],
-    c: Measures,
-    s: Slopes,
-    a: u8,
-    b: u8,
-    i: u64,
-    p: Point,
-) -> Point
-    requires { Cumulative sums.now c a b
-        × ((i < s.segments) × Reached s sums.now c a i p) }
-    ensures { result ≡ next_point s a b (at sums.now) c.size (i + 1) p }
-{
-    let j = i + 1;
-    let from = p.place.max(usize::from(c.least));
-    let need = j * c.size as u64;
-    let place = find(
-        sums,
-        u64::from(s.segments),
-        need,
-        from,
-        usize::from(c.greatest),
-    );
-    let d = (place - p.place) as u64;
-    let goal = 100 * u64::from(b - a) * j;
-    let height = p.height + grown(s, d, goal.saturating_sub(p.height));
-    Point { place, height }
-}
-
-// The height of the last point.
-pub fn top_height(sums: &[u32; 256], c: Measures, s: Slopes, a: u8, b: u8) -> u64
-    requires { Cumulative sums.now c a b }
-    ensures { (result ≡ (top_of (start a) (points s a b (at sums.now) c.size)).height)
-        × (result < 2 ^ 32) }
-{
-    let mut p = Point {
-        place: usize::from(a),
-        height: 0,
-    };
-    for i in 0..u64::from(s.segments) {
-        p = next_point(sums, c, s, a, b, i, p);
+impl Curve<'_> {
+    // Point 0.
+    pub fn start(self) -> Point
+        ensures { result ≡ start self.entry.a }
+    {
+        Point {
+            place: usize::from(self.a),
+            height: 0,
+        }
     }
-    p.height
+
+    // The point after p, which is point i.
+    pub fn next_point(self, i: u64, p: Point) -> Point
+        requires { (i < self.s.segments) × Reached self.s self.sums.now self.c self.a i p }
+        ensures { result ≡
+            next_point self.entry.s self.entry.a self.entry.b (at self.entry.sums.now) self.entry.c.size (i + 1) p }
+    {
+        let j = i + 1;
+        let n = u64::from(self.s.segments);
+        let from = p.place.max(usize::from(self.c.least));
+        let need = j * self.c.size as u64;
+        let place = find(self.sums, n, need, from, usize::from(self.c.greatest));
+        let d = (place - p.place) as u64;
+        let goal = 100 * u64::from(self.b - self.a) * j;
+        let height = p.height + grown(self.s, d, goal.saturating_sub(p.height));
+        Point { place, height }
+    }
+
+    // The height of the last point.
+    pub fn top_height(self) -> u64
+        ensures { (result ≡ (top_of (start self.entry.a)
+            (points self.entry.s self.entry.a self.entry.b (at self.entry.sums.now) self.entry.c.size)).height)
+            × (result < 2 ^ 32) }
+    {
+        let mut p = self.start();
+        for i in 0..u64::from(self.s.segments) {
+            p = self.next_point(i, p);
+        }
+        p.height
+    }
 }

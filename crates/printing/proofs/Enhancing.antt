@@ -1,7 +1,7 @@
 -- A frame of at most 16,384 pixels is enhanced with the house setting and written: none of the refusals applies to the
 -- two calls, and what is written is the enhanced frame. Assumes nothing.
 use Prim.Native.Nat.{ℕ, ◌+◌, ◌-◌, ◌*◌, ◌≤◌}
-use mathlib.Core.Path.{◌≡◌, refl, sym, ap, subst, ◌∙◌}
+use mathlib.Core.Path.{◌≡◌, refl, ap, subst, ◌∙◌}
 use mathlib.Core.List.{List, [], ◌∷◌}
 use native.Mathlib.Omega.{arith}
 use lib.ListN.{length, take, drop, length-drop}
@@ -24,8 +24,8 @@ use Rattle.texts.proofs.Heading.{heading_short}
 use Rattle.netpbm.specs.Frames.{IsFrame}
 use Rattle.texts.specs.Writing.{written_reply}
 use Rattle.netpbm.specs.Writing.{encoding, write_refusal, WriteOutcome}
-use Rattle.texts.specs.declared.Written.{Written}
-use Rattle.texts.specs.declared.Written.TheVariants.{Refused, Length}
+use Rattle.std.specs.Prelude.{Result, Ok, Err, IsOk}
+use Rattle.planes.specs.declared.refusal.Refusal.{Refusal}
 use Rattle.netpbm.proofs.Writing.{writable_none}
 use Rattle.printing.specs.Printing.{greatest_frame, enhanced_frame, Emitted}
 use Rattle.printing.proofs.Emitting.{emitted_wrote}
@@ -107,22 +107,24 @@ module _ {input : List ℕ} {w h offset : ℕ} (f : IsFrame input greatest_frame
       ∙ ap (λ (l : List ℕ). recolour l (chain_of (shape_of w h) house l).plane) frame_is
 
   -- which is what is written
-  pub emitted_enhanced : (new : List ℕ) {output output' : List ℕ} {answer : Written} {size : ℕ}
-      → WriteOutcome new w h output (written_reply answer) output' → answer ≡ Length size
+  pub emitted_enhanced : (new : List ℕ) {output output' : List ℕ} {answer : Result ℕ Refusal} {size : ℕ}
+      → WriteOutcome new w h output (written_reply answer) output' → answer ≡ Ok size
       → new ≡ recolour raster (chain_of (shape_of w h) house raster).plane
       → Emitted (enhanced_frame raster w h) output size output'
   unfolding enhanced_frame
   emitted_enhanced new {output} {output'} {size = size} wrote answer-is New-is =
-      let written = subst (λ (r : Written). WriteOutcome new w h output (written_reply r) output') answer-is wrote in
+      let left = λ (r : Result ℕ Refusal). WriteOutcome new w h output (written_reply r) output' in
+      let written = subst left answer-is wrote in
       subst (λ (l : List ℕ). Emitted (encoding l w h) output size output') New-is (emitted_wrote new w h written)
 
   -- and is not refused
-  pub never_refused : (new : List ℕ) {output output' : List ℕ} {answer : Written} {number : ℕ}
-      → WriteOutcome new w h output (written_reply answer) output' → answer ≡ Refused number → length new ≡ 3 * (w * h)
-      → 65536 ≤ length output → ⊥
-  never_refused new {output} wrote answer-is counted room =
+  pub always_written : (new : List ℕ) {output output' : List ℕ} (answer : Result ℕ Refusal)
+      → WriteOutcome new w h output (written_reply answer) output' → length new ≡ 3 * (w * h)
+      → 65536 ≤ length output → IsOk answer
+  always_written new (Ok size) wrote counted room = refl
+  always_written new {output} (Err r) wrote counted room =
       let few = f.sized.few in
       let fits : 3 * (w * h) + 21 ≤ length output = omega arith in
       let accepted = write-accepts f.sized counted fits in
       let gives-length = replied_none _ (length (encoding new w h) ∷ []) accepted in
-      refuses_not_gives (sym (ap written_reply answer-is) ∙ wrote.answer ∙ gives-length)
+      absurd (refuses_not_gives (wrote.answer ∙ gives-length))

@@ -15,8 +15,8 @@ sum_up-requires c =
     let range = c.requires.range in
     (range.order, omega (arith, drawn_whole c.requires, range.few))
 
-pub top_height-y-requires : goal.top_height-y-requires
-top_height-y-requires c = cumulative c.requires.histogram c.requires.range c.sum_up.ensures
+pub invariant_of-curve : goal.invariant_of-curve
+invariant_of-curve c = record { cumulative = cumulative c.requires.histogram c.requires.range c.sum_up.ensures }
 
 tested : (c : After-keeps) (vs : List ℕ) →
     let a = c.args in
@@ -36,7 +36,7 @@ fill_lines-requires c =
     let a = c.args in
     let y = c.top_height-y.ensures in
     let some = not_kept a.s.segments (a.b - a.a) c.top_height-y.result (sym c.keeps.ensures ∙ c.if-keeps.false) in
-    (cumulative c.requires.histogram c.requires.range c.sum_up.ensures, ((some.0, (omega (arith, some.1), omega (arith, y.1))), y.0))
+    ((some.0, (omega (arith, some.1), omega (arith, y.1))), y.0)
 
 pub returns : goal.returns
 returns c =

@@ -15,29 +15,29 @@ use Rattle.affine.proofs.fill_lines.Goals as goal
 use Rattle.affine.proofs.fill_lines.Goals.{After-next_point-q}
 
 next : (c : After-next_point-q) →
-    let a = c.args in
+    let a = c.args.curve in
     Next a.s a.sums.now a.c a.a a.b c.loop-i.i c.loop-i.p c.next_point-q.result
 next c =
-    next_of c.requires.0 (omega arith) c.loop-i.invariant.reached c.loop-i.invariant.ahead c.next_point-q.ensures
+    next_of c.args.curve.cumulative (omega arith) c.loop-i.invariant.reached c.loop-i.invariant.ahead c.next_point-q.ensures
 
 pub fill_line-requires : goal.fill_line-requires
 fill_line-requires c =
     let pre = c.requires in
-    let range = pre.0.range in
+    let range = c.args.curve.cumulative.range in
     let q = next (goal.at.fill_line-requires c).After-next_point-q in (
       ((omega (arith, range.from, range.order, range.to), omega arith), omega (arith, q.reached.to)),
-      ((q.higher, omega (arith, q.top, pre.1.1)), pre.1.0.1),
+      ((q.higher, omega (arith, q.top, pre.1)), pre.0.1),
     )
 
 pub loop-i-preserved : goal.loop-i-preserved
 loop-i-preserved c =
-    let a = c.args in
+    let a = c.args.curve in
     let i = c.loop-i.i in
     let inv = c.loop-i.invariant in
     let q = next (goal.at.loop-i-preserved c).After-next_point-q in
-    let onward = onward_next a.s a.a a.b a.y (at a.sums.now) a.c.size i c.loop-i.p _ c.next_point-q.ensures inv.onward q.after in
-    let line = onward_line a.s a.a a.b a.y (at a.sums.now) a.c.size i c.loop-i.p _ c.next_point-q.ensures inv.onward (omega arith) in
-    let filled = rw (c.max.ensures, c.from-in-loop-i.ensures) at c.fill_line.ensures in
+    let onward = onward_next a.s a.a a.b c.args.y (at a.sums.now) a.c.size i c.loop-i.p _ c.next_point-q.ensures inv.onward q.after in
+    let line = onward_line a.s a.a a.b c.args.y (at a.sums.now) a.c.size i c.loop-i.p _ c.next_point-q.ensures inv.onward (omega arith) in
+    let filled = rw (c.max.ensures, c.from-least.ensures) at c.fill_line.ensures in
     record {
       reached = q.reached;
       ahead = q.ahead;
@@ -47,19 +47,19 @@ loop-i-preserved c =
 
 pub returns : goal.returns
 returns c =
-    let a = c.args in
+    let a = c.args.curve in
     let pre = c.requires in
     let inv = c.loop-i.invariant in
-    let range = pre.0.range in
+    let range = c.args.curve.cumulative.range in
     let p = c.loop-i.p in
     let sums : ℕ → ℕ = at a.sums.now in
     let all : c.loop-i.i ≡ a.s.segments = omega arith in
-    let end = reached_end a.s pre.0 pre.1.0.0 (rw all at inv.reached) in
-    let last : p.height ≡ a.y =
-    ap (λ (q : Point). q.height) (end_top a.s a.a a.b sums a.c.size p (rw all at inv.ahead)) ∙ sym pre.1.1 in
-    let tone : a.b ≡ joined a.a a.b a.y (start a.a) _ a.c.greatest =
-    sym (scaled_all a.a a.b a.y (omega (arith, range.from, range.order, range.to)) pre.1.0.1.0)
-    ∙ sym (ap (λ (h : ℕ). scaled a.a a.b h a.y) last)
-    ∙ end_tone a.s a.a a.b a.y sums a.c.size p (rw all at inv.onward) a.c.greatest (omega arith) in
+    let end = reached_end a.s a.cumulative pre.0.0 (rw all at inv.reached) in
+    let last : p.height ≡ c.args.y =
+    ap (λ (q : Point). q.height) (end_top a.s a.a a.b sums a.c.size p (rw all at inv.ahead)) ∙ sym pre.1 in
+    let tone : a.b ≡ joined a.a a.b c.args.y (start a.a) _ a.c.greatest =
+    sym (scaled_all a.a a.b c.args.y (omega (arith, range.from, range.order, range.to)) pre.0.1.0)
+    ∙ sym (ap (λ (h : ℕ). scaled a.a a.b h c.args.y) last)
+    ∙ end_tone a.s a.a a.b c.args.y sums a.c.size p (rw all at inv.onward) a.c.greatest (omega arith) in
     let up_to : max a.c.least p.place ≡ a.c.greatest = omega (arith, end, range.order) in
-    rw c.from-2.ensures (refilled_more (rw up_to at inv.filled) range.order (omega arith) tone)
+    rw c.from.ensures (refilled_more (rw up_to at inv.filled) range.order (omega arith) tone)

@@ -10,10 +10,12 @@ use Rattle.affine.proofs.Lines.{Onward}
 use Rattle.affine.proofs.fill_lines.Given as goal
 
 abbrev pub invariant-loop-i : goal.invariant-loop-i
-invariant-loop-i l = record {
-  reached : Reached l.s l.sums l.c l.a l.i l.p;
-  ahead : Ahead l.s l.a l.b (at l.sums) l.c.size l.i l.p;
-  onward : Onward l.s l.a l.b l.y (at l.sums) l.c.size l.i l.p;
-  filled : Refilled (joined l.a l.b l.y (start l.a) (points l.s l.a l.b (at l.sums) l.c.size)) l.c.least
-      (max l.c.least l.p.place) l.initial.table l.table;
-}
+invariant-loop-i l =
+    let k = l.curve in
+    record {
+      reached : Reached k.s k.sums.now k.c k.a l.i l.p;
+      ahead : Ahead k.s k.a k.b (at k.sums.now) k.c.size l.i l.p;
+      onward : Onward k.s k.a k.b l.y (at k.sums.now) k.c.size l.i l.p;
+      filled : Refilled (joined k.a k.b l.y (start k.a) (points k.s k.a k.b (at k.sums.now) k.c.size)) k.c.least
+          (max k.c.least l.p.place) l.initial.table l.table;
+    }

@@ -1,25 +1,15 @@
 -- `printing::put_refusal` meets its contract: the word, the number's digits and LF are put one after the other, from
 -- the beginning of the output on, and there is room for them. Assumes nothing.
 use native.Mathlib.Omega.{arith}
-use Rattle.texts.proofs.Decimal.{decimal_spelled}
+use Rattle.texts.proofs.Decimal.{decimal_few}
 use Rattle.texts.proofs.Placing.{put_more}
 use Rattle.printing.specs.Printing.{refusal_line}
 use Rattle.printing.proofs.Emitting.{emitted_put}
 use Rattle.printing.proofs.put_refusal.Goals as goal
 
-pub put_number-after_number-requires : goal.put_number-after_number-requires
-put_number-after_number-requires c =
-    let digits = (decimal_spelled c.args.number (omega arith)).few in
-    (omega arith, omega (arith, c.put_bytes-after_word.ensures.next))
-
-pub put_bytes-requires : goal.put_bytes-requires
-put_bytes-requires c =
-    let digits = (decimal_spelled c.args.number (omega arith)).few in
-    omega (arith, c.put_bytes-after_word.ensures.next, c.put_number-after_number.ensures.next)
-
 pub returns : goal.returns
 unfolding refusal_line
 returns c =
-    let digits = (decimal_spelled c.args.number (omega arith)).few in
+    let digits = decimal_few c.from.result (omega arith) in
     let numbered = put_more c.put_bytes-after_word.ensures c.put_number-after_number.ensures (omega arith) in
-    emitted_put (put_more numbered c.put_bytes.ensures (omega arith))
+    rw (← c.number.ensures, ← c.from.ensures) (emitted_put (put_more numbered c.put_bytes.ensures (omega arith)))

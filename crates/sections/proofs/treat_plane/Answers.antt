@@ -52,9 +52,6 @@ told c =
       c.requires.0.lent.whole,
     )) c.take_plane-c.ensures.1
 
-pub take_plane-c-requires : goal.take_plane-c-requires
-take_plane-c-requires c = c.requires.0.lent
-
 pub returns-then-is_inert : goal.returns-then-is_inert
 returns-then-is_inert c =
     let d = treatable c.requires.0 in

@@ -1,14 +1,14 @@
--- `limited::fill_listed` meets its contract. Assumes nothing.
+-- `limited::Clipped::fill_listed` meets its contract. Assumes nothing.
 use Rattle.std.proofs.Common.{arith}
 use Rattle.std.proofs.lemmas.Grind.{common_steps}
 use Rattle.histograms.proofs.Stores.{outside_more}
 use Rattle.limited.proofs.Stores.{filled_more}
-use Rattle.limited.proofs.fill_listed.Goals as goal
+use Rattle.limited.proofs.Clipped.fill_listed.Goals as goal
 
 pub loop-p-preserved : goal.loop-p-preserved
 loop-p-preserved c =
-    let within = c.requires.0.within c.loop-p.p-index (grind (arith, common_steps)) in
+    let within = c.requires.within c.loop-p.p-index (grind (arith, common_steps)) in
     record {
       outside = outside_more _ c.loop-p.invariant.outside (grind (arith, common_steps, within)) (grind (arith, common_steps, within));
-      filled = filled_more _ _ _ c.loop-p.invariant.filled (grind (arith, common_steps)) (omega arith) c.limited_tone.ensures;
+      filled = filled_more _ _ _ c.loop-p.invariant.filled (grind (arith, common_steps)) (omega arith) c.tone.ensures;
     }
