@@ -77,8 +77,10 @@ pub fn sum_up(counts: &mut [u32; 256], a: u8, b: u8)
     requires { (a ≤ b) × (sum_to (at counts.old) a b < 2 ^ 32) }
     ensures { SummedInPlace a b counts.old counts.new }
 {
-    for v in usize::from(a)..usize::from(b) {
-        counts[v + 1] += counts[v];
+    let mut sum = 0;
+    for n in &mut counts[usize::from(a)..=usize::from(b)] {
+        sum += *n;
+        *n = sum;
     }
 }
 
@@ -99,7 +101,12 @@ pub fn fill_same(table: &mut [u8], first: u8, last: u8)
     requires { (first ≤ last) × (last < length table.old) }
     ensures { Refilled (λ v. v) first (last + 1) table.old table.new }
 {
-    refill(table, usize::from(first), usize::from(last) + 1, |v| v as u8);
+    refill(
+        table,
+        usize::from(first),
+        usize::from(last) + 1,
+        |v| v as u8,
+    );
 }
 
 // x / y to nearest, halves upward.

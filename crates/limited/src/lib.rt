@@ -26,8 +26,8 @@ fn clip(counts: &mut [u32; 256], first: u8, last: u8, most: u64)
     ensures { Refilled (clipped_at most counts.old) first (last + 1)
         counts.old counts.new }
 {
-    for v in usize::from(first)..=usize::from(last) {
-        counts[v] = most.min(1000 * u64::from(counts[v])) as u32;
+    for n in &mut counts[usize::from(first)..=usize::from(last)] {
+        *n = most.min(1000 * u64::from(*n)) as u32;
     }
 }
 
