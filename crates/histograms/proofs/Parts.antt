@@ -1,12 +1,10 @@
 -- A part of a list in the list, after a loop over the part: its entries, and those below and above it. Assumes nothing.
 use Rattle.std.proofs.Common.{ℕ, ◌≡◌, ◌+◌, ◌-◌, ◌≤◌, ◌<◌, List, length, rules, arith, ◌∙◌, ⊎_elim}
 use Rattle.std.proofs.lemmas.List.{places}
-use borrow.Rule.Slice.PartMut.{put_mid, mid_of}
+use borrow.Rule.Slice.PartMut.{put_mid}
 use Rattle.planes.specs.Lists.{at}
 use Rattle.planes.proofs.Tests.{less_or_not}
-use Rattle.histograms.specs.Values.{sum}
 use Rattle.histograms.specs.Histograms.{Refilled}
-use Rattle.histograms.proofs.Sums.{sum_part}
 
 pub size_of_part : (a k : ℕ) (l part : List ℕ) → a + k ≤ length l → length part ≡ k → length (put_mid a k l part) ≡ length l
 size_of_part a k l part h s = search (rules, places)
@@ -36,11 +34,3 @@ refilled_part {f} a k l part room s h = record {
   where
     less_or : {v : ℕ} → a ≤ v → (v < a + k → ⊥) → a + k ≤ v
     less_or {v} b o = ⊎_elim (λ (g : v < a + k). absurd (o g)) (λ g. g) (less_or_not v (a + k))
-
--- sums of the part's entries
-pub at_part : (a k j : ℕ) (l : List ℕ) → a + k ≤ length l → j < k → at (mid_of a k l) j ≡ at l (a + j)
-at_part a k j l room jk = search (rules, places)
-
-pub part_sum : (a k n : ℕ) (l : List ℕ) → a + k ≤ length l → n ≤ k → sum (at (mid_of a k l)) 0 n ≡ sum (at l) a n
-part_sum a k n l room nk =
-    sum_part (at l) (at (mid_of a k l)) a n (λ j jn. at_part a k j l room (omega arith))

@@ -11,6 +11,7 @@ use Rattle.planes.proofs.Stores.{at_set}
 use Rattle.histograms.specs.Values.{sum_to}
 use Rattle.histograms.specs.Histograms.{Outside, Refilled}
 use Rattle.histograms.specs.Sums.{SummedInPlace}
+use Rattle.histograms.proofs.Sums.{sum_to_next}
 
 -- ## Entries filled one after another
 
@@ -48,6 +49,16 @@ pub refilled_outside : {f : ℕ → ℕ} {a b : ℕ} {l l' : List ℕ} → Refil
 refilled_outside h = record { size = h.size; rest = λ v out. h.old v (λ av ve. out av (omega arith)) }
 
 -- ## Sums made in place
+
+-- what is stored after v, by the sum up to v
+pub summing_next : {a v : ℕ} {l l' : List ℕ} → Refilled (sum_to (at l) a) a (v + 1) l l' → a ≤ v
+    → at l' (v + 1) + at l' v ≡ sum_to (at l) a (v + 1)
+summing_next {a} {v} {l} {l'} h av = omega (
+  arith,
+  h.old (v + 1) (λ _ g. omega arith),
+  h.new v av (omega arith),
+  sum_to_next (at l) {a = a} {v = v} av,
+)
 
 -- all entries of [a, b] are sums
 pub summed_of : {a b : ℕ} {l l' : List ℕ} → Refilled (sum_to (at l) a) a (b + 1) l l' → SummedInPlace a b l l'

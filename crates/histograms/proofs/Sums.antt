@@ -69,13 +69,6 @@ term_le f {a} {v} {b} av vb =
     let last : a + (v - a) ≡ v = omega arith in
     omega (arith, ap f last, sum_mono f a {n = suc (v - a)} {p = b - a + 1} (omega arith))
 
--- the terms of a part of a list
-pub sum_part : (f g : ℕ → ℕ) (a n : ℕ) → ((j : ℕ) → j < n → g j ≡ f (a + j)) → sum g 0 n ≡ sum f a n
-sum_part f g a zero h = refl
-sum_part f g a (suc n) h =
-    let first : 0 + n ≡ n = omega arith in
-    ap₂ ◌+◌ (sum_part f g a n (λ j l. h j (omega arith))) (ap g first ∙ h n (omega arith))
-
 -- terms that are 0 may go: those below x, and those above y
 pub sum_to_low : (f : ℕ → ℕ) {a x v : ℕ} → a ≤ x → x ≤ v → ((u : ℕ) → u < x → f u ≡ 0) → sum_to f a v ≡ sum_to f x v
 sum_to_low f {a} {x} {v} ax xv none =

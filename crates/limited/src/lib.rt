@@ -102,7 +102,7 @@ fn sum_clipped(counts: &mut [u32; 256], c: Measures, k: u16)
     sum_up(counts, c.least, c.greatest);
 }
 
-// The table of the limited rule; whether the component is retoned, which it always is.
+// The table of the limited rule; whether the component is retoned, which it always is: all rules answer alike.
 pub fn limited_tones(
     plane: &[u8],
     queue: &[u32],

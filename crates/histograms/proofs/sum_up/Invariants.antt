@@ -1,13 +1,10 @@
--- `histograms::sum_up` meets its contract: the entries so far are sums, the last of them is `sum`, and the others are as
--- they were. Assumes nothing.
-use Rattle.std.proofs.Common.{◌≡◌, ◌+◌}
+-- `histograms::sum_up` meets its contract: the entries from a to v are sums, and the others are as they were. Assumes
+-- nothing.
+use Prim.Native.Nat.{◌+◌}
 use Rattle.planes.specs.Lists.{at}
-use Rattle.histograms.specs.Values.{sum}
+use Rattle.histograms.specs.Values.{sum_to}
 use Rattle.histograms.specs.Histograms.{Refilled}
 use Rattle.histograms.proofs.sum_up.Given as goal
 
-abbrev pub invariant-loop-n : goal.invariant-loop-n
-invariant-loop-n l = record {
-  so_far : l.sum ≡ sum (at l.initial.n-items) 0 l.n-index;
-  summed : Refilled (λ j. sum (at l.initial.n-items) 0 (j + 1)) 0 l.n-index l.initial.n-items l.n-items;
-}
+abbrev pub invariant-loop-v : goal.invariant-loop-v
+invariant-loop-v l = Refilled (sum_to (at l.initial.counts) l.a) l.a (l.v + 1) l.initial.counts l.counts
