@@ -2,13 +2,15 @@
 -- for, with the answer as a number. Four have a form of their own. n = w × h. Definitions only.
 --
 --   CountsOutcome   the outcome of a call that tells both counts: they go to two lent numbers, and fewer get 14
+--   PassCounted, ListCounted, EnhanceCounted
+--                   the outcomes of these calls by their results, before both counts go to the lent numbers
 --   PassNumber      the contract of `mlhe_pass`: a pass by its numbers, with 17 for numbers that stand for no rule
 --   ListNumber      the contract of `mlhe_run_list`
 --   EnhanceNumber   the contract of `mlhe_enhance`, with 17 as for a pass
 --   ReadNumber      the contract of `mlhe_read`: what is read goes to three lent numbers
 use Rattle.std.specs.Prelude.{ℕ, ◌≡◌, List, ℤ, length}
 use Rattle.planes.specs.Refusals.{◌▷◌, greatest_pixels}
-use Rattle.planes.specs.Replies.{after, overwritten}
+use Rattle.planes.specs.Replies.{Reply, after, overwritten}
 use Rattle.planes.specs.Shapes.{shape_of, pixels, lent_refusal}
 use Rattle.planes.specs.declared.Shape.{Shape}
 use Rattle.tones.specs.declared.RuleNumbers.{RuleNumbers}
@@ -50,6 +52,12 @@ pass_refusal_of z n s plane marks queue numbers =
     lent_refusal z (length plane) (length marks) (length queue)
     ▷ form_refusal n ▷ numbers_refusal s ▷ counts_refusal (length numbers)
 
+abbrev pub PassCounted : (z : Shape) (n : RuleNumbers) (s : Pass) (numbers plane marks queue : List ℕ) (reply : Reply)
+    (plane' marks' queue' : List ℕ) → Type 0
+PassCounted z n s numbers plane marks queue =
+    Outcome (pixels z) (pass_refusal_of z n s plane marks queue numbers) (pass_effect (pass_neighbours z) s plane)
+    plane marks queue
+
 abbrev pub PassNumber : (w h a b area : ℕ) (rule plane marks queue numbers : List ℕ) (r : ℤ)
     (plane' marks' queue' numbers' : List ℕ) → Type 0
 PassNumber w h a b area rule plane marks queue numbers =
@@ -64,6 +72,12 @@ PassNumber w h a b area rule plane marks queue numbers =
 abbrev pub list_refusal_of : Shape → List ℕ → List ℕ → List ℕ → List ℕ → List ℕ → ℕ
 list_refusal_of z list plane marks queue numbers =
     run_list_refusal z list plane marks queue ▷ counts_refusal (length numbers)
+
+abbrev pub ListCounted : (z : Shape) (list numbers plane marks queue : List ℕ) (reply : Reply)
+    (plane' marks' queue' : List ℕ) → Type 0
+ListCounted z list numbers plane marks queue =
+    Outcome (pixels z) (list_refusal_of z list plane marks queue numbers)
+    (run_effect (pass_neighbours z) (passes_of list) plane) plane marks queue
 
 abbrev pub ListNumber : (w h : ℕ) (list plane marks queue numbers : List ℕ) (r : ℤ)
     (plane' marks' queue' numbers' : List ℕ) → Type 0
@@ -80,6 +94,12 @@ unfoldable pub enhance_refusal_of : Shape → RuleNumbers → Settings → List 
 enhance_refusal_of z n t frame plane marks queue output numbers =
     memory_refusal z (length frame) (length plane) (length marks) (length queue) (length output)
     ▷ form_refusal n ▷ settings_refusal t ▷ counts_refusal (length numbers)
+
+abbrev pub EnhanceCounted : (z : Shape) (n : RuleNumbers) (t : Settings)
+    (frame numbers plane marks queue output : List ℕ) (reply : Reply) (plane' marks' queue' output' : List ℕ) → Type 0
+EnhanceCounted z n t frame numbers plane marks queue output =
+    OutputOutcome (pixels z) (enhance_refusal_of z n t frame plane marks queue output numbers)
+    (chain_effect (chain_of z t frame)) (recolour frame (chain_of z t frame).plane) plane marks queue output
 
 abbrev pub EnhanceNumber : (w h last area : ℕ) (rule frame plane marks queue output numbers : List ℕ)
     (r : ℤ) (plane' marks' queue' output' numbers' : List ℕ) → Type 0

@@ -14,13 +14,16 @@
 ghost use Rattle.colours.specs.Calls.{IntensityOutcome, RecolourOutcome};
 ghost use Rattle.netpbm.specs.Writing.{WriteOutcome};
 ghost use Rattle.conversion.specs.Conversion.{ConvertOutcome};
-ghost use Rattle.cnumbers.specs.Numbers.{number_reply, done_reply};
+ghost use Rattle.model.specs.Outcomes.{answer_reply};
+ghost use Rattle.crules.specs.Rules.{numbers_for};
+ghost use Rattle.cnumbers.specs.Numbers.{number_reply, done_reply, pass_of, settings_of};
+ghost use Rattle.capi.specs.Calls.{PassCounted, ListCounted, EnhanceCounted};
 ghost use Rattle.capi.specs.Calls.{PassNumber, ListNumber, EnhanceNumber, ReadNumber};
 
 use enhance::Settings;
-use model::Pass;
-use netpbm::Header;
-use planes::Shape;
+use model::{Counts, Pass};
+use planes::{Refusal, Shape};
+use tones::Rule;
 
 // Fills the plane with the intensities of the frame.
 pub fn mlhe_intensity(frame: &[u8], w: usize, h: usize, plane: &mut [u8]) -> i64
@@ -36,6 +39,35 @@ pub fn mlhe_recolour(frame: &[u8], w: usize, h: usize, plane: &[u8], output: &mu
         (done_reply result) output.new }
 {
     cnumbers::status_number(colours::recolour(frame, w, h, plane, output))
+}
+
+// A pass by its numbers, or its refusal: 1 to 4, 17, 5 to 8, 18, 19, then 14 where too few numbers are lent for both
+// counts.
+fn counted_pass(
+    plane: &mut [u8],
+    marks: &mut [u8],
+    queue: &mut [u32],
+    shape: Shape,
+    a: u8,
+    b: u8,
+    area: u32,
+    rule: &[u16],
+    counts: &[usize],
+) -> Result<Counts, Refusal>
+    ensures { PassCounted shape (numbers_for rule.now) (pass_of a b area rule.now) counts.now plane.old marks.old
+        queue.old (answer_reply result) plane.new marks.new queue.new }
+{
+    planes::lent_refusal(shape, plane.len(), marks.len(), queue.len())?;
+    let pass = Pass {
+        a,
+        b,
+        area,
+        rule: Rule::try_from(crules::rule_numbers(rule))?,
+        neighbours: crules::neighbour_number(rule),
+    };
+    model::pass_refusal(pass)?;
+    cnumbers::counts_refusal(counts.len())?;
+    passes::pass(plane, marks, queue, shape, pass)
 }
 
 // A pass over the plane.
@@ -56,30 +88,27 @@ pub fn mlhe_pass(
         counts.new }
 {
     let shape = Shape { w, h };
-    let numbers = crules::rule_numbers(rule);
-    let neighbours = crules::neighbour_number(rule);
-    let refusal = cnumbers::pass_form_refusal(
-        shape,
-        plane.len(),
-        marks.len(),
-        queue.len(),
-        numbers,
-    );
-    if refusal != 0 {
-        return cnumbers::refused(refusal);
-    }
-    let rule = tones::rule_of(numbers);
-    let pass = Pass {
-        a,
-        b,
-        area,
-        rule,
-        neighbours,
-    };
+    let answer = counted_pass(plane, marks, queue, shape, a, b, area, rule, counts);
+    cnumbers::put_counts(counts, answer)
+}
+
+// The passes of a list, or its refusal, then 14 where too few numbers are lent for both counts.
+fn counted_list(
+    list: &[u8],
+    plane: &mut [u8],
+    marks: &mut [u8],
+    queue: &mut [u32],
+    shape: Shape,
+    counts: &[usize],
+) -> Result<Counts, Refusal>
+    ensures { ListCounted shape list.now counts.now plane.old marks.old queue.old (answer_reply result)
+        plane.new marks.new queue.new }
+{
     if counts.len() < cnumbers::COUNTS {
-        return cnumbers::short_counts(model::pass_refusal(pass));
+        passlists::list_refusal(list, shape, plane.len(), marks.len(), queue.len())?;
+        return Err(Refusal::Output);
     }
-    cnumbers::put_counts(counts, passes::pass(plane, marks, queue, shape, pass))
+    passlists::run_list(list, plane, marks, queue, shape)
 }
 
 // The passes of a list over the plane.
@@ -96,15 +125,8 @@ pub fn mlhe_run_list(
         queue.old counts.old result plane.new marks.new queue.new
         counts.new }
 {
-    let shape = Shape { w, h };
-    if counts.len() < cnumbers::COUNTS {
-        let refusal = passlists::list_refusal(list, shape, plane.len(), marks.len(), queue.len());
-        return cnumbers::short_counts(refusal);
-    }
-    cnumbers::put_counts(
-        counts,
-        passlists::run_list(list, plane, marks, queue, shape),
-    )
+    let answer = counted_list(list, plane, marks, queue, Shape { w, h }, counts);
+    cnumbers::put_counts(counts, answer)
 }
 
 // Writes a list in the other version.
@@ -113,6 +135,43 @@ pub fn mlhe_convert_list(list: &[u8], output: &mut [u8]) -> i64
         output.new }
 {
     cnumbers::written_number(passlists::convert(list, output))
+}
+
+// An enhancement by its numbers, or its refusal: 1, 2, 3, 4, 14, 17, 9, 6, 7, 8, 18, 19, then 14 where too few numbers
+// are lent for both counts.
+fn counted_enhancement(
+    frame: &[u8],
+    shape: Shape,
+    last: u8,
+    area: u32,
+    rule: &[u16],
+    plane: &mut [u8],
+    marks: &mut [u8],
+    queue: &mut [u32],
+    output: &mut [u8],
+    counts: &[usize],
+) -> Result<Counts, Refusal>
+    ensures { EnhanceCounted shape (numbers_for rule.now) (settings_of last area rule.now) frame.now counts.now
+        plane.old marks.old queue.old output.old (answer_reply result)
+        plane.new marks.new queue.new output.new }
+{
+    enhance::memory_refusal(
+        shape,
+        frame.len(),
+        plane.len(),
+        marks.len(),
+        queue.len(),
+        output.len(),
+    )?;
+    let settings = Settings {
+        last,
+        area,
+        rule: Rule::try_from(crules::rule_numbers(rule))?,
+        neighbours: crules::neighbour_number(rule),
+    };
+    levels::settings_refusal(settings)?;
+    cnumbers::counts_refusal(counts.len())?;
+    enhance::enhance(frame, shape, settings, plane, marks, queue, output)
 }
 
 // Enhances the frame.
@@ -134,31 +193,9 @@ pub fn mlhe_enhance(
         plane.new marks.new queue.new output.new counts.new }
 {
     let shape = Shape { w, h };
-    let numbers = crules::rule_numbers(rule);
-    let neighbours = crules::neighbour_number(rule);
-    let refusal = cnumbers::enhance_form_refusal(
-        shape,
-        frame.len(),
-        plane.len(),
-        marks.len(),
-        queue.len(),
-        output.len(),
-        numbers,
+    let answer = counted_enhancement(
+        frame, shape, last, area, rule, plane, marks, queue, output, counts,
     );
-    if refusal != 0 {
-        return cnumbers::refused(refusal);
-    }
-    let rule = tones::rule_of(numbers);
-    let settings = Settings {
-        last,
-        area,
-        rule,
-        neighbours,
-    };
-    if counts.len() < cnumbers::COUNTS {
-        return cnumbers::short_counts(levels::settings_refusal(settings));
-    }
-    let answer = enhance::enhance(frame, shape, settings, plane, marks, queue, output);
     cnumbers::put_counts(counts, answer)
 }
 
@@ -166,11 +203,7 @@ pub fn mlhe_enhance(
 pub fn mlhe_read(bytes: &[u8], numbers: &mut [usize]) -> i64
     ensures { ReadNumber bytes.now numbers.old result numbers.new }
 {
-    let header = netpbm::read(bytes);
-    match header {
-        Header::Refused(k) => cnumbers::refused(k),
-        Header::Frame { w, h, offset } => cnumbers::put_numbers(numbers, w, h, offset),
-    }
+    cnumbers::put_header(numbers, netpbm::read(bytes))
 }
 
 // Writes a frame.

@@ -12,13 +12,13 @@
 --   pass_of         the pass for its numbers
 --   settings_of     the settings for their numbers
 use Rattle.std.specs.Prelude.{ℕ, zero, suc, ◌<◌, cond, ◌≡◌, List, [], ◌∷◌, ℤ, pos, negsuc, length, take, drop, ltb}
-use Rattle.planes.specs.Refusals.{when}
+use Rattle.std.specs.Prelude.{Result, Ok, Err}
+use Rattle.planes.specs.declared.refusal.Refusal.{Refusal}
+use Rattle.planes.specs.Refusals.{number, when}
 use Rattle.planes.specs.Replies.{Reply, refuses, gives, overwritten}
+use Rattle.model.specs.declared.Counts.{Counts}
 use Rattle.model.specs.declared.Pass.{Pass}
-use Rattle.colours.specs.declared.Status.{Status}
-use Rattle.model.specs.declared.Answer.{Answer}
-use Rattle.netpbm.specs.declared.Header.{Header}
-use Rattle.texts.specs.declared.Written.{Written}
+use Rattle.netpbm.specs.Reading.{Answer, Refused, Frame}
 use Rattle.levels.specs.declared.Settings.{Settings}
 use Rattle.tones.specs.Numbers.{rule_of}
 use Rattle.crules.specs.Rules.{numbers_for, neighbours_for}
@@ -38,19 +38,19 @@ done_reply (pos zero) = gives []
 done_reply (pos (suc value)) = gives (suc value ∷ [])
 done_reply (negsuc k) = refuses (suc k)
 
--- the answers of the calls as numbers
-abbrev pub status_number : Status → ℤ
-status_number Status.Done = encoded 0 0
-status_number (Status.Refused k) = encoded k 0
+-- the results of the calls as numbers
+abbrev pub status_number : Result (Unit {0}) Refusal → ℤ
+status_number (Ok x) = encoded 0 0
+status_number (Err r) = encoded (number r) 0
 
-abbrev pub answer_number : Answer → ℤ
-answer_number (Answer.Refused k) = encoded k 0
-answer_number (Answer.Done counts) = encoded 0 0
+abbrev pub answer_number : Result Counts Refusal → ℤ
+answer_number (Ok counts) = encoded 0 0
+answer_number (Err r) = encoded (number r) 0
 
 -- both counts stand in the first two numbers; those beyond stay
-abbrev pub counts_after : Answer → List ℕ → List ℕ
-counts_after (Answer.Refused k) numbers = numbers
-counts_after (Answer.Done counts) numbers = overwritten numbers (counts.retoned ∷ counts.kept ∷ [])
+abbrev pub counts_after : Result Counts Refusal → List ℕ → List ℕ
+counts_after (Ok counts) numbers = overwritten numbers (counts.retoned ∷ counts.kept ∷ [])
+counts_after (Err r) numbers = numbers
 
 -- 14: fewer than two numbers are lent
 abbrev pub counts_refusal : ℕ → ℕ
@@ -62,13 +62,13 @@ counts_reply (pos zero) numbers = gives (take 2 numbers)
 counts_reply (pos (suc value)) numbers = gives (suc value ∷ [])
 counts_reply (negsuc k) numbers = refuses (suc k)
 
-abbrev pub written_number : Written → ℤ
-written_number (Written.Refused k) = encoded k 0
-written_number (Written.Length size) = encoded 0 size
+abbrev pub written_number : Result ℕ Refusal → ℤ
+written_number (Ok size) = encoded 0 size
+written_number (Err r) = encoded (number r) 0
 
 -- a length that a signed number of 64 bits holds
-pub record Short (r : Written) : Type 0 where
-  pub short : (size : ℕ) → r ≡ Written.Length size → size < 9223372036854775808
+pub record Short (r : Result ℕ Refusal) : Type 0 where
+  pub short : (size : ℕ) → r ≡ Ok size → size < 9223372036854775808
 
 -- by the numbers that are lent
 abbrev pub pass_of : ℕ → ℕ → ℕ → List ℕ → Pass
@@ -82,12 +82,12 @@ settings_of last area rule =
 -- ## What reading answers
 
 -- the answer for what reading gives: its refusal, then 14 where fewer than three numbers are lent, else 0
-abbrev pub read_number : Header → ℕ → ℤ
-read_number (Header.Refused k) lent = encoded k 0
-read_number (Header.Frame w h offset) lent = encoded (when (ltb lent 3) 14) 0
+abbrev pub read_number : Answer → ℕ → ℤ
+read_number (Refused k) lent = encoded k 0
+read_number (Frame w h offset) lent = encoded (when (ltb lent 3) 14) 0
 
 -- the lent numbers afterwards; those beyond the first three stay
-abbrev pub numbers_after : Header → List ℕ → List ℕ
-numbers_after (Header.Refused k) numbers = numbers
-numbers_after (Header.Frame w h offset) numbers =
+abbrev pub numbers_after : Answer → List ℕ → List ℕ
+numbers_after (Refused k) numbers = numbers
+numbers_after (Frame w h offset) numbers =
     cond (ltb (length numbers) 3) numbers (w ∷ h ∷ offset ∷ drop 3 numbers)

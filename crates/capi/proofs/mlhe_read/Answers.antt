@@ -1,18 +1,18 @@
--- `capi::mlhe_read` meets its contract, case by case of what reading answers. Assumes nothing.
-use mathlib.Core.Path.{sym, ◌∙◌}
+-- `capi::mlhe_read` meets its contract: as the call, with the frame's numbers in the lent ones. Assumes nothing.
+use Rattle.std.proofs.Common.{ap, ◌∙◌}
+use Rattle.std.proofs.Common.{ℕ, length}
+use Rattle.netpbm.specs.Reading.{Answer}
 use Rattle.netpbm.proofs.Replies.{read_back}
+use Rattle.cnumbers.specs.Numbers.{read_number, numbers_after}
 use Rattle.cnumbers.proofs.Numbers.{returned}
-use Rattle.capi.proofs.Calls.{read_refused, read_framed}
 use Rattle.capi.proofs.mlhe_read.Goals as goal
 
-pub returns-in-Refused : goal.returns-in-Refused
-returns-in-Refused c =
-    let answer = sym (read_back _ _ c.read-header.result c.read-header.ensures) in
-    read_refused (answer ∙ c.in-Refused.is)
-    (returned c.refused.type_inv c.refused.ensures)
-
-pub returns-in-Frame : goal.returns-in-Frame
-returns-in-Frame c =
-    let answer = sym (read_back _ _ c.read-header.result c.read-header.ensures) in
-    read_framed (answer ∙ c.in-Frame.is)
-    (returned c.put_numbers.type_inv c.put_numbers.ensures.0) c.put_numbers.ensures.1
+pub returns : goal.returns
+returns c =
+    let numbers = c.args.numbers.now in
+    let put = c.put_header in
+    let same = read_back _ _ c.read.result c.read.ensures in
+    record {
+      answer = returned put.type_inv put.ensures.0 ∙ ap (λ (x : Answer). read_number x (length numbers)) same;
+      numbers_are = put.ensures.1 ∙ ap (λ (x : Answer). numbers_after x numbers) same;
+    }

@@ -2,6 +2,7 @@
 -- pixels, and neither is writing, for the output has room for a heading and their channels. Assumes nothing.
 use native.Mathlib.Omega.{arith}
 use borrow.Author.Rules.{rules}
+use lib.ListN.{length-drop}
 use lib.Seq.{length-take-le}
 use Rattle.printing.proofs.Enhancing.{raster_lent, recoloured, emitted_enhanced, always_written}
 use Rattle.printing.proofs.put_enhanced.Goals as goal
@@ -9,7 +10,9 @@ use Rattle.printing.proofs.put_enhanced.Goals as goal
 pub unwrap-requires : goal.unwrap-requires
 unwrap-requires c =
     let few = c.requires.sized.few in
-    always_written c.requires _ _ c.write.ensures (length-take-le _ _ (search rules)) (search rules)
+    let placed = c.requires.placed in
+    let filled = c.requires.filled in
+    always_written c.requires _ _ c.write.ensures (grind (arith, length-take-le, length-drop)) (search rules)
 
 pub returns : goal.returns
 returns c =
