@@ -5,3 +5,4 @@ pub mod Enhancements
 pub mod Parallel
 pub mod CFunctions
 pub mod Contracts
+pub mod Named

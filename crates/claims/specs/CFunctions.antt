@@ -13,7 +13,9 @@ use Rattle.planes.specs.Shapes.{shape_of, lent_refusal}
 use Rattle.tones.specs.declared.Rule.{Rule}
 use Rattle.tones.specs.Numbers.{rule_of, form_refusal, RuleFits}
 use Rattle.colours.specs.Calls.{status_reply, IntensityOutcome, RecolourOutcome}
-use Rattle.model.specs.declared.Answer.{Answer}
+use Rattle.std.specs.Prelude.{Result}
+use Rattle.planes.specs.declared.refusal.Refusal.{Refusal}
+use Rattle.model.specs.declared.Counts.{Counts}
 use Rattle.model.specs.Calls.{neighbour_refusal}
 use Rattle.model.specs.Outcomes.{answer_reply}
 use Rattle.passes.specs.Calls.{pass_call_refusal, PassOutcome}
@@ -35,8 +37,8 @@ pub record Stands {A : Type 0} (number : A → ℤ) (P : A → Type 0) (r : ℤ)
   pub holds : P answer
 
 -- r is the number of an answer of which P holds, and the lent numbers hold its counts; those beyond two stay
-pub record StandsCounted (P : Answer → Type 0) (numbers : List ℕ) (r : ℤ) (numbers' : List ℕ) : Type 0 where
-  pub answer : Answer
+pub record StandsCounted (P : Result Counts Refusal → Type 0) (numbers : List ℕ) (r : ℤ) (numbers' : List ℕ) : Type 0 where
+  pub answer : Result Counts Refusal
   pub number_is : r ≡ answer_number answer
   pub numbers_are : numbers' ≡ counts_after answer numbers
   pub holds : P answer

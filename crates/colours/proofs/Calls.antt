@@ -1,5 +1,5 @@
--- Calls of `intensity` and `recolour`: what it means that none of their refusals applies, and what a call leaves that was
--- not refused. Assumes nothing.
+-- Calls of `intensity` and `recolour`: what it means that none of their refusals applies, and what a call leaves that
+-- was not refused. Assumes nothing.
 use Prim.Native.Nat.{ℕ, ◌*◌, ◌≤◌}
 use mathlib.Core.Path.{◌≡◌, sym, ap, ◌∙◌}
 use mathlib.Core.List.{List, []}

@@ -17,11 +17,11 @@ use lib.Seq.{take_all}
 use Rattle.planes.specs.Lists.{at}
 use native.Mathlib.Numerals.{add-one}
 use Rattle.gaps.specs.Bytes.{ends_comment, move_for}
-use Rattle.gaps.specs.declared.Move.TheVariants.{Take, Skip, Comment, Stop}
+use Rattle.gaps.specs.declared.Move.TheVariants.{Skip, Comment, Stop}
 use Rattle.gaps.specs.Parsers.{failed, parsed, next}
 use Rattle.gaps.specs.Gaps.{rest_of_comment, pieces, comment_and_then, begun, gap}
-use Rattle.gaps.proofs.Bytes.{taken, skipped, opened, stopped, digit_not_white, digit_not_sign}
-use Rattle.gaps.proofs.Gaps.{pieces_white, pieces_sign, pieces_stop, pieces_none, no_pieces}
+use Rattle.gaps.proofs.Bytes.{skipped, opened, stopped}
+use Rattle.gaps.proofs.Gaps.{pieces_white, pieces_sign, pieces_stop, pieces_none}
 use Rattle.gaps.proofs.Gaps.{comment_end, comment_text, comment_unended}
 
 -- ## One comment
@@ -110,12 +110,10 @@ module _ (bytes : List ℕ) {b : ℕ} {after : List ℕ} (is : bytes ≡ b ∷ a
       → pieces bytes ≡ pieces rest
   pieces_comment e left = comment_is e ∙ rw left
 
-  -- before a digit or another byte that begins none there is none
-  pub pieces_absent : ((d : ℕ) × (move_for b ≡ Take d)) ⊎ (move_for b ≡ Stop) → pieces bytes ≡ parsed tt bytes
-  pieces_absent (inl (d, e)) = rw is (no_pieces b after (taken b d e).digit_is)
-  pieces_absent (inr e) =
+  pub pieces_absent : move_for b ≡ Stop → pieces bytes ≡ parsed tt bytes
+  pieces_absent e =
       let none = stopped b e in
-      rw is (pieces_stop b after none.no_white none.no_sign)
+      rw is (pieces_stop b after none.0 none.1)
 
 pub pieces_end : (bytes : List ℕ) → length bytes ≡ 0 → pieces bytes ≡ parsed tt bytes
 pieces_end [] e = pieces_none
@@ -140,20 +138,14 @@ gap_present (x ∷ bytes) {b} is e = rw (begins e) refl
     begins (inl d) = rw (← same, skipped b d)
     begins (inr d) = let sign = opened b d in rw (← same, sign.0, sign.1)
 
-pub gap_absent : (bytes : List ℕ) {b : ℕ} → Some b ≡ slice_get bytes 0
-    → ((d : ℕ) × (move_for b ≡ Take d)) ⊎ (move_for b ≡ Stop) → gap bytes ≡ failed
+pub gap_absent : (bytes : List ℕ) {b : ℕ} → Some b ≡ slice_get bytes 0 → move_for b ≡ Stop → gap bytes ≡ failed
 unfolding gap
 gap_absent [] is e = refl
-gap_absent (x ∷ bytes) {b} is e = rw (begins e) refl
-  where
-    same : b ≡ x
-    same = cc
-
-    begins : ((d : ℕ) × (move_for b ≡ Take d)) ⊎ (move_for b ≡ Stop) → begun (x ∷ bytes) ≡ false
-    begins (inl (d, h)) =
-        let digit = (taken b d h).digit_is in
-        rw (← same, digit_not_white b digit, digit_not_sign b digit)
-    begins (inr h) = let none = stopped b h in rw (← same, none.no_white, none.no_sign)
+gap_absent (x ∷ bytes) {b} is e =
+    let same : b ≡ x = cc in
+    let none = stopped b e in
+    let begins : begun (x ∷ bytes) ≡ false = rw (← same, none.0, none.1) in
+    rw begins
 
 -- what finds whether a gap begins
 pub ruleset begins = (gap_present, gap_absent)

@@ -3,6 +3,8 @@
 --   gap_accepts   the parser takes a whole gap, and goes on behind it
 --   no_pieces     before a digit it goes no further
 --   gap_splits    where the parser passes, a gap begins the bytes, and what it leaves follows it
+--   gap_some      a gap is not empty
+--   gap_shorter   so that the parser leaves less than all
 --   gap_spaces    a gap with no number sign is whitespace
 --
 -- Assumes nothing.

@@ -1,5 +1,4 @@
--- Laws of the parsers: what each tells of the bytes where it passes, and runs of bytes that pass a test, one byte at a
--- time from a place of the list on. Assumes nothing.
+-- Laws of the parsers: what each tells of the bytes where it passes, and runs of bytes that pass a test. Assumes nothing.
 use Prim.Native.Nat.{ℕ, ◌≤◌}
 use mathlib.Core.Path.{◌≡◌, refl, sym, ap, ◌∙◌}
 use mathlib.Core.Bool.{Bool, true, false, cond}

@@ -12,8 +12,6 @@ ghost use Rattle.gaps.specs.Parsers.{left};
 // What the header reader does next, by the next byte.
 #[derive(Clone, Copy, Debug, PartialEq, Eq)]
 pub enum Move {
-    // A digit of this value: take it into the number.
-    Take(u8),
     // Whitespace: step over it.
     Skip,
     // A number sign: go on after the comment that it opens.
@@ -22,14 +20,13 @@ pub enum Move {
     Stop,
 }
 
-// Header bytes sorted into digits, whitespace (TAB, LF, VT, FF and CR, which are 9 to 13, and space), the number sign,
-// which opens a comment, and the rest.
+// Header bytes sorted into whitespace (TAB, LF, VT, FF and CR, which are 9 to 13, and space), the number sign, which
+// opens a comment, and the rest.
 #[tactic(auto, using(crate::proofs::Bytes::moves))]
 pub fn sorted(byte: u8) -> Move
     ensures { result ≡ move_for byte }
 {
     match byte {
-        b'0'..=b'9' => Move::Take(byte - b'0'),
         b'\t'..=b'\r' | b' ' => Move::Skip,
         b'#' => Move::Comment,
         _ => Move::Stop,
@@ -70,7 +67,7 @@ fn skip_pieces(bytes: &[u8]) -> Option<&[u8]>
         match sorted(*byte) {
             Move::Skip => rest = after,
             Move::Comment => rest = skip_comment(after)?,
-            Move::Take(_) | Move::Stop => return Some(rest),
+            Move::Stop => return Some(rest),
         }
     }
     Some(rest)
@@ -83,6 +80,6 @@ pub fn skip_gap(bytes: &[u8]) -> Option<&[u8]>
 {
     match sorted(*bytes.first()?) {
         Move::Skip | Move::Comment => skip_pieces(bytes),
-        Move::Take(_) | Move::Stop => None,
+        Move::Stop => None,
     }
 }

@@ -1,7 +1,7 @@
 -- Reading a number digit by digit. `number_after k v` is what is left to do once k digits of value v were taken. With
 -- none taken it is `number`; a further digit is taken into both; any other byte, and the end, ends the number.
 -- Assumes nothing.
-use Prim.Native.Nat.{ℕ, zero, suc, ◌+◌, ◌*◌, ◌^◌, ◌≤◌, ◌<◌}
+use Prim.Native.Nat.{ℕ, zero, suc, ◌+◌, ◌-◌, ◌*◌, ◌^◌, ◌≤◌, ◌<◌}
 use mathlib.Core.Path.{◌≡◌, refl, ◌∙◌}
 use mathlib.Core.Bool.{Bool, true, false, cond}
 use mathlib.Core.List.{List, [], ◌∷◌}
@@ -15,9 +15,8 @@ use Rattle.texts.specs.Ascii.{is_digit, value_after}
 use Rattle.gaps.specs.Parsers.{Parsed, failed, parsed, Parser, next, pure, check, some, take_while, drop_while}
 use Rattle.headers.specs.Grammar.{numeral}
 use Rattle.headers.specs.Reading.{FirstDigit}
-use Rattle.gaps.specs.Bytes.{move_for}
-use Rattle.gaps.specs.declared.Move.TheVariants.{Take}
-use Rattle.gaps.proofs.Bytes.{taken, not_taken}
+use Rattle.std.specs.Char.{is_ascii_digit}
+use Rattle.gaps.proofs.Bytes.{digit_range}
 use Rattle.gaps.proofs.Parsers.{while_none}
 
 -- the number of so many digits and this value, before the rest
@@ -51,22 +50,26 @@ too_many (suc n) v rest h = rw (lt-leb (suc n) 6 h)
 
 -- ## A digit
 
-pub first_digit : (bytes : List ℕ) {b : ℕ} {rest : List ℕ} {digit : ℕ} → bytes ≡ b ∷ rest → move_for b ≡ Take digit
-    → FirstDigit bytes digit rest
-first_digit bytes {b} is e =
-    let t = taken b _ e in
-    record { byte = b; is = is; digit_is = t.digit_is; value_is = t.value_is; small = t.small }
+digit_test : (b : ℕ) → is_digit b ≡ is_ascii_digit b
+unfolding is_digit
+digit_test b = refl
 
-pub no_digit : (bytes : List ℕ) {b : ℕ} {rest : List ℕ} → bytes ≡ b ∷ rest
-    → ((digit : ℕ) → move_for b ≡ Take digit → ⊥) → take_while is_digit bytes ≡ []
-no_digit bytes {b} is h = rw (is, not_taken b h)
+pub first_digit : (bytes : List ℕ) {b : ℕ} {rest : List ℕ} {digit : ℕ} → bytes ≡ b ∷ rest → is_ascii_digit b ≡ true
+    → digit ≡ b - 48 → FirstDigit bytes digit rest
+first_digit bytes {b} is e same =
+    let digit = digit_test b ∙ e in
+    record { byte = b; is = is; digit_is = digit; value_is = same; small = omega (arith, digit_range b digit) }
+
+pub no_digit : (bytes : List ℕ) {b : ℕ} {rest : List ℕ} → bytes ≡ b ∷ rest → is_ascii_digit b ≡ false
+    → take_while is_digit bytes ≡ []
+no_digit bytes {b} is e = rw (is, digit_test b, e)
 
 pub end_digit : (bytes : List ℕ) → length bytes ≡ 0 → take_while is_digit bytes ≡ []
 end_digit [] e = refl
 end_digit (b ∷ bytes) e = absurd (omega arith)
 
 -- what finds the first digit
-pub ruleset first = (first_digit, no_digit, end_digit)
+pub ruleset first = (first_digit, end_digit)
 
 -- ## A number
 

@@ -32,10 +32,10 @@ fn read_digit(bytes: &[u8]) -> Option<(usize, &[u8])>
     ensures { MatchOption result (take_while is_digit bytes.now ≡ []) (λ p. FirstDigit bytes.now p.0 p.1.now) }
 {
     let (byte, rest) = bytes.split_first()?;
-    match gaps::sorted(*byte) {
-        Move::Take(digit) => Some((usize::from(digit), rest)),
-        _ => None,
+    if !byte.is_ascii_digit() {
+        return None;
     }
+    Some((usize::from(*byte - b'0'), rest))
 }
 
 // The number whose digits begin the bytes, and what follows them.

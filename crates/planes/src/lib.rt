@@ -36,7 +36,7 @@ pub const FOUR: u8 = 4;
 pub const EIGHT: u8 = 8;
 
 // A plane of w columns and h rows.
-#[derive(Clone, Copy)]
+#[derive(Clone, Copy, Debug, PartialEq, Eq)]
 pub struct Shape {
     pub w: usize,
     pub h: usize,

@@ -16,6 +16,7 @@ use planes::Shape;
 use rows::Grid;
 
 // The first pixel that has the code, in reading order from the pixel `from` on; past the last pixel there is none.
+// The requirements name its form: loops over rows and columns, left by a label.
 pub fn next_pixel(marks: &[u8], grid: Grid, code: u8, from: usize) -> Option<usize>
     requires { Searchable marks.now grid.shape from }
     ensures { NextPixel marks.now code from (pixels grid.shape) (found_reply result) }
