@@ -48,7 +48,7 @@ impl TryFrom<u8> for Kind {
 
 // One case. A call uses the fields that it needs; lengths are those of what is lent. Its kind is none where its number
 // stands for none.
-#[derive(Clone, Copy)]
+#[derive(Clone, Copy, Debug, PartialEq, Eq)]
 pub struct Case {
     pub kind: Option<Kind>,
     pub pass: Pass,

@@ -38,7 +38,7 @@ impl Numbers for Header {
 }
 
 // What a call answers: its numbers after a plus sign, or its refusal's number after a minus sign.
-#[derive(Clone, Copy)]
+#[derive(Clone, Copy, Debug, PartialEq, Eq)]
 pub struct Answer<T>(pub Result<T, Refusal>);
 
 impl<T: Numbers> fmt::Display for Answer<T> {
@@ -54,7 +54,7 @@ impl<T: Numbers> fmt::Display for Answer<T> {
 }
 
 // Bytes in hexadecimal digits.
-#[derive(Clone, Copy)]
+#[derive(Clone, Copy, Debug, PartialEq, Eq)]
 pub struct Hex<'a>(pub &'a [u8]);
 
 impl fmt::Display for Hex<'_> {
