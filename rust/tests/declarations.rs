@@ -243,12 +243,20 @@ fn the_refusals_of_the_header_are_those_of_the_crate() {
     assert_eq!(numbers, Refusal::ALL.iter().map(|refusal| refusal.number()).collect::<Vec<_>>());
 }
 
-/// The refusals are named in the library's own source too: here those by the number of neighbours.
+/// The refusals of the library's own source have the crate's numbers; those by the number of neighbours are told apart.
 #[test]
-fn the_refusals_of_neighbours_are_those_of_the_library() {
-    let library = text("crates/planes/src/refused.rt");
-    for (name, refusal) in [("NEIGHBOURS", Refusal::Neighbours), ("NO_PLACE", Refusal::EightNeighbours)] {
-        assert_eq!(number_after(&library, &format!("pub const {name}: u8 = ")), refusal.number().into());
+fn the_refusals_of_the_library_are_those_of_the_crate() {
+    let library = text("crates/planes/src/refusal.rt");
+    let (_, variants) = library.split_once("pub enum Refusal {").expect("the refusals");
+    let (variants, _) = variants.split_once("\n}").expect("an end of them");
+    let numbers: Vec<&str> = variants
+        .lines()
+        .filter_map(|line| line.strip_suffix(',')?.split_once(" = "))
+        .map(|(_, number)| number)
+        .collect();
+    assert_eq!(numbers, Refusal::ALL.iter().map(|refusal| refusal.number().to_string()).collect::<Vec<_>>());
+    for (name, refusal) in [("Neighbours", Refusal::Neighbours), ("NoPlace", Refusal::EightNeighbours)] {
+        assert_eq!(number_after(&library, &format!(" {name} = ")), refusal.number().into());
     }
 }
 

@@ -1,4 +1,5 @@
--- Laws of the parsers: what each tells of the bytes where it passes, and runs of bytes that pass a test. Assumes nothing.
+-- Laws of the parsers: what each tells of the bytes where it passes, and runs of bytes that pass a test. Assumes
+-- nothing.
 use Prim.Native.Nat.{ℕ, ◌≤◌}
 use mathlib.Core.Path.{◌≡◌, refl, sym, ap, ◌∙◌}
 use mathlib.Core.Bool.{Bool, true, false, cond}

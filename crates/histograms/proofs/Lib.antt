@@ -6,3 +6,4 @@ pub mod Measured
 pub mod Histograms
 pub mod Tables
 pub mod Components
+pub mod Parts

@@ -1,7 +1,7 @@
 -- A part x of a whole y of b - a, rounded and added to a: it grows with x, lies in [a, b], and is b for the whole.
 -- Assumes nothing.
 use Prim.Native.Nat.{ℕ, ◌+◌, ◌-◌, ◌*◌, ◌/◌, ◌≤◌}
-use mathlib.Core.Path.{◌≡◌, ap, ap₂, ◌∙◌}
+use mathlib.Core.Path.{◌≡◌, ap₂, ◌∙◌}
 use native.Mathlib.Nat.{div-eq_of_lt-le, mul-div-mul_left, mul-le-mul_left, mul-add}
 use native.Mathlib.Omega.{arith}
 use Rattle.planes.specs.Rounding.{rounded}

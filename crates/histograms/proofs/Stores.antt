@@ -11,7 +11,7 @@ use Rattle.planes.proofs.Stores.{at_set}
 use Rattle.histograms.specs.Values.{sum_to}
 use Rattle.histograms.specs.Histograms.{Outside, Refilled}
 use Rattle.histograms.specs.Sums.{SummedInPlace}
-use Rattle.histograms.proofs.Sums.{sum_to_first, sum_to_next}
+use Rattle.histograms.proofs.Sums.{sum_to_next}
 
 -- ## Entries filled one after another
 

@@ -26,8 +26,8 @@ fn clip(counts: &mut [u32; 256], first: u8, last: u8, most: u64)
     ensures { Refilled (clipped_at most counts.old) first (last + 1)
         counts.old counts.new }
 {
-    for v in usize::from(first)..=usize::from(last) {
-        counts[v] = most.min(1000 * u64::from(counts[v])) as u32;
+    for n in &mut counts[usize::from(first)..=usize::from(last)] {
+        *n = most.min(1000 * u64::from(*n)) as u32;
     }
 }
 
@@ -102,7 +102,7 @@ fn sum_clipped(counts: &mut [u32; 256], c: Measures, k: u16)
     sum_up(counts, c.least, c.greatest);
 }
 
-// The table of the limited rule; whether the component is retoned, which it always is.
+// The table of the limited rule; whether the component is retoned, which it always is: all rules answer alike.
 pub fn limited_tones(
     plane: &[u8],
     queue: &[u32],

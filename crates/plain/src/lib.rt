@@ -19,7 +19,8 @@ ghost use Rattle.plain.specs.Plain.{plain_tone, kept_by, plain_kept};
 
 use histograms::{Measures, fill_same, scale, sum_up};
 
-// The tones of the values of [least, greatest] by the sums of their counts. Equal sums need no second division.
+// The tones of the values of [least, greatest] by the sums of their counts. Equal sums need no second division. It is
+// no `refill`, whose closure goes by the place alone and keeps nothing from one entry to the next.
 fn fill_plain(sums: &[u32; 256], table: &mut [u8; 256], c: Measures, a: u8, b: u8)
     requires { Sums sums.now c.size c a b }
     ensures { Refilled (λ v. scaled a b (at sums.now v) c.size) c.least (c.greatest + 1)
