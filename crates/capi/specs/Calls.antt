@@ -46,7 +46,7 @@ pub record CountsOutputOutcome (n number : ℕ) (e : Effect) (bytes plane marks 
 
 -- ## A pass
 
--- 1 to 4, 17, 5 to 8, 18, 14
+-- 1 to 4, 17, 5 to 8, 18, 19, 14
 unfoldable pub pass_refusal_of : Shape → RuleNumbers → Pass → List ℕ → List ℕ → List ℕ → List ℕ → ℕ
 pass_refusal_of z n s plane marks queue numbers =
     lent_refusal z (length plane) (length marks) (length queue)
@@ -88,7 +88,7 @@ ListNumber w h list plane marks queue numbers =
 
 -- ## An enhancement: the sums of both counts over its passes
 
--- 1, 2, 3, 4, 14 for the output, 17, 9, 6, 7, 8, 18, 14 for the counts
+-- 1, 2, 3, 4, 14 for the output, 17, 9, 6, 7, 8, 18, 19, 14 for the counts
 unfoldable pub enhance_refusal_of : Shape → RuleNumbers → Settings → List ℕ → List ℕ → List ℕ → List ℕ → List ℕ → List ℕ
     → ℕ
 enhance_refusal_of z n t frame plane marks queue output numbers =

@@ -11,6 +11,8 @@
 --   written_number  the answer of writing, encoded
 --   pass_of         the pass for its numbers
 --   settings_of     the settings for their numbers
+--   read_number     the answer of reading, encoded; what is read goes to lent numbers
+--   numbers_after   the lent numbers after it
 use Rattle.std.specs.Prelude.{ℕ, zero, suc, ◌<◌, cond, ◌≡◌, List, [], ◌∷◌, ℤ, pos, negsuc, length, take, drop, ltb}
 use Rattle.std.specs.Prelude.{Result, Ok, Err}
 use Rattle.planes.specs.declared.refusal.Refusal.{Refusal}

@@ -3,7 +3,7 @@
 // convert   the list in the other edition, at the beginning of a lent output: the length written, or the refusal, by
 //           16 for fewer bytes than a head has, 15, 16, then for each record 17, 5, 6, 7, 8, 18, 19, then 20, then 14
 //
-// One walk checks all records, and one writes them. A record's first 12 bytes are the same in both editions.
+// Two walks check all records, and one writes them. A record's first 12 bytes are the same in both editions.
 #![tactic(auto)]
 
 ghost use Rattle.std.specs.Prelude.{◌≡◌, ◌++◌, ◌+◌, ◌≤◌, length, take, drop};

@@ -3,7 +3,7 @@
 --   head_stands     the head is there
 --   record_begins   the record is one of no more than the greatest count
 --   record_stands   it stands in the list, and so do its fields
---   record_err, record_ok   the refusal that it meets with
+--   record_there, record_first   what finds these
 use Rattle.std.proofs.Common.{◌≡◌, ℕ, ◌+◌, ◌<◌, ◌≤◌, List, length, sym, ap, subst, ◌∙◌, arith}
 use Rattle.std.specs.Prelude.{Result}
 use Rattle.std.specs.Result.{IsErrAnd}

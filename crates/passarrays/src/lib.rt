@@ -1,7 +1,7 @@
 // Passes in an array: lists in memory for callers that have the passes by value, and lend no slice of them.
 //
 // run_array   the first passes of an array, or the refusal that they meet with: 1 to 4, 16, then for each pass 5 to 8,
-//             18
+//             18, 19
 #![tactic(auto)]
 
 ghost use Rattle.std.specs.Prelude.{◌≡◌, ◌≤◌, min, take};
