@@ -1,5 +1,5 @@
 -- Reading a number digit by digit. `number_after k v` is what is left to do once k digits of value v were taken. With
--- none taken it is `number`; a further digit is taken into both; any other byte, and the end, ends the number.
+-- none taken it is `numeral`; a further digit is taken into both; any other byte, and the end, ends the number.
 -- Assumes nothing.
 use Prim.Native.Nat.{ℕ, zero, suc, ◌+◌, ◌-◌, ◌*◌, ◌^◌, ◌≤◌, ◌<◌}
 use mathlib.Core.Path.{◌≡◌, refl, ◌∙◌}

@@ -1,4 +1,7 @@
--- What it means that no refusal applies. Assumes nothing.
+-- What it means that no refusal applies, and which number of an order a result has. Assumes nothing.
+--
+--   in_order, by_size   what finds the contract of a function that tests one refusal after the other
+--   by_test             what finds that of a function that is one test
 use Prim.Native.Nat.{ℕ, zero, suc, ◌*◌, ◌≤◌}
 use mathlib.Core.Path.{◌≡◌, refl, sym, ap, ◌∙◌}
 use mathlib.Core.Bool.{Bool, true, false, not, ◌||◌}

@@ -1,5 +1,5 @@
 -- `conversion::put_converted` meets its contract. The invariant: where the loop began with the head put into a lent
--- output, the first j records are put (`Putting`). The measure is what is left of the count. Assumes nothing.
+-- output, the first j records are put (`Putting`). Assumes nothing.
 use Prim.Native.Nat.{◌≤◌, ◌<◌}
 use mathlib.Core.Path.{ap, subst, ◌∙◌}
 use native.Mathlib.Omega.{arith}
