@@ -74,7 +74,8 @@ module _ (a b y : ℕ) {p q : Point} (heights : p.height ≤ q.height) {v : ℕ}
   line-lower = scaled_up a b p.height y _ d (omega arith) (omega arith)
 
   line-upper : line_tone a b y p q v ≤ scaled a b q.height y
-  line-upper = scaled_down a b q.height y _ d (omega arith) (part_le p.height q.height d (v - p.place) heights (omega arith))
+  line-upper =
+      scaled_down a b q.height y _ d (omega arith) (part_le p.height q.height d (v - p.place) heights (omega arith))
 
 line_mono : (a b y : ℕ) (p q : Point) {v u : ℕ} → v ≤ u → line_tone a b y p q v ≤ line_tone a b y p q u
 line_mono a b y p q {v} {u} vu =

@@ -1,93 +1,98 @@
-// The head of a case: what it calls and with which numbers.
+// The head of a case: what it calls, and what it calls it with.
 
-ghost use Rattle.std.specs.Prelude.{◌<◌};
+use crate::numbers::{long_at, short_at};
+use model::Pass;
+use planes::Shape;
+use tones::RuleNumbers;
 
 // The length of a head.
 pub const HEAD: usize = 38;
 
-// One case. A call uses the fields that it needs; lengths are those of what is lent.
-#[derive(Clone, Copy)]
+// The call that a case makes, by its number.
+#[derive(Clone, Copy, Debug, PartialEq, Eq)]
+pub enum Kind {
+    Intensity,
+    Pass,
+    Recolour,
+    Enhance,
+    List,
+    Passes,
+    Read,
+    Write,
+    Program,
+    House,
+    Convert,
+}
+
+// The kind of a number; a number that stands for none comes back.
+impl TryFrom<u8> for Kind {
+    type Error = u8;
+
+    fn try_from(number: u8) -> Result<Self, u8> {
+        match number {
+            0 => Ok(Self::Intensity),
+            1 => Ok(Self::Pass),
+            2 => Ok(Self::Recolour),
+            3 => Ok(Self::Enhance),
+            4 => Ok(Self::List),
+            5 => Ok(Self::Passes),
+            6 => Ok(Self::Read),
+            7 => Ok(Self::Write),
+            8 => Ok(Self::Program),
+            9 => Ok(Self::House),
+            10 => Ok(Self::Convert),
+            _ => Err(number),
+        }
+    }
+}
+
+// One case. A call uses the fields that it needs; lengths are those of what is lent. Its kind is none where its number
+// stands for none.
+#[derive(Clone, Copy, Debug, PartialEq, Eq)]
 pub struct Case {
-    pub kind: u8,
-    pub a: u8,
-    pub b: u8,
-    pub rule: u8,
-    pub first: u16,
-    pub second: u16,
-    pub area: u32,
+    pub kind: Option<Kind>,
+    pub pass: Pass,
     pub last: u8,
     pub is_same: bool,
     pub marks: usize,
     pub queue: usize,
     pub output: usize,
-    pub w: usize,
-    pub h: usize,
+    pub shape: Shape,
     pub limit: usize,
     pub bytes: usize,
     pub plane: usize,
-    pub segments: u8,
-    pub neighbours: u8,
 }
 
-// The number of two bytes.
-pub fn short_of(low: u8, high: u8) -> u16 {
-    low as u16 + 256 * high as u16
-}
-
-// The number of two 16-bit numbers.
-pub fn long_of(low: u16, high: u16) -> u32 {
-    low as u32 + 65536 * high as u32
-}
-
-// The 16-bit number at index i, low byte first.
-fn short_at(head: &[u8; HEAD], i: usize) -> u16
-    requires { i < 36 }
-{
-    short_of(head[i], head[i + 1])
-}
-
-// The 32-bit number at index i, low byte first.
-fn long_at(head: &[u8; HEAD], i: usize) -> u32
-    requires { i < 34 }
-{
-    long_of(short_at(head, i), short_at(head, i + 2))
-}
-
-// A 16-bit number as a length.
-fn length_at(head: &[u8; HEAD], i: usize) -> usize
-    requires { i < 36 }
-{
-    short_at(head, i) as usize
-}
-
-// A 32-bit number as a size.
-fn size_at(head: &[u8; HEAD], i: usize) -> usize
-    requires { i < 34 }
-{
-    long_at(head, i) as usize
-}
-
-// The case of a head.
-pub fn case_of(head: &[u8; HEAD]) -> Case {
-    Case {
-        kind: head[0],
+// The pass of a head.
+fn pass_of(head: &[u8; HEAD]) -> Pass {
+    Pass {
         a: head[1],
         b: head[2],
-        rule: head[3],
-        first: short_at(head, 4),
-        second: short_at(head, 6),
         area: long_at(head, 8),
-        last: head[12],
-        is_same: head[13] == 1,
-        marks: length_at(head, 14),
-        queue: length_at(head, 16),
-        output: length_at(head, 18),
-        w: size_at(head, 20),
-        h: size_at(head, 24),
-        limit: size_at(head, 28),
-        bytes: length_at(head, 32),
-        plane: length_at(head, 34),
-        segments: head[36],
+        rule: tones::rule_of(RuleNumbers {
+            code: head[3],
+            extra: head[36],
+            first: short_at(head, 4),
+            second: short_at(head, 6),
+        }),
         neighbours: head[37],
+    }
+}
+
+impl From<&[u8; HEAD]> for Case {
+    fn from(head: &[u8; HEAD]) -> Self {
+        Self {
+            kind: Kind::try_from(head[0]).ok(),
+            pass: pass_of(head),
+            last: head[12],
+            is_same: head[13] == 1,
+            marks: usize::from(short_at(head, 14)),
+            queue: usize::from(short_at(head, 16)),
+            output: usize::from(short_at(head, 18)),
+            shape: Shape::new(long_at(head, 20) as usize, long_at(head, 24) as usize),
+            limit: long_at(head, 28) as usize,
+            bytes: usize::from(short_at(head, 32)),
+            plane: usize::from(short_at(head, 34)),
+        }
     }
 }

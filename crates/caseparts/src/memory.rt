@@ -1,77 +1,75 @@
-// Working memory before a call, and what of it a call has changed against the rules.
+// Working memory: what it is before a call, and what of it a call has changed against the rules.
 ghost use Rattle.std.specs.Prelude.{◌≤◌, length};
 
-use model::Answer;
+use crate::head::Case;
+use crate::parts;
+use model::Counts;
+use planes::Refusal;
+use std::array;
+
+// The room for marks and for the queue.
+const MEMORY: usize = 320;
 
 // Entry i of marks before a call.
 fn mark_at(i: usize) -> u8 {
-    ((i % 256 + 1) % 256) as u8
+    ((i % 256) as u8).wrapping_add(1)
 }
 
 // Entry i of the queue before a call.
 fn queued_at(i: usize) -> u32 {
-    (3 * (i % 65536) + 5) as u32
+    3 * (i % 65536) as u32 + 5
 }
 
-// Fills marks as they are before a call.
-pub fn fill_marks(marks: &mut [u8]) {
-    for i in 0..marks.len() {
-        marks[i] = mark_at(i);
-    }
-}
-
-// Fills the queue as it is before a call.
-pub fn fill_queue(queue: &mut [u32]) {
-    for i in 0..queue.len() {
-        queue[i] = queued_at(i);
-    }
-}
-
-// From which entry on marks and queue have to be as before: the plane's length after acceptance, 0 after refusal.
-pub fn kept_from(answer: Answer, plane: usize) -> usize {
-    match answer {
-        Answer::Done(_) => plane,
-        Answer::Refused(_) => 0,
-    }
-}
-
-// 1 for a mark that is not as before, else 0.
-fn mark_strays(mark: u8, i: usize) -> usize
-    ensures { result ≤ 1 }
+// How many entries from index `from` on are not as before a call.
+fn strays<T: Copy + PartialEq, F: Fn(usize) -> T>(entries: &[T], from: usize, before: F) -> usize
+    requires { F.IsAlwaysCallable before }
+    ensures { result ≤ length entries.now }
 {
-    if mark == mark_at(i) { 0 } else { 1 }
+    entries
+        .iter()
+        .enumerate()
+        .skip(from)
+        .filter(|(i, entry)| **entry != before(*i))
+        .count()
 }
 
-// 1 for an entry of the queue that is not as before, else 0.
-fn queued_strays(queued: u32, i: usize) -> usize
-    ensures { result ≤ 1 }
-{
-    if queued == queued_at(i) { 0 } else { 1 }
+// The marks and the queue of a call.
+#[derive(Drop)]
+struct Memory {
+    marks: [u8; MEMORY],
+    queue: [u32; MEMORY],
 }
 
-// How many marks from index `from` on are not as before.
-fn stray_marks(marks: &[u8], from: usize) -> usize
-    ensures { result ≤ length marks.now }
-{
-    let mut count = 0;
-    for i in from..marks.len() {
-        count += mark_strays(marks[i], i);
+impl Memory {
+    // As they are before a call.
+    fn new() -> Self {
+        Self {
+            marks: array::from_fn(mark_at),
+            queue: array::from_fn(queued_at),
+        }
     }
-    count
-}
 
-// How many entries of the queue from index `from` on are not as before.
-fn stray_queue(queue: &[u32], from: usize) -> usize
-    ensures { result ≤ length queue.now }
-{
-    let mut count = 0;
-    for i in from..queue.len() {
-        count += queued_strays(queue[i], i);
+    // How many entries from index `from` on are not as before a call.
+    fn strays(&self, from: usize) -> usize {
+        strays(&self.marks, from, mark_at) + strays(&self.queue, from, queued_at)
     }
-    count
 }
 
-// How many entries of marks and queue had to stay and did not.
-pub fn strays(marks: &[u8], queue: &[u32], from: usize) -> usize {
-    stray_marks(marks, from) + stray_queue(queue, from)
+// What a call on a plane answers to which the marks and the queue of the case are lent too, and how many of their
+// entries had to stay and did not: after acceptance those from the plane's length on, after refusal all of them.
+pub fn lent<F: FnOnce(&mut [u8], &mut [u8], &mut [u32]) -> Result<Counts, Refusal>>(
+    case: Case,
+    plane: &mut [u8],
+    call: F,
+) -> (Result<Counts, Refusal>, usize)
+    requires { F.IsAlwaysCallable call }
+{
+    let mut memory = Memory::new();
+    let answer = call(
+        plane,
+        parts::front(&mut memory.marks, case.marks),
+        parts::front(&mut memory.queue, case.queue),
+    );
+    let from = answer.map_or(0, |_| plane.len());
+    (answer, memory.strays(from))
 }

@@ -11,8 +11,8 @@
 mod calls;
 mod records;
 
-use caseparts::head::{Case, HEAD};
-use caseparts::{head, lines, parts};
+use caseparts::head::{Case, HEAD, Kind};
+use caseparts::parts;
 use std::io;
 use std::io::{Read, Write};
 
@@ -24,37 +24,25 @@ const PLANE: usize = 288;
 // How many cases there are at most.
 const CASES: usize = 100000;
 
-// A case has left this many bytes of the plane, or there was no further case.
-#[derive(Clone, Copy)]
-enum Left {
-    Plane(usize),
-    Nothing,
-}
-
 // Makes the call of a case. Other kinds of cases are not run here; their line is empty.
 fn answer<W: Write>(out: &mut W, case: Case, bytes: &[u8], plane: &mut [u8]) -> io::Result<()> {
-    let kind = case.kind;
-    match kind {
-        0 => calls::intensity(out, case, bytes, plane),
-        1 => calls::pass(out, case, plane),
-        2 => calls::recolour(out, case, bytes, plane),
-        3 => calls::enhance(out, case, bytes, plane),
-        4 => calls::list(out, case, bytes, plane),
-        5 => calls::passes(out, case, bytes, plane),
-        6 => calls::read(out, case, bytes),
-        7 => calls::write(out, case, bytes),
-        9 => calls::house(out, case, bytes, plane),
-        10 => calls::convert(out, case, bytes),
-        _ => lines::end(out),
+    match case.kind {
+        Some(Kind::Intensity) => calls::intensity(out, case, bytes, plane),
+        Some(Kind::Pass) => calls::pass(out, case, plane),
+        Some(Kind::Recolour) => calls::recolour(out, case, bytes, plane),
+        Some(Kind::Enhance) => calls::enhance(out, case, bytes, plane),
+        Some(Kind::List) => calls::list(out, case, bytes, plane),
+        Some(Kind::Passes) => calls::passes(out, case, bytes, plane),
+        Some(Kind::Read) => calls::read(out, case, bytes),
+        Some(Kind::Write) => calls::write(out, case, bytes),
+        Some(Kind::House) => calls::house(out, case, bytes, plane),
+        Some(Kind::Convert) => calls::convert(out, case, bytes),
+        Some(Kind::Program) | None => writeln!(out),
     }
 }
 
-// The length of the plane of a case: its own, or the one that the case before has left.
-fn plane_length(case: Case, left: usize) -> usize {
-    if case.is_same { left } else { case.plane }
-}
-
-// Reads the bytes and the plane of a case and answers it. The length of the plane that it leaves.
+// Reads the bytes and the plane of a case and answers it. The length of its plane, which is the one that the case before
+// has left, if the case has none of its own.
 fn answer_next<R: Read, W: Write>(
     input: &mut R,
     out: &mut W,
@@ -63,33 +51,28 @@ fn answer_next<R: Read, W: Write>(
     left: usize,
 ) -> io::Result<usize> {
     let mut room = [0u8; BYTES];
-    inputs::read_full(input, parts::front(&mut room, case.bytes));
+    let bytes = parts::front(&mut room, case.bytes);
+    inputs::read_full(input, bytes);
     inputs::read_full(input, parts::front(plane, case.plane));
-    let length = plane_length(case, left);
-    answer(
-        out,
-        case,
-        parts::front_shared(&room, case.bytes),
-        parts::front(plane, length),
-    )?;
+    let length = if case.is_same { left } else { case.plane };
+    answer(out, case, bytes, parts::front(plane, length))?;
     Ok(length)
 }
 
-// Reads the head of a case and answers the case.
+// Reads the head of a case and answers the case. The length of the plane that it leaves, or none where there was no
+// further case.
 fn next<R: Read, W: Write>(
     input: &mut R,
     out: &mut W,
     plane: &mut [u8],
     left: usize,
-) -> io::Result<Left> {
-    let mut bytes = [0u8; HEAD];
-    let got = inputs::read_full(input, &mut bytes);
-    if got < HEAD {
-        return Ok(Left::Nothing);
+) -> io::Result<Option<usize>> {
+    let mut head = [0u8; HEAD];
+    if inputs::read_full(input, &mut head) < HEAD {
+        return Ok(None);
     }
-    let case = head::case_of(&bytes);
-    let length = answer_next(input, out, case, plane, left)?;
-    Ok(Left::Plane(length))
+    let length = answer_next(input, out, Case::from(&head), plane, left)?;
+    Ok(Some(length))
 }
 
 // Answers all cases of the input.
@@ -97,15 +80,10 @@ fn answer_all<R: Read, W: Write>(input: &mut R, out: &mut W) -> io::Result<()> {
     let mut plane = [0u8; PLANE];
     let mut left = 0;
     for _ in 0..CASES {
-        let now_left = next(input, out, &mut plane, left)?;
-        match now_left {
-            Left::Plane(length) => {
-                left = length;
-            }
-            Left::Nothing => {
-                return Ok(());
-            }
-        }
+        let Some(length) = next(input, out, &mut plane, left)? else {
+            break;
+        };
+        left = length;
     }
     Ok(())
 }

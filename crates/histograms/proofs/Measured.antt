@@ -73,7 +73,8 @@ tally_begun vs i v t = omega (arith, tally_few v t, length-take i vs, min-le_lef
 -- the first value, and then a list's values one by one: the first counts once more
 pub least_taken : (x : ℕ) (vs : List ℕ) (i : ℕ) → i < length vs
     → least (x ∷ take (i + 1) vs) ≡ min (least (x ∷ take i vs)) (at vs i)
-least_taken x vs i lt = ap (λ us. least (x ∷ us)) (take_more vs i lt) ∙ least_snoc (x ∷ take i vs) (at vs i) (omega arith)
+least_taken x vs i lt =
+    ap (λ us. least (x ∷ us)) (take_more vs i lt) ∙ least_snoc (x ∷ take i vs) (at vs i) (omega arith)
 
 pub greatest_taken : (vs : List ℕ) (i : ℕ) → i < length vs
     → greatest (take (i + 1) vs) ≡ max (greatest (take i vs)) (at vs i)

@@ -18,7 +18,10 @@ filled_more {f} {plane} {queue} {table} i v x h is room eq =
     record {
       entry = λ j ji. at_set (λ n. n ≡ f (value j)) table v (value j) x room
           (λ (e : value j ≡ v). eq ∙ ap f (sym e))
-          (λ o. ⊎_elim (λ (e : j ≡ i). absurd (o (ap value e ∙ sym is))) (λ n. h.entry j (omega arith)) (eq_or_not j i));
+          (λ o. ⊎_elim
+          (λ (e : j ≡ i). absurd (o (ap value e ∙ sym is)))
+          (λ n. h.entry j (omega arith))
+          (eq_or_not j i));
     }
 
 -- entries of all values of [a, b], where a component has its values, are entries of the listed pixels' values

@@ -10,19 +10,12 @@
 // One byte more than an input may have, so that a longer one is seen to be longer.
 const BUFFER: usize = frames::INPUT + 1;
 
-// Says on standard error that the output was not written whole, where it was not.
-fn tell(rt: &impl Eprint, whole: bool) {
-    if whole {
-        return;
-    }
-    let _ = rt.eprintln("mlhe: output not written whole");
-}
-
 fn main(rt: HostRuntime) {
     let mut input = [0u8; BUFFER];
     let mut output = [0u8; frames::OUTPUT];
     let got = inputs::read_full(&mut rt.stdin(), &mut input);
     let size = frames::program_output(&input[..got], &mut output);
-    let whole = rt.write_all(&output[..size]).is_ok();
-    tell(&rt, whole);
+    if rt.write_all(&output[..size]).is_err() {
+        let _ = rt.eprintln("mlhe: output not written whole");
+    }
 }

@@ -18,7 +18,8 @@ next : (c : After-next_point-q) →
     let a = c.args.curve in
     Next a.s a.sums.now a.c a.a a.b c.loop-i.i c.loop-i.p c.next_point-q.result
 next c =
-    next_of c.args.curve.cumulative (omega arith) c.loop-i.invariant.reached c.loop-i.invariant.ahead c.next_point-q.ensures
+    let inv = c.loop-i.invariant in
+    next_of c.args.curve.cumulative (omega arith) inv.reached inv.ahead c.next_point-q.ensures
 
 pub fill_line-requires : goal.fill_line-requires
 fill_line-requires c =
@@ -35,8 +36,10 @@ loop-i-preserved c =
     let i = c.loop-i.i in
     let inv = c.loop-i.invariant in
     let q = next (goal.at.loop-i-preserved c).After-next_point-q in
-    let onward = onward_next a.s a.a a.b c.args.y (at a.sums.now) a.c.size i c.loop-i.p _ c.next_point-q.ensures inv.onward q.after in
-    let line = onward_line a.s a.a a.b c.args.y (at a.sums.now) a.c.size i c.loop-i.p _ c.next_point-q.ensures inv.onward (omega arith) in
+    let sums = at a.sums.now in
+    let is = c.next_point-q.ensures in
+    let onward = onward_next a.s a.a a.b c.args.y sums a.c.size i c.loop-i.p _ is inv.onward q.after in
+    let line = onward_line a.s a.a a.b c.args.y sums a.c.size i c.loop-i.p _ is inv.onward (omega arith) in
     let filled = rw (c.max.ensures, c.from-least.ensures) at c.fill_line.ensures in
     record {
       reached = q.reached;

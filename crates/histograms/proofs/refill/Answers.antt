@@ -6,7 +6,9 @@ use Rattle.histograms.proofs.refill.Goals as goal
 pub loop-v-preserved : goal.loop-v-preserved
 loop-v-preserved g c = record {
   within = omega arith;
-  filled = λ f h. refilled_more (c.loop-v.invariant.filled f h) c.loop-v.auto.v (omega arith) (h _ _ c.loop-v.auto.v (omega arith) c.tone.ensures);
+  filled = λ f h.
+      let from = c.loop-v.auto.v in
+      refilled_more (c.loop-v.invariant.filled f h) from (omega arith) (h _ _ from (omega arith) c.tone.ensures);
 }
 
 pub returns : goal.returns

@@ -12,12 +12,17 @@ pub overflow_cast-n : goal.overflow_cast-n
 overflow_cast-n c =
     let i = c.loop-n.n-index in
     let old = c.loop-n.invariant.old i (λ _ g. omega arith) in
-    let few = term_le (at c.args.counts.now) {a = c.args.first} {v = c.args.first + i} {b = c.args.last} (omega arith) (grind (arith, common_steps)) in
+    let v = c.args.first + i in
+    let few = term_le (at c.args.counts.now) {a = c.args.first} {v = v} {b = c.args.last} (omega arith)
+    (grind (arith, common_steps)) in
     grind (arith, common_steps, few, old)
 
 pub returns : goal.returns
 returns c =
+    let a = c.from.result in
+    let k = c.from-2.result + 1 - a in
     let inv = c.loop-n.invariant in
-    refilled_at _ _ (refilled_part c.from.result (c.from-2.result + 1 - c.from.result) _ _ (omega arith) (grind (arith, common_steps, inv.size))
-    (λ j jk. inv.new j (omega arith) (grind (arith, common_steps)) ∙ ap (λ n. min (1000 * n) c.args.most) (search (rules, places))))
+    refilled_at _ _ (refilled_part a k _ _ (omega arith) (grind (arith, common_steps, inv.size)) (λ j jk.
+    inv.new j (omega arith) (grind (arith, common_steps))
+    ∙ ap (λ n. min (1000 * n) c.args.most) (search (rules, places))))
     c.from.ensures (omega arith)

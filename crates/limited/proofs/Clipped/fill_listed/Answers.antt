@@ -8,7 +8,8 @@ use Rattle.limited.proofs.Clipped.fill_listed.Goals as goal
 pub loop-p-preserved : goal.loop-p-preserved
 loop-p-preserved c =
     let within = c.requires.within c.loop-p.p-index (grind (arith, common_steps)) in
+    let inv = c.loop-p.invariant in
     record {
-      outside = outside_more _ c.loop-p.invariant.outside (grind (arith, common_steps, within)) (grind (arith, common_steps, within));
-      filled = filled_more _ _ _ c.loop-p.invariant.filled (grind (arith, common_steps)) (omega arith) c.tone.ensures;
+      outside = outside_more _ inv.outside (grind (arith, common_steps, within)) (grind (arith, common_steps, within));
+      filled = filled_more _ _ _ inv.filled (grind (arith, common_steps)) (omega arith) c.tone.ensures;
     }

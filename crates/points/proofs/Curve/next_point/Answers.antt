@@ -12,7 +12,8 @@ overflow_add-height c =
       arith,
       reached_few c.requires.1 (omega arith) (omega arith) (omega arith),
       c.grown.ensures,
-      growth_few a.s (c.find-place.result - c.args.p.place) c.saturating_sub.result (omega arith) (omega arith) (omega arith),
+      growth_few a.s (c.find-place.result - c.args.p.place) c.saturating_sub.result
+          (omega arith) (omega arith) (omega arith),
     )
 
 pub returns : goal.returns
