@@ -21,7 +21,7 @@ const BYTES: usize = 16416;
 
 const PLANE: usize = 288;
 
-// How many cases there are at most.
+// How many cases are answered at most: no measure falls where an input never ends.
 const CASES: usize = 100000;
 
 // Makes the call of a case. Other kinds of cases are not run here; their line is empty.
