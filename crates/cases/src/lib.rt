@@ -41,8 +41,8 @@ fn answer<W: Write>(out: &mut W, case: Case, bytes: &[u8], plane: &mut [u8]) -> 
     }
 }
 
-// Reads the bytes and the plane of a case and answers it. The length of its plane, which is the one that the case before
-// has left, if the case has none of its own.
+// Reads the bytes and the plane of a case and answers it. The length of its plane, which is the one that the case
+// before has left, if the case has none of its own.
 fn answer_next<R: Read, W: Write>(
     input: &mut R,
     out: &mut W,
