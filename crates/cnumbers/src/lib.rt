@@ -9,7 +9,7 @@
 #![tactic(auto)]
 
 ghost use Rattle.std.specs.Prelude.{◌≡◌, ◌≤◌, IfOk, length};
-ghost use Rattle.planes.specs.Refusals.{number, number_in};
+ghost use Rattle.planes.specs.Refusals.{number_in};
 ghost use Rattle.netpbm.specs.Reading.{answer_of};
 ghost use Rattle.cnumbers.specs.Numbers.{encoded, status_number, answer_number, counts_after, counts_refusal};
 ghost use Rattle.cnumbers.specs.Numbers.{written_number, Short, read_number, numbers_after};
@@ -18,11 +18,11 @@ use model::Counts;
 use netpbm::Header;
 use planes::Refusal;
 
-// A refusal as a number.
-pub fn refused(refusal: Refusal) -> i64
-    ensures { result ≡ encoded (number refusal) 0 }
+// A refusal as a number, by its own; 0 for none.
+pub fn refused(k: u8) -> i64
+    ensures { result ≡ encoded k 0 }
 {
-    -i64::from(refusal.number())
+    -i64::from(k)
 }
 
 // The result of intensity or recolouring as a number.
@@ -31,7 +31,7 @@ pub fn status_number(status: Result<(), Refusal>) -> i64
 {
     match status {
         Ok(()) => 0,
-        Err(refusal) => refused(refusal),
+        Err(refusal) => refused(refusal.number()),
     }
 }
 
@@ -42,7 +42,7 @@ pub fn written_number(written: Result<usize, Refusal>) -> i64
 {
     match written {
         Ok(size) => size as i64,
-        Err(refusal) => refused(refusal),
+        Err(refusal) => refused(refusal.number()),
     }
 }
 
@@ -73,7 +73,7 @@ pub fn put_counts(numbers: &mut [usize], answer: Result<Counts, Refusal>) -> i64
             numbers[1] = counts.kept as usize;
             0
         }
-        Err(refusal) => refused(refusal),
+        Err(refusal) => refused(refusal.number()),
     }
 }
 
@@ -86,13 +86,13 @@ pub fn put_header(numbers: &mut [usize], header: Result<Header, Refusal>) -> i64
     match header {
         Ok(Header { w, h, offset }) => {
             if numbers.len() < 3 {
-                return refused(Refusal::Output);
+                return refused(Refusal::Output.number());
             }
             numbers[0] = w;
             numbers[1] = h;
             numbers[2] = offset;
             0
         }
-        Err(refusal) => refused(refusal),
+        Err(refusal) => refused(refusal.number()),
     }
 }

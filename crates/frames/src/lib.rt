@@ -21,10 +21,10 @@ pub fn program_output(input: &[u8], output: &mut [u8; OUTPUT]) -> usize
     ensures { Emitted (program_output input.now) output.old result output.new }
 {
     if INPUT < input.len() {
-        return printing::put_refusal(Refusal::Trailing, output);
+        return printing::put_refusal(Refusal::Trailing.number(), output);
     }
     match netpbm::read_within(input, PIXELS) {
         Ok(header) => printing::put_enhanced(input, header, output),
-        Err(refusal) => printing::put_refusal(refusal, output),
+        Err(refusal) => printing::put_refusal(refusal.number(), output),
     }
 }

@@ -17,10 +17,10 @@ use lib.Seq.{take_all}
 use Rattle.planes.specs.Lists.{at}
 use native.Mathlib.Numerals.{add-one}
 use Rattle.gaps.specs.Bytes.{ends_comment, move_for}
-use Rattle.gaps.specs.declared.Move.TheVariants.{Skip, Comment, Stop}
+use Rattle.gaps.specs.declared.Move.TheVariants.{Take, Skip, Comment, Stop}
 use Rattle.gaps.specs.Parsers.{failed, parsed, next}
 use Rattle.gaps.specs.Gaps.{rest_of_comment, pieces, comment_and_then, begun, gap}
-use Rattle.gaps.proofs.Bytes.{skipped, opened, stopped}
+use Rattle.gaps.proofs.Bytes.{skipped, opened, taken, stopped}
 use Rattle.gaps.proofs.Gaps.{pieces_white, pieces_sign, pieces_stop, pieces_none}
 use Rattle.gaps.proofs.Gaps.{comment_end, comment_text, comment_unended}
 
@@ -115,12 +115,17 @@ module _ (bytes : List ℕ) {b : ℕ} {after : List ℕ} (is : bytes ≡ b ∷ a
       let none = stopped b e in
       rw is (pieces_stop b after none.0 none.1)
 
+  pub pieces_digit : {d : ℕ} → move_for b ≡ Take d → pieces bytes ≡ parsed tt bytes
+  pieces_digit e =
+      let none = taken b e in
+      rw is (pieces_stop b after none.0 none.1)
+
 pub pieces_end : (bytes : List ℕ) → length bytes ≡ 0 → pieces bytes ≡ parsed tt bytes
 pieces_end [] e = pieces_none
 pieces_end (b ∷ bytes) e = absurd (omega arith)
 
 -- what finds what the pieces leave
-pub ruleset steps = (pieces_skip, pieces_unended, pieces_comment, pieces_absent, pieces_end, rest_shorter)
+pub ruleset steps = (pieces_skip, pieces_unended, pieces_comment, pieces_absent, pieces_digit, pieces_end, rest_shorter)
 
 -- ## A gap
 
@@ -147,5 +152,14 @@ gap_absent (x ∷ bytes) {b} is e =
     let begins : begun (x ∷ bytes) ≡ false = rw (← same, none.0, none.1) in
     rw begins
 
+pub gap_digit : (bytes : List ℕ) {b d : ℕ} → Some b ≡ slice_get bytes 0 → move_for b ≡ Take d → gap bytes ≡ failed
+unfolding gap
+gap_digit [] is e = refl
+gap_digit (x ∷ bytes) {b} is e =
+    let same : b ≡ x = cc in
+    let none = taken b e in
+    let begins : begun (x ∷ bytes) ≡ false = rw (← same, none.0, none.1) in
+    rw begins
+
 -- what finds whether a gap begins
-pub ruleset begins = (gap_present, gap_absent)
+pub ruleset begins = (gap_present, gap_absent, gap_digit)

@@ -1,7 +1,8 @@
 // What stands before each number of a P6 header: whitespace and comments.
 //
-// sorted     the header reader's next move, by the next byte
-// skip_gap   what follows the whitespace and the comments that begin the bytes
+// sorted      the header reader's next move, by the next byte
+// skip_gap    what follows the whitespace and the comments that begin the bytes, if any do
+// skip_some   the same, where some do
 #![tactic(auto)]
 
 ghost use Rattle.std.specs.Prelude.{◌≡◌, position};
@@ -12,6 +13,8 @@ ghost use Rattle.gaps.specs.Parsers.{left};
 // What the header reader does next, by the next byte.
 #[derive(Clone, Copy, Debug, PartialEq, Eq)]
 pub enum Move {
+    // A digit of this value: take it into the number.
+    Take(u8),
     // Whitespace: step over it.
     Skip,
     // A number sign: go on after the comment that it opens.
@@ -20,16 +23,19 @@ pub enum Move {
     Stop,
 }
 
-// Header bytes sorted into whitespace (TAB, LF, VT, FF and CR, which are 9 to 13, and space), the number sign, which
-// opens a comment, and the rest.
+// Header bytes sorted into digits, whitespace (TAB, LF, VT, FF and CR, which are 9 to 13, and space), the number sign,
+// which opens a comment, and the rest. Digits are told first, so that none waits for the tests of the others.
 #[tactic(auto, using(crate::proofs::Bytes::moves))]
 pub fn sorted(byte: u8) -> Move
     ensures { result ≡ move_for byte }
 {
     match byte {
-        b'\t'..=b'\r' | b' ' => Move::Skip,
-        b'#' => Move::Comment,
-        _ => Move::Stop,
+        b'0'..=b'9' => Move::Take(byte - b'0'),
+        _ => match byte {
+            b'\t'..=b'\r' | b' ' => Move::Skip,
+            b'#' => Move::Comment,
+            _ => Move::Stop,
+        },
     }
 }
 
@@ -59,7 +65,7 @@ fn skip_comment(bytes: &[u8]) -> Option<&[u8]>
 
 // What follows any whitespace and comments that begin the bytes, unless a comment has no end.
 #[tactic(auto, using(crate::proofs::Comments::steps))]
-fn skip_pieces(bytes: &[u8]) -> Option<&[u8]>
+pub fn skip_gap(bytes: &[u8]) -> Option<&[u8]>
     ensures { left result ≡ pieces bytes.now }
 {
     let mut rest = bytes;
@@ -67,6 +73,7 @@ fn skip_pieces(bytes: &[u8]) -> Option<&[u8]>
         match sorted(*byte) {
             Move::Skip => rest = after,
             Move::Comment => rest = skip_comment(after)?,
+            Move::Take(_) => return Some(rest),
             Move::Stop => return Some(rest),
         }
     }
@@ -75,11 +82,11 @@ fn skip_pieces(bytes: &[u8]) -> Option<&[u8]>
 
 // The same, where there are some.
 #[tactic(auto, using(crate::proofs::Comments::begins), unfolding(crate::specs::Gaps::gap))]
-pub fn skip_gap(bytes: &[u8]) -> Option<&[u8]>
+pub fn skip_some(bytes: &[u8]) -> Option<&[u8]>
     ensures { left result ≡ gap bytes.now }
 {
     match sorted(*bytes.first()?) {
-        Move::Skip | Move::Comment => skip_pieces(bytes),
-        Move::Stop => None,
+        Move::Skip | Move::Comment => skip_gap(bytes),
+        Move::Take(_) | Move::Stop => None,
     }
 }

@@ -65,7 +65,7 @@ fn read_number(bytes: &[u8]) -> Option<(usize, &[u8])>
 fn read_field(bytes: &[u8]) -> Option<(usize, &[u8])>
     ensures { made result ≡ field gap bytes.now }
 {
-    read_number(gaps::skip_gap(bytes)?)
+    read_number(gaps::skip_some(bytes)?)
 }
 
 // What follows one whitespace byte; a comment does not do.

@@ -43,7 +43,7 @@ fn run_records(
     };
     for j in 0..listformat::count_of(list) {
         let pass = listchecks::pass_of(list, j);
-        counts = passturns::turn(plane, marks, queue, shape, pass, counts);
+        counts = passturns::step(plane, marks, queue, shape, pass, counts);
     }
     counts
 }
@@ -106,7 +106,7 @@ fn run_each(
         kept: 0,
     };
     for pass in passes {
-        counts = passturns::turn(plane, marks, queue, shape, *pass, counts);
+        counts = passturns::step(plane, marks, queue, shape, *pass, counts);
     }
     counts
 }

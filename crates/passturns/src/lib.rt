@@ -1,6 +1,6 @@
 // One turn of a run over passes that are known to be accepted, kept in a file or in memory.
 //
-// turn   runs the pass that is due, and adds its counts to those of the passes before it
+// step   runs the pass that is due, and adds its counts to those of the passes before it
 #![tactic(auto)]
 
 ghost use Rattle.model.specs.Outcomes.{came};
@@ -10,7 +10,7 @@ use model::{Counts, Pass};
 use planes::Shape;
 
 // Runs the pass over the plane, and answers the sums of both counts, of the passes before it and of this one.
-pub fn turn(
+pub fn step(
     plane: &mut [u8],
     marks: &mut [u8],
     queue: &mut [u32],

@@ -5,13 +5,12 @@
 #![tactic(auto)]
 
 ghost use Rattle.std.specs.Prelude.{drop};
-ghost use Rattle.planes.specs.Refusals.{number};
 ghost use Rattle.netpbm.specs.Frames.{IsFrame};
 ghost use Rattle.printing.specs.Printing.{greatest_frame, refusal_line, enhanced_frame, Emitted};
 
 use enhance::Settings;
 use netpbm::Header;
-use planes::{Refusal, Shape};
+use planes::Shape;
 
 // The greatest number of pixels of a frame.
 pub const PIXELS: usize = 16384;
@@ -19,13 +18,13 @@ pub const PIXELS: usize = 16384;
 // Room for any output: a frame is written in no more bytes than the longest input has.
 pub const OUTPUT: usize = 65536;
 
-// Writes the line of a refusal, and answers its length.
+// Writes the line of a refusal by its number, and answers its length.
 #[tactic(auto, using(texts::proofs::Decimal::decimal_few))]
-pub fn put_refusal(refusal: Refusal, output: &mut [u8; OUTPUT]) -> usize
-    ensures { Emitted (refusal_line (number refusal)) output.old result output.new }
+pub fn put_refusal(number: u8, output: &mut [u8; OUTPUT]) -> usize
+    ensures { Emitted (refusal_line number) output.old result output.new }
 {
     let after_word = texts::put_bytes(output, 0, b"refused ");
-    let after_number = texts::put_number(output, after_word, usize::from(refusal.number()));
+    let after_number = texts::put_number(output, after_word, usize::from(number));
     texts::put_bytes(output, after_number, b"\n")
 }
 

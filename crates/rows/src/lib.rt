@@ -1,8 +1,10 @@
 // Rows of a plane of marks: the row of a pixel, and the pixels of a row that have one code.
 //
+// inverse     the inverse of a width
+// row_of      the row of a pixel, by multiplication with the inverse in place of a division by the width
 // Grid        the rows of a plane: its shape, and the inverse of its width
 //   new         those of a shape
-//   row_of      the row of a pixel, by multiplication with the inverse in place of a division by the width
+//   row_of      the row of a pixel
 //   reach       takes a pixel with its run: the pixels of its row that have the code and follow one another
 // skip        passes pixels that have not the code, by stretches of 64
 // run_start   the first pixel of a run
@@ -14,11 +16,29 @@
 ghost use Rattle.std.specs.Prelude.{◌+◌, ◌/◌, ◌≤◌, ◌<◌, ◌≡◌, length};
 ghost use Rattle.planes.specs.Refusals.{greatest_pixels};
 ghost use Rattle.planes.specs.Shapes.{SizedShape};
-ghost use Rattle.rows.specs.Rows.{inverse_of, row_end};
+ghost use Rattle.rows.specs.Rows.{Width, inverse_of, row_end};
 ghost use Rattle.rows.specs.Stretches.{Tells, Skipped};
 ghost use Rattle.rows.specs.Runs.{Room, RunStart, RunTaken, Reached};
 
 use planes::Shape;
+
+// The inverse of the width w: the least number whose product with w is more than 2 ^ 32.
+#[tactic(auto, unfolding(crate::specs::Rows::inverse_of))]
+pub fn inverse(w: usize) -> u64
+    requires { 1 ≤ w }
+    ensures { result ≡ inverse_of w }
+{
+    4294967296 / w as u64 + 1
+}
+
+// The row of the pixel q, in rows of w pixels, by the inverse of w: any width that is not refused, whatever the rows.
+#[tactic(auto, using(crate::proofs::Rows::product_le, crate::proofs::Rows::row_by_inverse))]
+pub fn row_of(q: usize, w: usize, inverse: u64) -> usize
+    requires { Width w inverse × (q < greatest_pixels) }
+    ensures { result ≡ q / w }
+{
+    (q as u64 * inverse / 4294967296) as usize
+}
 
 // The rows of a plane whose shape is not refused. The inverse of the width is the least number whose product with it is
 // more than 2 ^ 32.
@@ -32,24 +52,22 @@ pub struct Grid {
 
 impl Grid {
     // The grid of a shape that is not refused.
-    #[tactic(auto, unfolding(crate::specs::Rows::inverse_of))]
     pub fn new(shape: Shape) -> Self
         requires { SizedShape shape }
         ensures { result.shape ≡ shape }
     {
         Grid {
             shape,
-            inverse: 4294967296 / shape.w as u64 + 1,
+            inverse: inverse(shape.w),
         }
     }
 
     // The row of the pixel q.
-    #[tactic(auto, using(crate::proofs::Rows::product_le, crate::proofs::Rows::row_by_inverse))]
     pub fn row_of(self, q: usize) -> usize
         requires { q < greatest_pixels }
         ensures { result ≡ q / self.shape.w }
     {
-        (q as u64 * self.inverse / 4294967296) as usize
+        row_of(q, self.shape.w, self.inverse)
     }
 
     // Takes the pixel q, if it has the code, with the run of its row. The new tail.

@@ -8,7 +8,7 @@ use Rattle.frames.proofs.Program.{long_emitted, read_emitted}
 use Rattle.frames.proofs.program_output.Goals as goal
 
 pub returns-then-input-gt-INPUT : goal.returns-then-input-gt-INPUT
-returns-then-input-gt-INPUT c = long_emitted _ c.if-input-gt-INPUT.true c.put_refusal.ensures
+returns-then-input-gt-INPUT c = long_emitted _ c.if-input-gt-INPUT.true (rw c.number.ensures at c.put_refusal.ensures)
 
 pub put_enhanced-requires : goal.put_enhanced-requires
 put_enhanced-requires c =
@@ -23,4 +23,4 @@ returns-in-Ok c =
 pub returns-in-Err : goal.returns-in-Err
 returns-in-Err c =
     let answer = sym (read_back _ _ c.read_within.result c.read_within.ensures) in
-    read_emitted _ c.if-input-gt-INPUT.false (answer ∙ ap answer_of c.in-Err.is) c.put_refusal-in-Err.ensures
+    read_emitted _ c.if-input-gt-INPUT.false (answer ∙ ap answer_of c.in-Err.is) (rw c.number-in-Err.ensures at c.put_refusal-in-Err.ensures)

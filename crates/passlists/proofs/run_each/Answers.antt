@@ -7,15 +7,15 @@ use Rattle.passlists.proofs.run_each.Goals as goal
 pub loop-pass-init : goal.loop-pass-init
 loop-pass-init c = along_none
 
-pub turn-counts-requires : goal.turn-counts-requires
-turn-counts-requires c =
+pub step-counts-requires : goal.step-counts-requires
+step-counts-requires c =
     let due = c.loop-pass-test.true in
     along_asks c.loop-pass.invariant (get_or_default c.args.passes.now _ _ _ due) due c.requires
 
 pub loop-pass-preserved : goal.loop-pass-preserved
 loop-pass-preserved c =
     let due = c.loop-pass-test.true in
-    along_step c.loop-pass.invariant (get_or_default c.args.passes.now _ _ _ due) due c.turn-counts.ensures
+    along_step c.loop-pass.invariant (get_or_default c.args.passes.now _ _ _ due) due c.step-counts.ensures
 
 pub returns : goal.returns
 returns c = along_all c.loop-pass.invariant c.loop-pass-test.false

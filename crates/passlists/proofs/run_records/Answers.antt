@@ -15,8 +15,8 @@ loop-j-init c = along_none
 pub pass_of-pass-requires : goal.pass_of-pass-requires
 pass_of-pass-requires c = (list_head c.requires, omega arith)
 
-pub turn-counts-requires : goal.turn-counts-requires
-turn-counts-requires c =
+pub step-counts-requires : goal.step-counts-requires
+step-counts-requires c =
     let list = c.args.list.now in
     let due : c.loop-j.j < count_of list = omega arith in
     along_asks c.loop-j.invariant (c.pass_of-pass.ensures ∙ sym (passes_of_at list c.loop-j.j due))
@@ -27,7 +27,7 @@ loop-j-preserved c =
     let list = c.args.list.now in
     let due : c.loop-j.j < count_of list = omega arith in
     along_step c.loop-j.invariant (c.pass_of-pass.ensures ∙ sym (passes_of_at list c.loop-j.j due))
-    (omega (arith, length_passes_of list)) c.turn-counts.ensures
+    (omega (arith, length_passes_of list)) c.step-counts.ensures
 
 pub returns : goal.returns
 returns c = along_all c.loop-j.invariant (omega (arith, length_passes_of c.args.list.now))

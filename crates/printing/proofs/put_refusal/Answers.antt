@@ -12,4 +12,4 @@ unfolding refusal_line
 returns c =
     let digits = decimal_few c.from.result (omega arith) in
     let numbered = put_more c.put_bytes-after_word.ensures c.put_number-after_number.ensures (omega arith) in
-    rw (← c.number.ensures, ← c.from.ensures) (emitted_put (put_more numbered c.put_bytes.ensures (omega arith)))
+    rw (← c.from.ensures) (emitted_put (put_more numbered c.put_bytes.ensures (omega arith)))
