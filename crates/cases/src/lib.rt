@@ -21,7 +21,7 @@ const BYTES: usize = 16416;
 
 const PLANE: usize = 288;
 
-// How many cases there are at most.
+// How many cases are answered at most: no measure falls where an input never ends.
 const CASES: usize = 100000;
 
 // Makes the call of a case. Other kinds of cases are not run here; their line is empty.
@@ -41,8 +41,8 @@ fn answer<W: Write>(out: &mut W, case: Case, bytes: &[u8], plane: &mut [u8]) -> 
     }
 }
 
-// Reads the bytes and the plane of a case and answers it. The length of its plane, which is the one that the case before
-// has left, if the case has none of its own.
+// Reads the bytes and the plane of a case and answers it. The length of its plane, which is the one that the case
+// before has left, if the case has none of its own.
 fn answer_next<R: Read, W: Write>(
     input: &mut R,
     out: &mut W,
