@@ -17,8 +17,7 @@ use Rattle.model.specs.declared.Pass.{Pass}
 use Rattle.model.specs.Neighbourhoods.{pass_neighbours}
 use Rattle.model.specs.Effects.{Effect, nothing, then, pass_effect, run_effect}
 use Rattle.model.specs.declared.Counts.{Counts}
-use Rattle.planes.specs.Replies.{Reply}
-use Rattle.model.specs.Outcomes.{came, Over, Outcome}
+use Rattle.model.specs.Outcomes.{came, Over}
 use Rattle.model.proofs.Order.{length_passed}
 use Rattle.model.proofs.Chains.{ordered}
 use Rattle.model.proofs.Recursion.{then_assoc, nothing_then, then_nothing}
@@ -26,8 +25,9 @@ use Rattle.model.proofs.Sufficient.{run_few}
 use Rattle.listformat.specs.Format.{greatest_count}
 use Rattle.works.specs.declared.Work.{Work}
 use Rattle.works.specs.Works.{Same}
+use Rattle.passes.specs.Works.{Ran}
 use Rattle.passturns.specs.Steps.{further, Countable, StepReady, StepOutcome, Runnable}
-use Rattle.passturns.specs.Turns.{Room, Turned, Ran}
+use Rattle.passturns.specs.Turns.{Room, Turned}
 use Rattle.listchecks.specs.Refusals.{passes_refusal}
 use Rattle.listformat.proofs.Format.{no_pass}
 use Rattle.passlists.proofs.Refusals.{fine_passes, fine_pass}
@@ -184,12 +184,3 @@ module _ {ss : List Pass} {s t : Work} {i : ℕ} {r : Counts} where
 
   pub going_all : Going ss s t i r → length ss ≤ i → Ran (effect_of s.shape ss s.plane.now) s t r
   going_all g l = record { same = g.same; over = along_all g.along l }
-
--- ## After a call that was lent the memory
-
--- the slices that the call was lent end as the memory does
-pub handed_back : {n number : ℕ} {e : Effect} {plane marks queue : List ℕ} {reply : Reply}
-    {plane₁ marks₁ queue₁ plane₂ marks₂ queue₂ : List ℕ} → plane₂ ≡ plane₁ → marks₂ ≡ marks₁ → queue₂ ≡ queue₁
-    → Outcome n number e plane marks queue reply plane₁ marks₁ queue₁
-    → Outcome n number e plane marks queue reply plane₂ marks₂ queue₂
-handed_back p m q o = rw p (rw m (rw q o))

@@ -19,7 +19,7 @@ ghost use Rattle.model.specs.Outcomes.{answer_reply};
 ghost use Rattle.listformat.specs.Format.{passes_of};
 ghost use Rattle.listchecks.specs.Refusals.{list_refusal, passes_refusal};
 ghost use Rattle.conversion.specs.Conversion.{ConvertOutcome};
-ghost use Rattle.passturns.specs.Turns.{Ran};
+ghost use Rattle.passes.specs.Works.{Ran};
 ghost use Rattle.passlists.specs.Outcomes.{ListOutcome, PassesOutcome};
 
 use model::{Counts, Pass};

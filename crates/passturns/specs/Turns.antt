@@ -1,13 +1,10 @@
--- What one pass and several do to the memory that a run works on. Definitions only.
+-- What one pass does to the memory that a run works on. Definitions only.
 --
 --   Room     there is room for the counts
 --   Turned   what one pass does, after those before it
---   Ran      what a run does
-use Rattle.planes.specs.Shapes.{pixels}
 use Rattle.model.specs.declared.Pass.{Pass}
 use Rattle.model.specs.declared.Counts.{Counts}
-use Rattle.model.specs.Effects.{Effect}
-use Rattle.model.specs.Outcomes.{came, Over}
+use Rattle.model.specs.Outcomes.{came}
 use Rattle.works.specs.declared.Work.{Work}
 use Rattle.works.specs.Works.{Same}
 use Rattle.passturns.specs.Steps.{further, Countable, StepOutcome}
@@ -21,8 +18,3 @@ pub record Turned (p : Pass) (before : Counts) (s t : Work) (r : Counts) : Type 
   pub same : Same s t
   pub step : StepOutcome s.shape p (came s.plane.now before) s.marks.now s.queue.now r
       t.plane.now t.marks.now t.queue.now
-
--- the same memory, in which the run had its effect
-pub record Ran (e : Effect) (s t : Work) (r : Counts) : Type 0 where
-  pub same : Same s t
-  pub over : Over (pixels s.shape) e s.marks.now s.queue.now t.plane.now t.marks.now t.queue.now r

@@ -14,6 +14,6 @@ pub fn turn(work: &mut Work<'_>, pass: Pass, before: Counts) -> Counts
     requires { (pass.a ≤ pass.b) × Room pass before work.old }
     ensures { Turned pass before work.old work.new result }
 {
-    let counts = passes::treat(work.plane, work.marks, work.queue, work.shape, pass);
+    let counts = passes::treat(work, pass);
     model::plus(before, counts)
 }

@@ -4,7 +4,7 @@ use Rattle.std.proofs.Common.{sym, rules}
 use Rattle.planes.proofs.Refusals.{▷_none}
 use Rattle.planes.proofs.Shapes.{lent_fits}
 use Rattle.model.proofs.Outcomes.{refused_on, done_by}
-use Rattle.passlists.proofs.Runs.{handed_back}
+use Rattle.passes.proofs.Calls.{handed_back}
 use Rattle.passlists.proofs.run_list.Goals as goal
 
 pub returns-in_err-list_refusal : goal.returns-in_err-list_refusal

@@ -4,7 +4,7 @@ use Rattle.std.proofs.Common.{sym, rules}
 use Rattle.planes.proofs.Refusals.{refused_first, passed_first}
 use Rattle.planes.proofs.Shapes.{lent_fits}
 use Rattle.model.proofs.Outcomes.{refused_on, done_by}
-use Rattle.passlists.proofs.Runs.{handed_back}
+use Rattle.passes.proofs.Calls.{handed_back}
 use Rattle.passlists.proofs.run_passes.Goals as goal
 
 pub returns-in_err-lent_refusal : goal.returns-in_err-lent_refusal
