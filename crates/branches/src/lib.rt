@@ -97,16 +97,7 @@ fn equalise(work: &mut Work<'_>, branch: Branch, due: bool, settings: Settings) 
         rule: settings.rule,
         neighbours: settings.neighbours,
     };
-    let t = sections::treat_section(
-        work.plane,
-        work.marks,
-        work.queue,
-        work.shape,
-        branch.code,
-        due,
-        section,
-        next,
-    );
+    let t = sections::treat_section(work, branch.code, due, section, next);
     let counts = counts_of(t, levels::below(branch.a, branch.b, settings.last));
     if more {
         let halves = split(work, branch, t.sides, settings);

@@ -49,7 +49,7 @@ pub fn run_levels(work: &mut Work<'_>, settings: Settings) -> Counts
     let n = work.shape.pixels();
     let plane = &mut *work.plane;
     painting::mark_section(plane, work.marks, n, whole);
-    let t = sections::treat_plane(work.plane, work.marks, work.queue, work.shape, whole, next);
+    let t = sections::treat_plane(work, whole, next);
     let counts = branches::counts_of(t, levels_left(n, settings));
     if more {
         let halves = branches::split(work, root, t.sides, settings);

@@ -22,10 +22,16 @@ equalise-next_of-next-requires t c =
     let N = due.numbered in
     ((λ e. numbered_many due.d N (c.deeper-more.ensures.yes e due.d N.k N.wide)), N.fits)
 
+pub equalise-treat_section-t-requires : goal.equalise-treat_section-t-requires
+equalise-treat_section-t-requires t c =
+    let t = c.requires.0 in
+    due_section (record { lent = c.args.work.now.lent; last = t.last; area = t.area }) c.requires.1
+    (next_not c.next_of-next.ensures c.requires.1.numbered.real)
+
 pub equalise-counts_of-counts-requires : goal.equalise-counts_of-counts-requires
 equalise-counts_of-counts-requires t c =
     let lent = c.args.work.now.lent in
-    let all = small lent.size.few lent.whole c.treat_section-t.ensures.treated in
+    let all = small lent.size.few lent.whole c.treat_section-t.ensures.done.treated in
     (all.1.0, (all.1.1, c.below.ensures.few))
 
 pub equalise-split-halves-requires : goal.equalise-split-halves-requires
@@ -36,11 +42,11 @@ equalise-split-halves-requires t c =
     let D = c.deeper-more.ensures in
     let X = c.next_of-next.ensures in
     let e = c.if-more.true in
-    let measured : 2 * (c.args.branch.b - c.args.branch.a) + 1 ≡ t = c.decreases in (
+    let measured : 2 * (c.args.branch.b - c.args.branch.a) + 1 ≡ t = c.decreases in rw c.treat_section-t.ensures.same.shape (
       omega (arith, D.some e),
       (
         c.requires.0,
-        next_halves c.args.work.now.shape c.args.settings lent.whole c.treat_section-t.ensures
+        next_halves c.args.work.now.shape c.args.settings lent.whole c.treat_section-t.ensures.done
             due.coded due.marks_are (X.middle ∙ c.mid.ensures) (X.halves e) (le_refl _) refl refl
             due.d (D.yes e due.d N.k N.wide) N,
       ),
@@ -52,9 +58,10 @@ equalise-plus-requires t c =
     let due = c.requires.1 in
     let N = due.numbered in
     let some = c.deeper-more.ensures.yes c.if-more.true due.d N.k N.wide in
-    let here = told_few lent.size.few lent.whole c.below.ensures.few c.treat_section-t.ensures.treated in
-    let below = halves_few due.d some N (omega (arith, c.treat_section-t, lent.whole)) lent.size.few
-    c.split-halves.ensures.done in
+    let here = told_few lent.size.few lent.whole c.below.ensures.few c.treat_section-t.ensures.done.treated in
+    let shape = c.treat_section-t.ensures.same.shape in
+    let below = halves_few due.d some N (same_length c.treat_section-t.ensures.same ∙ lent.whole) lent.size.few
+    (rw shape at c.split-halves.ensures.done) in
     let counts = c.counts_of-counts.ensures in
     let spans : c.args.branch.span * 1048576 ≤ 255 * 1048576 = omega (arith, N.fits, N.real) in (
       omega (arith, here.0, below.0, ap (λ (x : Counts). x.retoned) counts),
@@ -66,20 +73,19 @@ equalise-returns-then-more t c =
     let lent = c.args.work.now.lent in
     let due = c.requires.1 in
     let N = due.numbered in
-    let T = c.treat_section-t.ensures.treated in
+    let T = c.treat_section-t.ensures.done.treated in
     let D = c.deeper-more.ensures in
     let X = c.next_of-next.ensures in
     let e = c.if-more.true in
-    let H = c.split-halves.ensures.done in
+    let H = rw c.treat_section-t.ensures.same.shape at c.split-halves.ensures.done in
     let some = D.yes e due.d N.k N.wide in
     let many = numbered_many due.d N some in
-    let left = next_gone c.args.work.now.shape c.args.settings lent.whole c.treat_section-t.ensures due.coded
+    let left = next_gone c.args.work.now.shape c.args.settings lent.whole c.treat_section-t.ensures.done due.coded
     due.marks_are (X.middle ∙ c.mid.ensures) (X.halves e) (le_refl _) refl refl due.d some N in
     let E = node c.args.work.now.shape c.args.settings c.below.ensures T D e H left
     (apart_node (numbered_order N) lent.whole T N.real many due.marks_are (X.halves e) H.apart) in
-    let S = c.split-halves.ensures.same in
     record {
-      same = record { plane = S.plane; marks = S.marks; queue = S.queue; shape = S.shape };
+      same = same_trans c.treat_section-t.ensures.same c.split-halves.ensures.same;
       done = rw c.plus.ensures (rw c.counts_of-counts.ensures E);
     }
 
@@ -88,14 +94,14 @@ equalise-returns t c =
     let lent = c.args.work.now.lent in
     let due = c.requires.1 in
     let N = due.numbered in
-    let T = c.treat_section-t.ensures.treated in
+    let T = c.treat_section-t.ensures.done.treated in
     let D = c.deeper-more.ensures in
     let X = c.next_of-next.ensures in
     let e = c.if-more.false in
     let E = leaf c.args.work.now.shape c.args.settings c.below.ensures T D e
     (apart_leaf (numbered_order N) lent.whole T N.real (numbered_some N) due.marks_are (X.none e)) in
     record {
-      same = record { plane = refl; marks = refl; queue = refl; shape = refl };
+      same = c.treat_section-t.ensures.same;
       done = rw c.counts_of-counts.ensures E;
     }
 
