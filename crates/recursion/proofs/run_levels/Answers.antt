@@ -5,7 +5,9 @@ use mathlib.Core.Logic.{inl, inr}
 use native.Mathlib.Nat.{mul-le-mul}
 use native.Mathlib.Omega.{arith}
 use lib.Dec.{ltb}
+use lib.ListN.{length}
 use Rattle.planes.specs.Shapes.{pixels}
+use Rattle.works.proofs.Works.{same_trans}
 use Rattle.planes.proofs.Tests.{decide}
 use Rattle.model.specs.declared.Counts.{Counts}
 use Rattle.model.specs.Outcomes.{sums}
@@ -75,7 +77,7 @@ levels c =
 
 pub counts_of-counts-requires : goal.counts_of-counts-requires
 counts_of-counts-requires c =
-    let all = small c.args.work.now.lent.size.few c.args.work.now.lent.whole c.treat_plane-t.ensures.treated in
+    let all = small c.args.work.now.lent.size.few c.args.work.now.lent.whole c.treat_plane-t.ensures.done.treated in
     let few = few-left (pixels c.args.work.now.shape) c.args.settings c.requires.last in
     (all.1.0, (all.1.1, omega (arith, levels (goal.at.counts_of-counts-requires c).After-levels_left, few)))
 
@@ -84,9 +86,10 @@ split-halves-requires c =
     let X = c.next_of-next.ensures in
     let M = marking (goal.at.split-halves-requires c).After-treat_plane-t in
     let e = c.if-more.true in
-    let N = numbered (goal.at.split-halves-requires c).After-deeper-more in (
+    let N = numbered (goal.at.split-halves-requires c).After-deeper-more in
+    rw c.treat_plane-t.ensures.same.shape (
       c.requires,
-      next_halves c.args.work.now.shape c.args.settings c.args.work.now.lent.whole c.treat_plane-t.ensures
+      next_halves c.args.work.now.shape c.args.settings c.args.work.now.lent.whole c.treat_plane-t.ensures.done
           (marked_coded M) (root_marks _ M) (X.middle ∙ c.mid.ensures) (X.halves e) c.requires.area refl refl
           _ (c.deeper-more.ensures.yes e _ N.k N.wide) N,
     )
@@ -106,9 +109,11 @@ plus-requires c =
     let N = numbered (goal.at.plus-requires c).After-deeper-more in
     let some = c.deeper-more.ensures.yes c.if-more.true _ N.k N.wide in
     let here = told_few lent.size.few lent.whole
-    (few-left (pixels c.args.work.now.shape) c.args.settings c.requires.last) c.treat_plane-t.ensures.treated in
-    let halves = halves_few _ some N (omega (arith, c.treat_plane-t, lent.whole)) lent.size.few
-    c.split-halves.ensures.done in
+    (few-left (pixels c.args.work.now.shape) c.args.settings c.requires.last) c.treat_plane-t.ensures.done.treated in
+    let T = c.treat_plane-t.ensures in
+    let long : length c.treat_plane-t.new.work.plane.now ≡ pixels c.args.work.now.shape =
+    c.treat_plane-t.new.work.lent.whole ∙ ap pixels T.same.shape in
+    let halves = halves_few _ some N long lent.size.few (rw T.same.shape at c.split-halves.ensures.done) in
     let told = counts (goal.at.plus-requires c).After-counts_of-counts in
     let spans : c.sections.result * 1048576 ≤ 255 * 1048576 = omega (arith, N.fits, N.real) in (
       omega (arith, here.0, halves.0, ap (λ (x : Counts). x.retoned) told),
@@ -129,11 +134,11 @@ returns-then-more c =
     let ones = marked_whole refl refl M in
     let sizes = whole_size (pass_sym z whole) lent.whole (marked_coded M) pixel (ones 0 pixel)
     (whole_plane z whole 1 _ lent.size.wide ones) in
-    let left = next_gone z c.args.settings lent.whole c.treat_plane-t.ensures
+    let left = next_gone z c.args.settings lent.whole c.treat_plane-t.ensures.done
     (marked_coded M) (root_marks _ M) (X.middle ∙ c.mid.ensures) (X.halves e) c.requires.area refl refl _ some N in
-    let R = root_halves z c.args.settings M c.treat_plane-t.ensures.treated some c.requires.last lent.whole
-    pixel sizes left c.split-halves.ensures.done in
-    let S = c.split-halves.ensures.same in
+    let R = root_halves z c.args.settings M c.treat_plane-t.ensures.done.treated some c.requires.last lent.whole
+    pixel sizes left (rw c.treat_plane-t.ensures.same.shape at c.split-halves.ensures.done) in
+    let S = same_trans c.treat_plane-t.ensures.same c.split-halves.ensures.same in
     record {
       same = record { plane = S.plane; marks = S.marks; queue = S.queue; shape = S.shape };
       done = rw c.plus.ensures (rw (counts (goal.at.returns-then-more c).After-counts_of-counts) R);
@@ -143,9 +148,10 @@ pub returns : goal.returns
 returns c =
     let N = numbered (goal.at.returns c).After-deeper-more in
     let R = root_only c.args.work.now.shape c.args.settings (marking
-    (goal.at.returns c).After-treat_plane-t) c.treat_plane-t.ensures.treated
+    (goal.at.returns c).After-treat_plane-t) c.treat_plane-t.ensures.done.treated
     (c.deeper-more.ensures.none c.if-more.false _ N.k N.wide) in
+    let S = c.treat_plane-t.ensures.same in
     record {
-      same = record { plane = refl; marks = refl; queue = refl; shape = refl };
+      same = record { plane = S.plane; marks = S.marks; queue = S.queue; shape = S.shape };
       done = rw (counts (goal.at.returns c).After-counts_of-counts) R;
     }
