@@ -11,14 +11,15 @@
 // component, and no sets are kept.
 #![tactic(auto)]
 
-ghost use Rattle.std.specs.Prelude.{◌≡◌, ◌+◌, ◌-◌, ◌/◌, ◌≤◌, length};
-ghost use Rattle.branches.specs.Branches.{Ready, Due, Halves, all_told, Equalised, Halved, lower_half, upper_half};
+ghost use Rattle.std.specs.Prelude.{◌≡◌, ◌+◌, ◌-◌, ◌/◌, ◌≤◌};
+ghost use Rattle.branches.specs.Branches.{all_told, lower_half, upper_half};
+ghost use Rattle.branches.specs.Works.{Usable, DueIn, HalvesIn, EqualisedIn, HalvedIn};
 
 use levels::Settings;
 use model::{Counts, Pass};
 use painting::Sides;
-use planes::Shape;
 use retoning::Treatment;
+use works::Work;
 
 // The section [a, b], and the numbers of its branch, which are those of the sections on all levels from its own on:
 // `span` numbers from the code on, the code its own.
@@ -83,19 +84,9 @@ pub fn counts_of(t: Treatment, below: u32) -> Counts
 // components were retoned and kept back; a lone one that leaves is counted here for all levels below, and no more
 // there.
 #[cycle(equalise_split)]
-fn equalise(
-    plane: &mut [u8],
-    marks: &mut [u8],
-    queue: &mut [u32],
-    shape: Shape,
-    branch: Branch,
-    due: bool,
-    settings: Settings,
-) -> Counts
-    requires { Ready shape (length plane.old) (length marks.old) (length queue.old) settings
-        × Due shape branch.a branch.b branch.code branch.span due settings plane.old marks.old }
-    ensures { Equalised shape branch.a branch.b branch.code branch.span settings plane.old marks.old
-        queue.old plane.new marks.new queue.new result }
+fn equalise(work: &mut Work<'_>, branch: Branch, due: bool, settings: Settings) -> Counts
+    requires { Usable settings × DueIn work.old branch due settings }
+    ensures { EqualisedIn branch settings work.old work.new result }
 {
     let more = levels::deeper(branch.a, branch.b, settings.last);
     let next = levels::next_of(more, branch.mid(), branch.code, branch.span);
@@ -106,10 +97,10 @@ fn equalise(
         rule: settings.rule,
         neighbours: settings.neighbours,
     };
-    let t = sections::treat_section(plane, marks, queue, shape, branch.code, due, section, next);
+    let t = sections::treat_section(work, branch.code, due, section, next);
     let counts = counts_of(t, levels::below(branch.a, branch.b, settings.last));
     if more {
-        let halves = split(plane, marks, queue, shape, branch, t.sides, settings);
+        let halves = split(work, branch, t.sides, settings);
         return model::plus(counts, halves);
     }
     counts
@@ -119,23 +110,13 @@ fn equalise(
 // with their numbers, and are the level sets of Algorithm 3; `equalise` has their components treated. No pixel has a
 // half's number unless values are on that side. How many components were retoned and kept back.
 #[cycle(equalise_split)]
-pub fn split(
-    plane: &mut [u8],
-    marks: &mut [u8],
-    queue: &mut [u32],
-    shape: Shape,
-    branch: Branch,
-    sides: Sides,
-    settings: Settings,
-) -> Counts
-    requires { Ready shape (length plane.old) (length marks.old) (length queue.old) settings
-        × Halves shape branch.a branch.b branch.code branch.span sides.low sides.high settings plane.old marks.old }
-    ensures { Halved shape branch.a branch.b branch.code branch.span settings plane.old marks.old
-        queue.old plane.new marks.new queue.new result }
+pub fn split(work: &mut Work<'_>, branch: Branch, sides: Sides, settings: Settings) -> Counts
+    requires { Usable settings × HalvesIn work.old branch sides settings }
+    ensures { HalvedIn branch settings work.old work.new result }
 {
     let low = branch.lower();
-    let lower = equalise(plane, marks, queue, shape, low, sides.low, settings);
+    let lower = equalise(work, low, sides.low, settings);
     let high = branch.upper();
-    let upper = equalise(plane, marks, queue, shape, high, sides.high, settings);
+    let upper = equalise(work, high, sides.high, settings);
     model::plus(lower, upper)
 }

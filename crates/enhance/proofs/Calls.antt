@@ -156,6 +156,13 @@ chain_accepted z t frame plane marks queue output taken =
 
 -- ## Outcomes
 
+-- the slices that the recursion was lent end as the memory does
+pub handed_back : {z : Shape} {t : Settings} {r : Counts}
+    {plane marks queue plane₁ marks₁ queue₁ plane₂ marks₂ queue₂ : List ℕ} → plane₂ ≡ plane₁ → marks₂ ≡ marks₁
+    → queue₂ ≡ queue₁ → RecursionOutcome z t plane marks queue plane₁ marks₁ queue₁ r
+    → RecursionOutcome z t plane marks queue plane₂ marks₂ queue₂ r
+handed_back p m q o = rw p (rw m (rw q o))
+
 -- intensity, the recursion and recolouring, one after the other
 pub in-turn : {z : Shape} {r : Counts} {t : Settings}
     {frame plane marks queue output plane₁ plane' marks' queue' output' : List ℕ} {first second : Reply}

@@ -12,6 +12,7 @@ ghost use Rattle.enhance.specs.Calls.{memory_refusal, enhance_refusal, Enhances,
 pub use levels::Settings;
 use model::Counts;
 use planes::{Refusal, Shape};
+use works::Work;
 
 // 1, 2, 3, 4, 14 in that order, by the shape and the lengths that are lent.
 #[tactic(auto, using(planes::proofs::Shapes::in_order), unfolding(crate::specs::Calls::memory_refusal))]
@@ -67,7 +68,13 @@ fn enhance_frame(
         output.old result plane.new marks.new queue.new output.new }
 {
     let _ = colours::intensity(frame, shape.w, shape.h, plane);
-    let counts = recursion::run_levels(plane, marks, queue, shape, settings);
+    let mut work = Work {
+        plane,
+        marks,
+        queue,
+        shape,
+    };
+    let counts = recursion::run_levels(&mut work, settings);
     let _ = colours::recolour(frame, shape.w, shape.h, plane, output);
     counts
 }

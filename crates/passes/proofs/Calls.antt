@@ -16,8 +16,8 @@ use Rattle.planes.proofs.Lists.{beyond_trans}
 use Rattle.model.specs.declared.Pass.{Pass}
 use Rattle.model.specs.Neighbourhoods.{pass_neighbours}
 use Rattle.model.specs.Passes.{passed}
-use Rattle.model.specs.Effects.{counts, pass_effect}
-use Rattle.model.specs.Outcomes.{Over}
+use Rattle.model.specs.Effects.{Effect, counts, pass_effect}
+use Rattle.model.specs.Outcomes.{Over, Outcome}
 use Rattle.model.specs.Calls.{Call, State, start, call, chain, AcceptedCarry}
 use Rattle.model.specs.Calls.{empty as no-calls, refused, given}
 use Rattle.painting.specs.Painting.{Marked}
@@ -94,3 +94,12 @@ sequence_within {z} number (more {s = s} {marks = marks} {queue = queue} {cs = c
     let later = sequence_within number S a in
     next {c = call_on (length marks) (length queue) s} (λ _. carries_within z s e)
     (subst (λ (n : ℕ). Within (adjacency z number) z n cs) (call_length z s O) later)
+
+-- ## After a call that was lent the memory
+
+-- the slices that the call was lent end as the memory does
+pub handed_back : {n number : ℕ} {e : Effect} {plane marks queue : List ℕ} {reply : Reply}
+    {plane₁ marks₁ queue₁ plane₂ marks₂ queue₂ : List ℕ} → plane₂ ≡ plane₁ → marks₂ ≡ marks₁ → queue₂ ≡ queue₁
+    → Outcome n number e plane marks queue reply plane₁ marks₁ queue₁
+    → Outcome n number e plane marks queue reply plane₂ marks₂ queue₂
+handed_back p m q o = rw p (rw m (rw q o))

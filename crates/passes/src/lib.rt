@@ -4,40 +4,34 @@
 // treat   the same for a pass and memory that are known to be accepted
 #![tactic(auto)]
 
-ghost use Rattle.std.specs.Prelude.{◌≡◌, ◌≤◌, length};
+ghost use Rattle.std.specs.Prelude.{◌≡◌, ◌≤◌};
 ghost use Rattle.planes.specs.Refusals.{number_in};
-ghost use Rattle.planes.specs.Shapes.{pixels, Lent};
 ghost use Rattle.model.specs.Neighbourhoods.{pass_neighbours};
 ghost use Rattle.model.specs.Calls.{pass_refusal};
 ghost use Rattle.model.specs.Effects.{pass_effect};
-ghost use Rattle.model.specs.Outcomes.{answer_reply, Over};
+ghost use Rattle.model.specs.Outcomes.{answer_reply};
 ghost use Rattle.passes.specs.Calls.{call_on, PassOutcome};
+ghost use Rattle.passes.specs.Works.{Ran};
 
 use model::{Counts, Pass};
 use painting::Next;
 use planes::{Refusal, Shape};
+use works::Work;
 
 // A pass over a plane with room for it. How many components were retoned, and how many kept back.
-pub fn treat(
-    plane: &mut [u8],
-    marks: &mut [u8],
-    queue: &mut [u32],
-    shape: Shape,
-    pass: Pass,
-) -> Counts
-    requires { Lent shape (length plane.old) (length marks.old) (length queue.old) × (pass.a ≤ pass.b) }
-    ensures { Over (pixels shape) (pass_effect (pass_neighbours shape) pass plane.old)
-        marks.old queue.old
-        plane.new marks.new queue.new result }
+pub fn treat(work: &mut Work<'_>, pass: Pass) -> Counts
+    requires { pass.a ≤ pass.b }
+    ensures { Ran (pass_effect (pass_neighbours work.old.shape) pass work.old.plane.now) work.old work.new result }
 {
-    let n = shape.pixels();
-    painting::mark_section(plane, marks, n, pass);
+    let n = work.shape.pixels();
+    let plane = &mut *work.plane;
+    painting::mark_section(plane, work.marks, n, pass);
     let gone = Next {
         mid: 0,
         low: 0,
         high: 0,
     };
-    let t = sections::treat_section(plane, marks, queue, shape, 1, true, pass, gone);
+    let t = sections::treat_section(work, 1, true, pass, gone);
     Counts {
         retoned: t.retoned,
         kept: t.kept,
@@ -73,5 +67,11 @@ pub fn pass(
         plane.new marks.new queue.new }
 {
     refusal_of(shape, plane.len(), marks.len(), queue.len(), pass)?;
-    Ok(treat(plane, marks, queue, shape, pass))
+    let mut work = Work {
+        plane,
+        marks,
+        queue,
+        shape,
+    };
+    Ok(treat(&mut work, pass))
 }

@@ -9,14 +9,11 @@ use Rattle.planes.specs.Refusals.{when}
 use Rattle.planes.proofs.Refusals.{when_none, ▷_none}
 use Rattle.model.specs.declared.Pass.{Pass}
 use Rattle.model.specs.Calls.{numbers_refusal}
-use Rattle.planes.specs.declared.Shape.{Shape}
 use Rattle.listformat.specs.Format.{greatest_count, passes_of, head_refusal}
 use Rattle.listformat.proofs.Format.{no_pass}
 use Rattle.listchecks.specs.Refusals.{first_refusal, record_refusals, list_refusal, passes_refusal}
 use Rattle.listchecks.proofs.First.{clear_each}
 use Rattle.listchecks.proofs.Refusals.{passes_at, accepted_list}
-use Rattle.passturns.specs.Steps.{Runnable}
-use Rattle.passlists.specs.Outcomes.{ListRunnable}
 
 -- what passes have that are not refused
 pub fine_passes : (ss : List Pass) → passes_refusal ss ≡ 0
@@ -34,10 +31,9 @@ fine_pass ss e i h =
 
 -- ## A list of bytes that is not refused
 
-module _ {z : Shape} {list plane marks queue : List ℕ} (r : ListRunnable z list plane marks queue) where
-  pub list_head : head_refusal list ≡ 0
-  unfolding list_refusal
-  list_head = (▷_none (head_refusal list) (first_refusal (record_refusals list)) r.fine).0
+pub list_head : (list : List ℕ) → list_refusal list ≡ 0 → head_refusal list ≡ 0
+unfolding list_refusal
+list_head list fine = (▷_none (head_refusal list) (first_refusal (record_refusals list)) fine).0
 
-  pub list_runs : Runnable z (passes_of list) plane marks queue
-  list_runs = record { lent = r.lent; fine = (accepted_list list r.fine).1 }
+pub list_runs : (list : List ℕ) → list_refusal list ≡ 0 → passes_refusal (passes_of list) ≡ 0
+list_runs list fine = (accepted_list list fine).1

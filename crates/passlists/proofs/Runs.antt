@@ -23,7 +23,12 @@ use Rattle.model.proofs.Chains.{ordered}
 use Rattle.model.proofs.Recursion.{then_assoc, nothing_then, then_nothing}
 use Rattle.model.proofs.Sufficient.{run_few}
 use Rattle.listformat.specs.Format.{greatest_count}
+use Rattle.works.specs.declared.Work.{Work}
+use Rattle.works.specs.Works.{Same}
+use Rattle.passes.specs.Works.{Ran}
 use Rattle.passturns.specs.Steps.{further, Countable, StepReady, StepOutcome, Runnable}
+use Rattle.passturns.specs.Turns.{Room, Turned}
+use Rattle.listchecks.specs.Refusals.{passes_refusal}
 use Rattle.listformat.proofs.Format.{no_pass}
 use Rattle.passlists.proofs.Refusals.{fine_passes, fine_pass}
 
@@ -142,3 +147,40 @@ module _ {z : Shape} {ss : List Pass} {plane₀ marks₀ queue₀ : List ℕ} wh
           marks_rest = along.marks_rest;
           queue_rest = along.queue_rest;
         }
+
+-- ## In the memory that a run works on
+
+-- i passes have run in the memory s, and have come to t and the counts
+pub record Going (ss : List Pass) (s t : Work) (i : ℕ) (r : Counts) : Type 0 where
+  pub same : Same s t
+  pub along : Along s.shape ss s.plane.now s.marks.now s.queue.now i (came t.plane.now r) t.marks.now t.queue.now
+
+module _ {ss : List Pass} {s : Work} where
+  pub going_none : Going ss s s 0 (record { retoned = 0; kept = 0 })
+  going_none = record {
+    same = record { plane = refl; marks = refl; queue = refl; shape = refl };
+    along = along_none;
+  }
+
+module _ {ss : List Pass} {s t : Work} {i : ℕ} {r : Counts} where
+  -- of the pass that is due
+  module _ (g : Going ss s t i r) {p : Pass} (is : p ≡ get_or ss i no_pass) (l : i < length ss) where
+    pub going_asks : passes_refusal ss ≡ 0 → (p.a ≤ p.b) × Room p r t
+    going_asks fine =
+        let ready = along_asks g.along is l (record { lent = s.lent; fine = fine }) in
+        (ready.order, subst (λ (z : Shape). Countable (further z p (came t.plane.now r))) (sym g.same.shape) ready.room)
+
+    pub going_step : {u : Work} {r' : Counts} → Turned p r t u r' → Going ss s u (i + 1) r'
+    going_step {u = u} {r' = r'} o = record {
+      same = record {
+        plane = o.same.plane ∙ g.same.plane;
+        marks = o.same.marks ∙ g.same.marks;
+        queue = o.same.queue ∙ g.same.queue;
+        shape = o.same.shape ∙ g.same.shape;
+      };
+      along = along_step g.along is l (subst (λ (z : Shape). StepOutcome z p (came t.plane.now r) t.marks.now t.queue.now
+          r' u.plane.now u.marks.now u.queue.now) g.same.shape o.step);
+    }
+
+  pub going_all : Going ss s t i r → length ss ≤ i → Ran (effect_of s.shape ss s.plane.now) s t r
+  going_all g l = record { same = g.same; over = along_all g.along l }

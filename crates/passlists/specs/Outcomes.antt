@@ -3,12 +3,11 @@
 --   slices_refusal      the refusal of the lent slices, by their lengths: 1 to 4
 --   run_list_refusal    the refusal that a list of bytes meets with: 1 to 4, then those of the list
 --   run_passes_refusal  the refusal that passes in memory meet with: 1 to 4, then those of the passes
---   ListRunnable        what the passes of a list of bytes require
 --   ListOutcome         the contract of `run_list`
 --   PassesOutcome       the contract of `run_passes`
 use Rattle.std.specs.Prelude.{ℕ, ◌≡◌, List, length}
 use Rattle.planes.specs.Refusals.{◌▷◌}
-use Rattle.planes.specs.Shapes.{pixels, Lent, lent_refusal}
+use Rattle.planes.specs.Shapes.{pixels, lent_refusal}
 use Rattle.planes.specs.declared.Shape.{Shape}
 use Rattle.planes.specs.Replies.{Reply}
 use Rattle.model.specs.declared.Pass.{Pass}
@@ -26,11 +25,6 @@ run_list_refusal z list plane marks queue = slices_refusal z plane marks queue �
 
 abbrev pub run_passes_refusal : Shape → List Pass → List ℕ → List ℕ → List ℕ → ℕ
 run_passes_refusal z ss plane marks queue = slices_refusal z plane marks queue ▷ passes_refusal ss
-
--- the memory is lent, and the list is not refused
-pub record ListRunnable (z : Shape) (list plane marks queue : List ℕ) : Type 0 where
-  pub lent : Lent z (length plane) (length marks) (length queue)
-  pub fine : list_refusal list ≡ 0
 
 -- the outcome by the refusal and by the effect of the list's passes on the lent plane, one after the other
 abbrev pub ListOutcome : (z : Shape) (list plane marks queue : List ℕ) (reply : Reply)

@@ -11,31 +11,26 @@
 
 ghost use Rattle.std.specs.Prelude.{◌≡◌};
 ghost use Rattle.planes.specs.Refusals.{number_in, ◌▷◌};
-ghost use Rattle.planes.specs.Shapes.{pixels, lent_refusal};
+ghost use Rattle.planes.specs.Shapes.{lent_refusal};
 ghost use Rattle.texts.specs.Writing.{written_reply};
 ghost use Rattle.model.specs.Neighbourhoods.{pass_neighbours};
 ghost use Rattle.model.specs.Effects.{run_effect};
-ghost use Rattle.model.specs.Outcomes.{answer_reply, Over};
+ghost use Rattle.model.specs.Outcomes.{answer_reply};
 ghost use Rattle.listformat.specs.Format.{passes_of};
-ghost use Rattle.listchecks.specs.Refusals.{list_refusal};
+ghost use Rattle.listchecks.specs.Refusals.{list_refusal, passes_refusal};
 ghost use Rattle.conversion.specs.Conversion.{ConvertOutcome};
-ghost use Rattle.passturns.specs.Steps.{Runnable};
-ghost use Rattle.passlists.specs.Outcomes.{ListOutcome, ListRunnable, PassesOutcome};
+ghost use Rattle.passes.specs.Works.{Ran};
+ghost use Rattle.passlists.specs.Outcomes.{ListOutcome, PassesOutcome};
 
 use model::{Counts, Pass};
 use planes::{Refusal, Shape};
+use works::Work;
 
 // The passes of a list of bytes that is not refused, one after the other.
-fn run_records(
-    list: &[u8],
-    plane: &mut [u8],
-    marks: &mut [u8],
-    queue: &mut [u32],
-    shape: Shape,
-) -> Counts
-    requires { ListRunnable shape list.now plane.old marks.old queue.old }
-    ensures { Over (pixels shape) (run_effect (pass_neighbours shape) (passes_of list.now) plane.old)
-        marks.old queue.old plane.new marks.new queue.new result }
+fn run_records(list: &[u8], work: &mut Work<'_>) -> Counts
+    requires { list_refusal list.now ≡ 0 }
+    ensures { Ran (run_effect (pass_neighbours work.old.shape) (passes_of list.now) work.old.plane.now)
+        work.old work.new result }
 {
     let mut counts = Counts {
         retoned: 0,
@@ -43,7 +38,7 @@ fn run_records(
     };
     for j in 0..listformat::count_of(list) {
         let pass = listchecks::pass_of(list, j);
-        counts = passturns::step(plane, marks, queue, shape, pass, counts);
+        counts = passturns::step(work, pass, counts);
     }
     counts
 }
@@ -61,7 +56,13 @@ pub fn run_list(
         queue.old (answer_reply result) plane.new marks.new queue.new }
 {
     list_refusal(list, shape, plane.len(), marks.len(), queue.len())?;
-    Ok(run_records(list, plane, marks, queue, shape))
+    let mut work = Work {
+        plane,
+        marks,
+        queue,
+        shape,
+    };
+    Ok(run_records(list, &mut work))
 }
 
 // The refusal that a list of bytes meets with where memory of these lengths is lent. Nothing is run.
@@ -90,23 +91,17 @@ pub fn convert(list: &[u8], output: &mut [u8]) -> Result<usize, Refusal>
 }
 
 // Passes that are not refused, one after the other.
-fn run_each(
-    passes: &[Pass],
-    plane: &mut [u8],
-    marks: &mut [u8],
-    queue: &mut [u32],
-    shape: Shape,
-) -> Counts
-    requires { Runnable shape passes.now plane.old marks.old queue.old }
-    ensures { Over (pixels shape) (run_effect (pass_neighbours shape) passes.now plane.old)
-        marks.old queue.old plane.new marks.new queue.new result }
+fn run_each(passes: &[Pass], work: &mut Work<'_>) -> Counts
+    requires { passes_refusal passes.now ≡ 0 }
+    ensures { Ran (run_effect (pass_neighbours work.old.shape) passes.now work.old.plane.now)
+        work.old work.new result }
 {
     let mut counts = Counts {
         retoned: 0,
         kept: 0,
     };
     for pass in passes {
-        counts = passturns::step(plane, marks, queue, shape, *pass, counts);
+        counts = passturns::step(work, *pass, counts);
     }
     counts
 }
@@ -125,5 +120,11 @@ pub fn run_passes(
 {
     planes::lent_refusal(shape, plane.len(), marks.len(), queue.len())?;
     listchecks::passes_refusal(passes)?;
-    Ok(run_each(passes, plane, marks, queue, shape))
+    let mut work = Work {
+        plane,
+        marks,
+        queue,
+        shape,
+    };
+    Ok(run_each(passes, &mut work))
 }

@@ -3,25 +3,17 @@
 // step   runs the pass that is due, and adds its counts to those of the passes before it
 #![tactic(auto)]
 
-ghost use Rattle.model.specs.Outcomes.{came};
-ghost use Rattle.passturns.specs.Steps.{StepReady, StepOutcome};
+ghost use Rattle.std.specs.Prelude.{◌≤◌};
+ghost use Rattle.passturns.specs.Turns.{Room, Turned};
 
 use model::{Counts, Pass};
-use planes::Shape;
+use works::Work;
 
 // Runs the pass over the plane, and answers the sums of both counts, of the passes before it and of this one.
-pub fn step(
-    plane: &mut [u8],
-    marks: &mut [u8],
-    queue: &mut [u32],
-    shape: Shape,
-    pass: Pass,
-    before: Counts,
-) -> Counts
-    requires { StepReady shape pass (came plane.old before) marks.old queue.old }
-    ensures { StepOutcome shape pass (came plane.old before) marks.old queue.old result
-        plane.new marks.new queue.new }
+pub fn step(work: &mut Work<'_>, pass: Pass, before: Counts) -> Counts
+    requires { (pass.a ≤ pass.b) × Room pass before work.old }
+    ensures { Turned pass before work.old work.new result }
 {
-    let counts = passes::treat(plane, marks, queue, shape, pass);
+    let counts = passes::treat(work, pass);
     model::plus(before, counts)
 }

@@ -1,1 +1,2 @@
 pub mod Recursion
+pub mod Works

@@ -3,14 +3,15 @@
 // run_levels   level 0, which has no area test, then its halves with the levels below them
 #![tactic(auto)]
 
-ghost use Rattle.std.specs.Prelude.{◌≡◌, length};
-ghost use Rattle.branches.specs.Branches.{Ready};
-ghost use Rattle.recursion.specs.Recursion.{levels_left, RecursionOutcome};
+ghost use Rattle.std.specs.Prelude.{◌≡◌};
+ghost use Rattle.branches.specs.Works.{Usable};
+ghost use Rattle.recursion.specs.Recursion.{levels_left};
+ghost use Rattle.recursion.specs.Works.{RecursionIn};
 
 use branches::Branch;
 use levels::Settings;
 use model::{Counts, Pass};
-use planes::Shape;
+use works::Work;
 
 // On how many levels below level 0 a plane of n pixels is kept back that leaves there: on all of them where it has the
 // least area, which level 0 does not test, else on none.
@@ -26,16 +27,9 @@ fn levels_left(n: usize, settings: Settings) -> u32
 
 // The recursion from level 0, the published call on the whole image, which has no area test. How many components were
 // retoned and kept back.
-pub fn run_levels(
-    plane: &mut [u8],
-    marks: &mut [u8],
-    queue: &mut [u32],
-    shape: Shape,
-    settings: Settings,
-) -> Counts
-    requires { Ready shape (length plane.old) (length marks.old) (length queue.old) settings }
-    ensures { RecursionOutcome shape settings plane.old marks.old queue.old
-        plane.new marks.new queue.new result }
+pub fn run_levels(work: &mut Work<'_>, settings: Settings) -> Counts
+    requires { Usable settings }
+    ensures { RecursionIn settings work.old work.new result }
 {
     let root = Branch {
         a: 0,
@@ -52,12 +46,13 @@ pub fn run_levels(
         rule: settings.rule,
         neighbours: settings.neighbours,
     };
-    let n = shape.pixels();
-    painting::mark_section(plane, marks, n, whole);
-    let t = sections::treat_plane(plane, marks, queue, shape, whole, next);
+    let n = work.shape.pixels();
+    let plane = &mut *work.plane;
+    painting::mark_section(plane, work.marks, n, whole);
+    let t = sections::treat_plane(work, whole, next);
     let counts = branches::counts_of(t, levels_left(n, settings));
     if more {
-        let halves = branches::split(plane, marks, queue, shape, root, t.sides, settings);
+        let halves = branches::split(work, root, t.sides, settings);
         return model::plus(counts, halves);
     }
     counts

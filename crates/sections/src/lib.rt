@@ -8,37 +8,28 @@
 ghost use Rattle.std.specs.Prelude.{◌≡◌, true, ℕ, ◌<◌};
 ghost use Rattle.planes.specs.Lists.{at};
 ghost use Rattle.planes.specs.Shapes.{pixels};
-ghost use Rattle.model.specs.Neighbourhoods.{pass_neighbours};
-ghost use Rattle.sections.specs.Sections.{Section, Treats};
+ghost use Rattle.sections.specs.Works.{SectionIn, TreatsIn};
 
 use components::flood;
 use model::Pass;
 use painting::Next;
-use planes::Shape;
 use retoning::{Treatment, treat_found};
 use rows::Grid;
+use works::Work;
 
 // Treats the components of the pixels that have the code. None has it unless it is due.
-pub fn treat_section(
-    plane: &mut [u8],
-    marks: &mut [u8],
-    queue: &mut [u32],
-    shape: Shape,
-    code: u8,
-    due: bool,
-    pass: Pass,
-    next: Next,
-) -> Treatment
-    requires { Section plane.old marks.old queue.old shape code due pass next }
-    ensures { Treats (pass_neighbours shape pass) (pixels shape) code pass next
-        plane.old marks.old queue.old
-        plane.new marks.new queue.new result }
+pub fn treat_section(work: &mut Work<'_>, code: u8, due: bool, pass: Pass, next: Next) -> Treatment
+    requires { SectionIn work.old code due pass next }
+    ensures { TreatsIn code pass next work.old work.new result }
 {
     let mut told = Treatment::none();
     if !due {
         return told;
     }
-    let grid = Grid::new(shape);
+    let grid = Grid::new(work.shape);
+    let plane = &mut *work.plane;
+    let marks = &mut *work.marks;
+    let queue = &mut *work.queue;
     let mut counts = [0u32; 256];
     let mut table = [0u8; 256];
     let mut from = 0;
@@ -63,21 +54,15 @@ pub fn treat_section(
 
 // The same for a plane whose pixels all have the code 1: it is one component. Its values are counted only where it is
 // not inert.
-pub fn treat_plane(
-    plane: &mut [u8],
-    marks: &mut [u8],
-    queue: &mut [u32],
-    shape: Shape,
-    pass: Pass,
-    next: Next,
-) -> Treatment
-    requires { Section plane.old marks.old queue.old shape 1 true pass next
-        × ((p : ℕ) → p < pixels shape → at marks.old p ≡ 1) }
-    ensures { Treats (pass_neighbours shape pass) (pixels shape) 1 pass next
-        plane.old marks.old queue.old
-        plane.new marks.new queue.new result }
+pub fn treat_plane(work: &mut Work<'_>, pass: Pass, next: Next) -> Treatment
+    requires { SectionIn work.old 1 true pass next
+        × ((p : ℕ) → p < pixels work.old.shape → at work.old.marks.now p ≡ 1) }
+    ensures { TreatsIn 1 pass next work.old work.new result }
 {
-    let c = scans::take_plane(plane, marks, queue, shape);
+    let plane = &mut *work.plane;
+    let marks = &mut *work.marks;
+    let queue = &mut *work.queue;
+    let c = scans::take_plane(plane, marks, queue, work.shape);
     if retoning::is_inert(c, pass) {
         return retoning::left_alone(c, pass);
     }

@@ -1,16 +1,28 @@
 -- `enhance::enhance_frame` meets its contract: intensity, the recursion and recolouring, one after the other.
 -- Assumes nothing.
-use native.Mathlib.Omega.{arith}
-use Rattle.branches.proofs.Branches.{still_ready}
-use Rattle.enhance.proofs.Calls.{fine, in-turn}
+use Rattle.std.proofs.Common.{rules, arith}
+use Rattle.enhance.proofs.Calls.{fine, handed_back, in-turn}
 use Rattle.enhance.proofs.enhance_frame.Goals as goal
+
+pub invariant_of-work : goal.invariant_of-work
+invariant_of-work c =
+    let lent = (fine _ _ _ _ _ _ _ c.requires).ready.lent in
+    record {
+      lent = record {
+        size = lent.size;
+        whole = omega (arith, c.intensity, lent.whole);
+        covered = lent.covered;
+        spare = lent.spare;
+      };
+    }
 
 pub run_levels-counts-requires : goal.run_levels-counts-requires
 run_levels-counts-requires c =
-    let F = fine _ _ _ _ _ _ _ c.requires in
-    still_ready F.ready (omega (arith, c.intensity)) (omega arith) (omega arith)
+    let ready = (fine _ _ _ _ _ _ _ c.requires).ready in
+    record { last = ready.last; area = ready.area }
 
 pub returns : goal.returns
 returns c =
-    in-turn (fine _ _ _ _ _ _ _ c.requires) (omega (arith, c.intensity)) (omega (arith, c.run_levels-counts))
-    c.intensity.ensures c.run_levels-counts.ensures c.recolour.ensures
+    in-turn (fine _ _ _ _ _ _ _ c.requires) (omega (arith, c.intensity)) (omega (arith, c.intensity))
+    c.intensity.ensures (handed_back (search rules) (search rules) (search rules) c.run_levels-counts.ensures.done)
+    c.recolour.ensures

@@ -18,33 +18,33 @@ use Rattle.sections.proofs.treat_plane.Goals as goal
 use Rattle.sections.proofs.treat_plane.Goals.{After-is_inert, After-take_plane-c, Start}
 
 -- ## What is known there
-some : (c : Start) → 1 * 1 ≤ pixels c.args.shape
+some : (c : Start) → 1 * 1 ≤ pixels c.args.work.now.shape
 some c = mul-le-mul c.requires.0.lent.size.wide c.requires.0.lent.size.high
 
-size : (c : After-take_plane-c) → c.take_plane-c.result.size ≡ pixels c.args.shape
+size : (c : After-take_plane-c) → c.take_plane-c.result.size ≡ pixels c.args.work.now.shape
 size c = c.take_plane-c.ensures.1.size ∙ c.requires.0.lent.whole
 
 -- the plane is flooded, and the queue has its values
 flooded : (c : After-take_plane-c) → (
     let s = c.args in
-    Flooded (pass_neighbours s.shape s.pass) (pixels s.shape) 1 0 s.marks.now s.queue.now
+    Flooded (pass_neighbours s.work.now.shape s.pass) (pixels s.work.now.shape) 1 0 s.work.now.marks.now s.work.now.queue.now
     c.take_plane-c.new.marks c.take_plane-c.new.queue c.take_plane-c.result.size)
 flooded c =
     let lent = c.requires.0.lent in
-    by_pass c.args.shape c.args.pass
-    (plane_flooded c.args.shape c.args.pass.neighbours 1 lent.size.wide c.take_plane-c.ensures.0
+    by_pass c.args.work.now.shape c.args.pass
+    (plane_flooded c.args.work.now.shape c.args.pass.neighbours 1 lent.size.wide c.take_plane-c.ensures.0
     lent.spare c.requires.1 (size c))
 
 values_are : (c : After-take_plane-c) →
-    values c.args.plane.now c.take_plane-c.new.queue c.take_plane-c.result.size
-    ≡ c.args.plane.now
+    values c.args.work.now.plane.now c.take_plane-c.new.queue c.take_plane-c.result.size
+    ≡ c.args.work.now.plane.now
 values_are c =
     let lent = c.requires.0.lent in
-    ap (values c.args.plane.now c.take_plane-c.new.queue) (size c)
+    ap (values c.args.work.now.plane.now c.take_plane-c.new.queue) (size c)
     ∙ values_plane c.take_plane-c.ensures.0 lent.spare lent.whole
 
 -- the test is that of the plane
-told : (c : After-is_inert) → c.is_inert.result ≡ inert c.args.pass c.args.plane.now
+told : (c : After-is_inert) → c.is_inert.result ≡ inert c.args.pass c.args.work.now.plane.now
 told c =
     c.is_inert.ensures _ (omega (
       arith,
@@ -61,8 +61,11 @@ returns-then-is_inert c =
     (goal.at.returns-then-is_inert c).After-take_plane-c) in
     let R = left_alone c.args.pass c.args.next A _ (A.size ∙ sym c.take_plane-c.ensures.1.size)
     c.left_alone.ensures (sym (told (goal.at.returns-then-is_inert c).After-is_inert) ∙ c.if-is_inert.true) in
-    one_component d h (c.requires.1 0 h)
-    (whole_plane c.args.shape c.args.pass 1 _ c.requires.0.lent.size.wide c.requires.1) F R
+    record {
+      same = record { plane = refl; marks = refl; queue = refl; shape = refl };
+      done = one_component d h (c.requires.1 0 h)
+          (whole_plane c.args.work.now.shape c.args.pass 1 _ c.requires.0.lent.size.wide c.requires.1) F R;
+    }
 
 pub histogram-requires : goal.histogram-requires
 histogram-requires c =
@@ -90,5 +93,8 @@ returns c =
     let h = some (goal.at.returns c).Start in
     let F = flooded (goal.at.returns c).After-take_plane-c in
     let R = c.retone.ensures.done _ (alike d (pass_begin _ _ _ _ _ _ _ _) h (c.requires.1 0 h) F) in
-    one_component d h (c.requires.1 0 h)
-    (whole_plane c.args.shape c.args.pass 1 _ c.requires.0.lent.size.wide c.requires.1) F R
+    record {
+      same = record { plane = refl; marks = refl; queue = refl; shape = refl };
+      done = one_component d h (c.requires.1 0 h)
+          (whole_plane c.args.work.now.shape c.args.pass 1 _ c.requires.0.lent.size.wide c.requires.1) F R;
+    }

@@ -9,9 +9,9 @@ use Rattle.sections.proofs.treat_section.Given as goal
 
 abbrev pub invariant-loop-p : goal.invariant-loop-p
 invariant-loop-p l =
-    Passing (pass_neighbours l.fn.shape l.pass) (pixels l.fn.shape) l.code l.pass l.next l.fn.plane l.fn.marks
-    l.fn.queue l.plane l.marks l.queue l.from l.told
+    Passing (pass_neighbours l.fn.work.shape l.pass) (pixels l.fn.work.shape) l.code l.pass l.next l.fn.work.plane.now l.fn.work.marks.now
+    l.fn.work.queue.now l.plane l.marks l.queue l.from l.told
     × Tally [] l.counts
 
 abbrev pub decreases-loop-p : goal.decreases-loop-p
-decreases-loop-p l = pixels l.fn.shape - l.from
+decreases-loop-p l = pixels l.fn.work.shape - l.from
