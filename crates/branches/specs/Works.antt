@@ -5,7 +5,7 @@
 --   HalvesIn      a section is treated, and its halves are due
 --   EqualisedIn   what `equalise` does
 --   HalvedIn      what `split` does
-use Rattle.std.specs.Prelude.{ℕ, ◌≤◌, Bool}
+use Rattle.std.specs.Prelude.{◌≤◌, Bool}
 use Rattle.model.specs.declared.Counts.{Counts}
 use Rattle.painting.specs.declared.Sides.{Sides}
 use Rattle.levels.specs.declared.Settings.{Settings}

@@ -6,7 +6,6 @@ use mathlib.Core.Path.{◌≡◌, refl, sym, ap, ap₂, subst, ◌∙◌}
 use mathlib.Core.List.{List, [], ◌∷◌, ◌++◌, append_assoc, append-nil}
 use native.Mathlib.Omega.{arith}
 use lib.ListN.{length}
-use Rattle.planes.specs.Lists.{at}
 use Rattle.planes.specs.Neighbours.{Near}
 use Rattle.planes.specs.declared.Shape.{Shape}
 use Rattle.planes.specs.Shapes.{adjacency}

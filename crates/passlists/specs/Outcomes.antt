@@ -5,7 +5,7 @@
 --   run_passes_refusal  the refusal that passes in memory meet with: 1 to 4, then those of the passes
 --   ListOutcome         the contract of `run_list`
 --   PassesOutcome       the contract of `run_passes`
-use Rattle.std.specs.Prelude.{ℕ, ◌≡◌, List, length}
+use Rattle.std.specs.Prelude.{ℕ, List, length}
 use Rattle.planes.specs.Refusals.{◌▷◌}
 use Rattle.planes.specs.Shapes.{pixels, lent_refusal}
 use Rattle.planes.specs.declared.Shape.{Shape}

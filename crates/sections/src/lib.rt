@@ -17,7 +17,8 @@ use retoning::{Treatment, treat_found};
 use rows::Grid;
 use works::Work;
 
-// Treats the components of the pixels that have the code. None has it unless it is due.
+// Treats the components of the pixels that have the code. None has it unless it is due. The slices are lent on one by
+// one: a loop through a lent struct loads each of its fields again at every pixel, and takes nearly twice the time.
 pub fn treat_section(work: &mut Work<'_>, code: u8, due: bool, pass: Pass, next: Next) -> Treatment
     requires { SectionIn work.old code due pass next }
     ensures { TreatsIn code pass next work.old work.new result }

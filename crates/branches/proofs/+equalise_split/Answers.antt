@@ -1,11 +1,10 @@
 -- `branches::equalise` and `branches::split` meet their contracts. What each call leaves of plane and marks is what the
 -- next requires. Assumes nothing.
 use Prim.Native.Nat.{◌+◌, ◌-◌, ◌*◌, ◌≤◌}
-use mathlib.Core.Path.{◌≡◌, refl, sym, ap, subst, ◌∙◌}
+use mathlib.Core.Path.{◌≡◌, refl, ap, ◌∙◌}
 use native.Mathlib.Nat.{le_refl}
 use native.Mathlib.Omega.{arith}
 use Rattle.model.specs.declared.Counts.{Counts}
-use Rattle.model.specs.Outcomes.{sums}
 use Rattle.works.proofs.Works.{same_trans, same_length}
 use Rattle.levels.proofs.Numbers.{numbered_order, numbered_some, numbered_many, halves_order, halves_room, next_not}
 use Rattle.levels.proofs.Numbers.{low_numbered, high_numbered, half_some, twice}

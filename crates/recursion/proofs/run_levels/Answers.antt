@@ -1,6 +1,6 @@
 -- `recursion::run_levels` meets its contract: level 0 is treated with area 1, and its halves are due. Assumes nothing.
 use Prim.Native.Nat.{ℕ, ◌*◌, ◌≤◌}
-use mathlib.Core.Path.{◌≡◌, refl, sym, ap, subst, ◌∙◌}
+use mathlib.Core.Path.{◌≡◌, refl, ap, subst, ◌∙◌}
 use mathlib.Core.Logic.{inl, inr}
 use native.Mathlib.Nat.{mul-le-mul}
 use native.Mathlib.Omega.{arith}
@@ -10,7 +10,6 @@ use Rattle.planes.specs.Shapes.{pixels}
 use Rattle.works.proofs.Works.{same_trans}
 use Rattle.planes.proofs.Tests.{decide}
 use Rattle.model.specs.declared.Counts.{Counts}
-use Rattle.model.specs.Outcomes.{sums}
 use Rattle.model.proofs.Neighbourhoods.{pass_sym}
 use Rattle.painting.specs.Painting.{Marked}
 use Rattle.sections.proofs.Passing.{whole_plane, whole_size}
@@ -21,7 +20,7 @@ use Rattle.levels.proofs.Numbers.{numbered_many, root_numbered, next_not}
 use Rattle.branches.proofs.Halves.{next_halves, next_gone}
 use Rattle.branches.proofs.Branches.{small, told_few, halves_few}
 use Rattle.branches.specs.Branches.{all_told}
-use Rattle.recursion.specs.Recursion.{levels_left, RecursionOutcome}
+use Rattle.recursion.specs.Recursion.{levels_left}
 use Rattle.recursion.proofs.Root.{root_marks, whole_pass, root_only, root_halves}
 use Rattle.recursion.proofs.run_levels.Goals as goal
 use Rattle.recursion.proofs.run_levels.Goals.{After-counts_of-counts, After-deeper-more, After-levels_left}
