@@ -29,24 +29,10 @@ use Rattle.painting.specs.declared.Next.{Next}
 use Rattle.levels.specs.Levels.{Wide, Below, Deeper, Numbered}
 use Rattle.levels.specs.declared.Settings.{Settings}
 use Rattle.levels.proofs.Widths.{low_half, high_half}
-use Rattle.branches.specs.Branches.{pass_on, Ready, Apart, Rest, gone_on, gone_below, owing, all_told}
+use Rattle.branches.specs.Branches.{pass_on, Apart, Rest, gone_on, gone_below, owing, all_told}
 use Rattle.branches.specs.Branches.{Equalised, Halved}
 
 -- ## What is lent, and what is left of it
-
--- the lengths are the same
-pub still_ready : {z : Shape} {plane marks queue plane' marks' queue' : ℕ} {t : Settings} → Ready z plane marks queue t
-    → plane' ≡ plane → marks' ≡ marks → queue' ≡ queue → Ready z plane' marks' queue' t
-still_ready R e f g = record {
-  lent = record {
-    size = R.lent.size;
-    whole = e ∙ R.lent.whole;
-    covered = omega (arith, R.lent.covered);
-    spare = omega (arith, R.lent.spare);
-  };
-  last = R.last;
-  area = R.area;
-}
 
 pub rest_of : {near : Near} {n code : ℕ} {r : Treatment} {s : Pass} {u : Next}
     {plane marks queue plane' marks' queue' : List ℕ}

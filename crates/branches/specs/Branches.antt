@@ -32,8 +32,8 @@ use Rattle.branches.specs.declared.Branch.{Branch}
 
 -- ## Sections
 
--- the section's values up to the middle, and those above it; of its branch's numbers but its own, the first half and the
--- second
+-- the section's values up to the middle, and those above it; of its branch's numbers but its own, the first half and
+-- the second
 abbrev pub lower_half : Branch → Branch
 lower_half s = record { a = s.a; b = (s.a + s.b) / 2; code = s.code + 1; span = (s.span - 1) / 2 }
 

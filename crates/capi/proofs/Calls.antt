@@ -49,14 +49,16 @@ use Rattle.capi.specs.Calls.{enhance_refusal_of}
 
 -- ## Outcomes with the answer as a number
 
-pub intensity_coded : {w h : ℕ} {frame plane plane' : List ℕ} {r : ℤ} (s : Result (Unit {0}) Refusal) → r ≡ status_number s
+pub intensity_coded : {w h : ℕ} {frame plane plane' : List ℕ} {r : ℤ} (s : Result (Unit {0}) Refusal)
+    → r ≡ status_number s
     → IntensityOutcome w h frame plane (status_reply s) plane' → IntensityOutcome w h frame plane (done_reply r) plane'
 intensity_coded {w} {h} {frame} {plane} s e o = record {
   answer = ap done_reply e ∙ status_reads s (intensity_refusal w h (length frame) (length plane)) o.answer;
   plane_is = o.plane_is;
 }
 
-pub recolour_coded : {w h : ℕ} {frame plane output output' : List ℕ} {r : ℤ} (s : Result (Unit {0}) Refusal) → r ≡ status_number s
+pub recolour_coded : {w h : ℕ} {frame plane output output' : List ℕ} {r : ℤ} (s : Result (Unit {0}) Refusal)
+    → r ≡ status_number s
     → RecolourOutcome w h frame plane output (status_reply s) output'
     → RecolourOutcome w h frame plane output (done_reply r) output'
 recolour_coded {w} {h} {frame} {plane} {output} s e o = record {
@@ -108,7 +110,8 @@ module _ {n number : ℕ} {e : Effect} {plane marks queue plane' marks' queue' :
     numbers_are = f ∙ after_counts s numbers number (counts e) o.answer;
   }
 
-  pub output_coded : {bytes output output' numbers numbers' : List ℕ} {r : ℤ} (s : Result Counts Refusal) → r ≡ answer_number s
+  pub output_coded : {bytes output output' numbers numbers' : List ℕ} {r : ℤ} (s : Result Counts Refusal)
+      → r ≡ answer_number s
       → numbers' ≡ counts_after s numbers
       → OutputOutcome n number e bytes plane marks queue output (answer_reply s) plane' marks' queue' output'
       → CountsOutputOutcome n number e bytes plane marks queue output numbers r plane' marks' queue' output' numbers'
@@ -130,7 +133,9 @@ fourth_room x y z numbers e =
 pub pass_room : (z : Shape) (n : RuleNumbers) (s : Pass) (plane marks queue numbers : List ℕ)
     → pass_refusal_of z n s plane marks queue numbers ≡ 0 → 2 ≤ length numbers
 unfolding pass_refusal_of
-pass_room z n s plane marks queue numbers = fourth_room (lent_refusal z (length plane) (length marks) (length queue)) (form_refusal n) (numbers_refusal s) numbers
+pass_room z n s plane marks queue numbers =
+    fourth_room (lent_refusal z (length plane) (length marks) (length queue)) (form_refusal n) (numbers_refusal s)
+    numbers
 
 pub enhance_room : (z : Shape) (n : RuleNumbers) (t : Settings) (frame plane marks queue output numbers : List ℕ)
     → enhance_refusal_of z n t frame plane marks queue output numbers ≡ 0 → 2 ≤ length numbers

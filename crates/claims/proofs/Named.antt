@@ -193,7 +193,8 @@ pub convert_few : (bs : List ℕ) (output : ℕ) → Few (convert_refusal bs out
 unfolding convert_refusal places_refusal
 convert_few bs output =
     order_few _ _ (list_few bs)
-    (order_few _ _ (first_few (place_refusal (other (edition_of bs))) (place_few (other (edition_of bs))) (passes_of bs))
+    (order_few _ _
+    (first_few (place_refusal (other (edition_of bs))) (place_few (other (edition_of bs))) (passes_of bs))
     (output_few output (length (converted bs))))
 
 settings_few : (t : Settings) → Few (settings_refusal t)

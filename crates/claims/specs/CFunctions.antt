@@ -37,7 +37,8 @@ pub record Stands {A : Type 0} (number : A → ℤ) (P : A → Type 0) (r : ℤ)
   pub holds : P answer
 
 -- r is the number of an answer of which P holds, and the lent numbers hold its counts; those beyond two stay
-pub record StandsCounted (P : Result Counts Refusal → Type 0) (numbers : List ℕ) (r : ℤ) (numbers' : List ℕ) : Type 0 where
+pub record StandsCounted (P : Result Counts Refusal → Type 0) (numbers : List ℕ) (r : ℤ) (numbers' : List ℕ)
+    : Type 0 where
   pub answer : Result Counts Refusal
   pub number_is : r ≡ answer_number answer
   pub numbers_are : numbers' ≡ counts_after answer numbers

@@ -1,21 +1,19 @@
 -- The numbers that are lent for a rule stand for it, and the fifth for the number of neighbours. Assumes nothing.
-use Prim.Native.Nat.{ℕ, ◌≤◌, min}
+use Prim.Native.Nat.{ℕ, min}
 use mathlib.Core.Path.{◌≡◌, refl, ap}
 use mathlib.Core.Logic.{inl, inr}
-use mathlib.Core.Bool.{true}
 use mathlib.Core.List.{List}
 use lib.ListN.{length}
-use lib.Dec.{eqb}
-use borrow.Author.Tests.{eqb-true, ne_eqb}
+use borrow.Author.Tests.{ne_eqb}
 use native.Mathlib.Nat.{min-eq_left, min-eq_right}
 use native.Mathlib.Omega.{arith}
-use Rattle.planes.proofs.Tests.{or_cases, less_or_not}
+use Rattle.planes.proofs.Tests.{less_or_not}
 use Rattle.model.specs.Calls.{neighbour_refusal}
 use Rattle.tones.specs.declared.Rule.{Rule}
 use Rattle.tones.specs.declared.Rule.TheVariants.{Plain, Limited, Affine}
 use Rattle.tones.specs.declared.RuleNumbers.{RuleNumbers}
 use Rattle.tones.specs.Numbers.{malformed, form_refusal, numbers_of, RuleFits}
-use Rattle.crules.specs.Rules.{ruled, numbers_for, neighbours_for, rule_lent, pass_lent}
+use Rattle.crules.specs.Rules.{numbers_for, neighbours_for, rule_lent, pass_lent}
 
 -- ## The numbers of a rule
 
@@ -36,13 +34,6 @@ rule_lent_lem = bytes_lent
 
 pub pass_lent_lem : (r : Rule) → RuleFits r → (number : ℕ) → numbers_for (pass_lent r number) ≡ numbers_of r
 pass_lent_lem r f number = bytes_lent r f
-
--- there are four numbers where a rule is lent
-pub four_lent : (count : ℕ) → ruled count ≡ true → 4 ≤ count
-four_lent count e = elim (or_cases (eqb count 4) (eqb count 5) e) [
-  | inl d ↦ omega (arith, eqb-true count 4 d)
-  | inr d ↦ omega (arith, eqb-true count 5 d)
-]
 
 -- fewer or more stand for no rule
 pub no_rule_lent : (rule : List ℕ) → (length rule ≡ 4 → ⊥) → (length rule ≡ 5 → ⊥)

@@ -2,8 +2,8 @@
 --
 --   Clear       none of the first ones applies
 --   clear_err   a result that hands on the first one that applies
-use Prim.Native.Nat.{ℕ, zero, suc, ◌+◌, ◌≤◌, ◌<◌, zero-le}
-use mathlib.Core.Path.{◌≡◌, refl, sym, ap, ◌∙◌}
+use Prim.Native.Nat.{ℕ, zero, suc, ◌+◌, ◌≤◌, ◌<◌}
+use mathlib.Core.Path.{◌≡◌, sym, ap, ◌∙◌}
 use mathlib.Core.List.{List, [], ◌∷◌}
 use native.Mathlib.Numerals.{add-one}
 use native.Mathlib.Omega.{arith}
@@ -22,9 +22,6 @@ use Rattle.listchecks.specs.Refusals.{first_refusal}
 pub record Clear (ks : List ℕ) (i : ℕ) : Type 0 where
   pub upto : i ≤ length ks
   pub same : first_refusal (drop i ks) ≡ first_refusal ks
-
-pub clear_none : (ks : List ℕ) → Clear ks 0
-clear_none ks = record { upto = zero-le; same = refl }
 
 module _ {ks : List ℕ} {i : ℕ} (clear : Clear ks i) where
   next : i < length ks → at ks i ▷ first_refusal (drop (i + 1) ks) ≡ first_refusal ks

@@ -4,21 +4,12 @@
 --   record_begins   the record is one of no more than the greatest count
 --   record_stands   it stands in the list, and so do its fields
 --   record_there, record_first   what finds these
-use Rattle.std.proofs.Common.{◌≡◌, ℕ, ◌+◌, ◌<◌, ◌≤◌, List, length, sym, ap, subst, ◌∙◌, arith}
-use Rattle.std.specs.Prelude.{Result}
-use Rattle.std.specs.Result.{IsErrAnd}
-use Rattle.planes.specs.Lists.{at}
-use Rattle.planes.specs.declared.refusal.Refusal.{Refusal}
-use Rattle.planes.specs.Refusals.{number, number_in}
+use Rattle.std.proofs.Common.{◌≡◌, ℕ, ◌+◌, ◌<◌, ◌≤◌, List, length, sym, subst, arith}
 use Rattle.planes.proofs.Refusals.{refused_by, passed_first}
-use Rattle.model.specs.declared.Pass.{Pass}
-use Rattle.model.specs.Calls.{numbers_refusal}
 use Rattle.listformat.specs.declared.Edition.{Edition}
 use Rattle.listformat.specs.Format.{record_length, fields_length, head_length, record_start, count_of, edition_of}
-use Rattle.listformat.specs.Format.{greatest_count, head_refusal, form_at, pass_at}
+use Rattle.listformat.specs.Format.{greatest_count, head_refusal}
 use Rattle.listformat.proofs.Format.{headed_long, record-inside, fields_within}
-use Rattle.listchecks.specs.Refusals.{record_refusals}
-use Rattle.listchecks.proofs.Refusals.{record_told}
 
 module _ (bs : List ℕ) (fine : head_refusal bs ≡ 0) where
   pub head_stands : head_length ≤ length bs

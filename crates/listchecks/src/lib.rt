@@ -9,9 +9,10 @@
 
 ghost use Rattle.std.specs.Prelude.{◌≡◌, ◌≤◌, ◌<◌, length};
 ghost use Rattle.planes.specs.Refusals.{number_in, ◌▷◌};
-ghost use Rattle.listformat.specs.Format.{head_length, count_of, pass_here, passes_of, misnamed, miscounted, head_refusal};
-ghost use Rattle.listformat.specs.Format.{edition_of, record_start};
-ghost use Rattle.listchecks.specs.Refusals.{first_refusal, record_refusal, record_refusals, list_refusal, passes_refusal};
+ghost use Rattle.listformat.specs.Format.{head_length, count_of, pass_here, passes_of, misnamed, miscounted};
+ghost use Rattle.listformat.specs.Format.{head_refusal, edition_of, record_start};
+ghost use Rattle.listchecks.specs.Refusals.{first_refusal, record_refusal, record_refusals, list_refusal};
+ghost use Rattle.listchecks.specs.Refusals.{passes_refusal};
 ghost use Rattle.listchecks.specs.Refusals.{place_refusal, places_refusal};
 
 use listformat::{Edition, HEAD_LENGTH, VERSION_AT};

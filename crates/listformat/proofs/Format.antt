@@ -10,7 +10,7 @@
 use Prim.Native.Nat.{ℕ, zero, suc, ◌+◌, ◌*◌, ◌/◌, ◌%◌, ◌≤◌, ◌<◌}
 use mathlib.Core.Path.{◌≡◌, refl, sym, ap, ap₂, subst, ◌∙◌}
 use mathlib.Core.Logic.{◌↔◌}
-use mathlib.Core.Bool.{Bool, true, false, not, cond, ◌&&◌, ◌||◌, or-false, or-true}
+use mathlib.Core.Bool.{Bool, true, false, not, cond, ◌&&◌, ◌||◌, or-false}
 use mathlib.Core.List.{List, [], ◌∷◌, ◌++◌, map}
 use mathlib.Core.Option.{none, some}
 use mathlib.Mathlib.Data.Bool.Basic.{and_elim_left, and_elim_right, and_intro}
@@ -28,7 +28,7 @@ use Rattle.planes.proofs.Refusals.{when_none, ▷_none}
 use Rattle.tones.specs.declared.Rule.{Rule}
 use Rattle.tones.specs.declared.Rule.TheVariants.{Limited}
 use Rattle.tones.specs.declared.RuleNumbers.{RuleNumbers}
-use Rattle.tones.specs.Numbers.{rule_of, malformed, form_refusal, numbers_of}
+use Rattle.tones.specs.Numbers.{rule_of, malformed, numbers_of}
 use Rattle.tones.proofs.Numbers.{read_rule, formed_rule, written_rule, rule_numbers, numbers_rule}
 use Rattle.model.specs.declared.Pass.{Pass}
 use Rattle.model.specs.Runs.{All, none as no-pass, more}
@@ -36,7 +36,7 @@ use Rattle.listformat.specs.declared.Edition.{Edition}
 use Rattle.listformat.specs.declared.Edition.TheVariants.{First, Second}
 use Rattle.listformat.specs.Format.{version, record_length, fields_length, number16, head_length, record_start}
 use Rattle.listformat.specs.Format.{version_of, count_of, edition_of, numbers_at, neighbours_at, pass_at, pass_here}
-use Rattle.listformat.specs.Format.{passes_of, greatest_count, zero_set, malformed_at, form_at, well, misnamed}
+use Rattle.listformat.specs.Format.{passes_of, greatest_count, zero_set, malformed_at, well, misnamed}
 use Rattle.listformat.specs.Format.{miscounted, head_refusal, decode, bytes16, encode_fields, encode_rest, encode_pass}
 use Rattle.listformat.specs.Format.{encode_passes, encode_head, encode, Bytes, NeighboursFit, Storable, Listable}
 use Rattle.listformat.proofs.Numbers.{join16, join32, split16, split32, at_drop, take_at, map_at}
@@ -192,17 +192,6 @@ written_fields e bs o b m h =
     let formed = ap malformed (numbers_drop bs o) ∙ (or_none (malformed (numbers_at bs o)) (zero_set e bs o) m).0 in
     take_at (drop o bs) 0 fields_length (omega (arith, length-drop o bs))
     ∙ fields_here e (drop o bs) (bytes_drop bs o b) formed ∙ ap encode_fields (pass_drop bs o e)
-
--- 17 where a zero byte is set, and else what the rule's numbers are refused for
-module _ (e : Edition) (bs : List ℕ) (i : ℕ) where
-  abbrev unruled : Bool
-  unruled = malformed (numbers_at bs i)
-
-  pub form_set : zero_set e bs i ≡ true → 17 ≡ form_at e bs i
-  form_set z = sym (ap (λ (t : Bool). when t 17) (ap (unruled ||◌) z ∙ or-true unruled))
-
-  pub form_unset : zero_set e bs i ≡ false → form_refusal (numbers_at bs i) ≡ form_at e bs i
-  form_unset z = sym (ap (λ (t : Bool). when t 17) (ap (unruled ||◌) z ∙ or-false unruled))
 
 -- ## The records of a list
 

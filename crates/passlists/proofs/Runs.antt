@@ -178,8 +178,8 @@ module _ {ss : List Pass} {s t : Work} {i : ℕ} {r : Counts} where
         queue = o.same.queue ∙ g.same.queue;
         shape = o.same.shape ∙ g.same.shape;
       };
-      along = along_step g.along is l (subst (λ (z : Shape). StepOutcome z p (came t.plane.now r) t.marks.now t.queue.now
-          r' u.plane.now u.marks.now u.queue.now) g.same.shape o.step);
+      along = along_step g.along is l (subst (λ (z : Shape). StepOutcome z p (came t.plane.now r)
+          t.marks.now t.queue.now r' u.plane.now u.marks.now u.queue.now) g.same.shape o.step);
     }
 
   pub going_all : Going ss s t i r → length ss ≤ i → Ran (effect_of s.shape ss s.plane.now) s t r

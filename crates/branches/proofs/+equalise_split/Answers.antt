@@ -41,7 +41,8 @@ equalise-split-halves-requires t c =
     let D = c.deeper-more.ensures in
     let X = c.next_of-next.ensures in
     let e = c.if-more.true in
-    let measured : 2 * (c.args.branch.b - c.args.branch.a) + 1 ≡ t = c.decreases in rw c.treat_section-t.ensures.same.shape (
+    let measured : 2 * (c.args.branch.b - c.args.branch.a) + 1 ≡ t = c.decreases in
+    rw c.treat_section-t.ensures.same.shape (
       omega (arith, D.some e),
       (
         c.requires.0,

@@ -23,4 +23,5 @@ returns-in-Ok c =
 pub returns-in-Err : goal.returns-in-Err
 returns-in-Err c =
     let answer = sym (read_back _ _ c.read_within.result c.read_within.ensures) in
-    read_emitted _ c.if-input-gt-INPUT.false (answer ∙ ap answer_of c.in-Err.is) (rw c.number-in-Err.ensures at c.put_refusal-in-Err.ensures)
+    read_emitted _ c.if-input-gt-INPUT.false (answer ∙ ap answer_of c.in-Err.is)
+    (rw c.number-in-Err.ensures at c.put_refusal-in-Err.ensures)

@@ -1,5 +1,5 @@
--- `passlists::run_each` meets its contract: it runs along the passes. A pass that is read is the same whatever stands for
--- one past the end. Assumes nothing.
+-- `passlists::run_each` meets its contract: it runs along the passes. A pass that is read is the same whatever stands
+-- for one past the end. Assumes nothing.
 use Rattle.std.proofs.lemmas.List.{get_or_default}
 use Rattle.passlists.proofs.Runs.{going_none, going_asks, going_step, going_all}
 use Rattle.passlists.proofs.run_each.Goals as goal

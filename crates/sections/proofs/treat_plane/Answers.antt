@@ -27,7 +27,8 @@ size c = c.take_plane-c.ensures.1.size ∙ c.requires.0.lent.whole
 -- the plane is flooded, and the queue has its values
 flooded : (c : After-take_plane-c) → (
     let s = c.args in
-    Flooded (pass_neighbours s.work.now.shape s.pass) (pixels s.work.now.shape) 1 0 s.work.now.marks.now s.work.now.queue.now
+    Flooded (pass_neighbours s.work.now.shape s.pass) (pixels s.work.now.shape) 1 0
+    s.work.now.marks.now s.work.now.queue.now
     c.take_plane-c.new.marks c.take_plane-c.new.queue c.take_plane-c.result.size)
 flooded c =
     let lent = c.requires.0.lent in

@@ -9,8 +9,8 @@ use Rattle.sections.proofs.treat_section.Given as goal
 
 abbrev pub invariant-loop-p : goal.invariant-loop-p
 invariant-loop-p l =
-    Passing (pass_neighbours l.fn.work.shape l.pass) (pixels l.fn.work.shape) l.code l.pass l.next l.fn.work.plane.now l.fn.work.marks.now
-    l.fn.work.queue.now l.plane l.marks l.queue l.from l.told
+    Passing (pass_neighbours l.fn.work.shape l.pass) (pixels l.fn.work.shape) l.code l.pass l.next
+    l.fn.work.plane.now l.fn.work.marks.now l.fn.work.queue.now l.plane l.marks l.queue l.from l.told
     × Tally [] l.counts
 
 abbrev pub decreases-loop-p : goal.decreases-loop-p
