@@ -1,6 +1,6 @@
 -- What each C function does, by what the call under it does: the result is encoded, and the memory is as the call
 -- leaves it. Assumes nothing.
-use Prim.Native.Nat.{ℕ, zero, suc, ◌≤◌, ◌<◌}
+use Prim.Native.Nat.{ℕ, zero, suc, ◌≤◌}
 use mathlib.Core.Path.{◌≡◌, refl, sym, ap, ap₂, subst, ◌∙◌}
 use mathlib.Core.Bool.{Bool}
 use mathlib.Core.List.{List, [], ◌∷◌}
@@ -26,8 +26,7 @@ use Rattle.model.specs.declared.Pass.{Pass}
 use Rattle.model.specs.declared.Counts.{Counts}
 use Rattle.model.specs.Effects.{Effect, counts}
 use Rattle.model.specs.Outcomes.{answer_reply, Outcome, OutputOutcome}
-use Rattle.model.specs.Calls.{numbers_refusal, pass_refusal}
-use Rattle.passes.specs.Calls.{pass_call_refusal}
+use Rattle.model.specs.Calls.{numbers_refusal}
 use Rattle.levels.specs.declared.Settings.{Settings}
 use Rattle.enhance.specs.Calls as enhance
 use Rattle.texts.specs.Heading.{heading}
@@ -43,8 +42,7 @@ use Rattle.netpbm.proofs.Writing.{wrote_writable}
 use Rattle.cnumbers.specs.Numbers.{number_reply, done_reply, status_number, answer_number, written_number}
 use Rattle.cnumbers.specs.Numbers.{Short, counts_after, counts_refusal, counts_reply, pass_of, settings_of}
 use Rattle.cnumbers.proofs.Numbers.{status_reads, answer_reads, written_reads}
-use Rattle.passlists.specs.Outcomes.{run_list_refusal}
-use Rattle.capi.specs.Calls.{CountsOutcome, CountsOutputOutcome, pass_refusal_of, list_refusal_of}
+use Rattle.capi.specs.Calls.{CountsOutcome, CountsOutputOutcome, pass_refusal_of}
 use Rattle.capi.specs.Calls.{enhance_refusal_of}
 
 -- ## Outcomes with the answer as a number

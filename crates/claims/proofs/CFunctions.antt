@@ -22,7 +22,6 @@ use Rattle.planes.proofs.Replies.{refuses_not_gives, gives_same, replied_gives, 
 use Rattle.planes.proofs.Replies.{after_refused}
 use Rattle.colours.specs.Calls.{intensity_refusal, recolour_refusal, status_reply, IntensityOutcome, RecolourOutcome}
 use Rattle.model.specs.declared.Pass.{Pass}
-use Rattle.model.specs.declared.Counts.{Counts}
 use Rattle.model.specs.Effects.{Effect, counts}
 use Rattle.model.specs.Outcomes.{answer_reply, Outcome, OutputOutcome}
 use Rattle.model.specs.Calls.{numbers_refusal, pass_refusal}

@@ -7,7 +7,6 @@ use native.Mathlib.Omega.{arith}
 use native.Mathlib.Nat.{le_of_lt, zero-add}
 use lib.ListN.{length, take, drop}
 use lib.Seq.{take_at}
-use Rattle.planes.specs.Lists.{at}
 use Rattle.planes.specs.Shapes.{pixels, neighbours, adjacency}
 use Rattle.planes.specs.declared.Shape.{Shape}
 use Rattle.planes.proofs.Shapes.{neighbours_sym, adjacency_sym}

@@ -27,7 +27,7 @@ use Rattle.colours.specs.Calls.{intensity_refusal, recolour_refusal}
 use Rattle.texts.specs.Heading.{heading}
 use Rattle.netpbm.specs.Writing.{write_refusal}
 use Rattle.model.specs.declared.Pass.{Pass}
-use Rattle.model.specs.Calls.{interval_refusal, area_refusal, neighbour_refusal, numbers_refusal}
+use Rattle.model.specs.Calls.{area_refusal, neighbour_refusal, numbers_refusal}
 use Rattle.levels.specs.declared.Settings.{Settings}
 use Rattle.levels.specs.Levels.{level_refusal, settings_refusal}
 use Rattle.enhance.specs.Calls.{memory_refusal}

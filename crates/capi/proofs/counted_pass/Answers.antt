@@ -1,6 +1,6 @@
 -- `capi::counted_pass` meets its contract: refused with the first number that applies and nothing changed, or as the
 -- call. Assumes nothing.
-use Rattle.std.proofs.Common.{sym, ap, subst, ◌∙◌}
+use Rattle.std.proofs.Common.{ap, subst, ◌∙◌}
 use Rattle.planes.proofs.Refusals.{refused_first, passed_first}
 use Rattle.tones.specs.Numbers.{form_refusal}
 use Rattle.model.specs.declared.Pass.{Pass}

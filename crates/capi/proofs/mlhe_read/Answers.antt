@@ -1,6 +1,6 @@
 -- `capi::mlhe_read` meets its contract: as the call, with the frame's numbers in the lent ones. Assumes nothing.
 use Rattle.std.proofs.Common.{ap, ◌∙◌}
-use Rattle.std.proofs.Common.{ℕ, length}
+use Rattle.std.proofs.Common.{length}
 use Rattle.netpbm.specs.Reading.{Answer}
 use Rattle.netpbm.proofs.Replies.{read_back}
 use Rattle.cnumbers.specs.Numbers.{read_number, numbers_after}
