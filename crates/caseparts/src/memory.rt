@@ -25,11 +25,8 @@ fn strays<T: Copy + PartialEq, F: Fn(usize) -> T>(entries: &[T], from: usize, be
     requires { F.IsAlwaysCallable before }
     ensures { result ≤ length entries.now }
 {
-    entries
-        .iter()
-        .enumerate()
-        .skip(from)
-        .filter(|(i, entry)| **entry != before(*i))
+    (from..entries.len())
+        .filter(|i| entries[*i] != before(*i))
         .count()
 }
 
@@ -48,14 +45,9 @@ impl Memory {
             queue: array::from_fn(queued_at),
         }
     }
-
-    // How many entries from index `from` on are not as before a call.
-    fn strays(&self, from: usize) -> usize {
-        strays(&self.marks, from, mark_at) + strays(&self.queue, from, queued_at)
-    }
 }
 
-// What a call on a plane answers to which the marks and the queue of the case are lent too, and how many of their
+// What a call on a plane answers to which the marks and the queue of the case are lent too, and how many of the lent
 // entries had to stay and did not: after acceptance those from the plane's length on, after refusal all of them.
 pub fn lent<F: FnOnce(&mut [u8], &mut [u8], &mut [u32]) -> Result<Counts, Refusal>>(
     case: Case,
@@ -65,11 +57,10 @@ pub fn lent<F: FnOnce(&mut [u8], &mut [u8], &mut [u32]) -> Result<Counts, Refusa
     requires { F.IsAlwaysCallable call }
 {
     let mut memory = Memory::new();
-    let answer = call(
-        plane,
-        parts::front(&mut memory.marks, case.marks),
-        parts::front(&mut memory.queue, case.queue),
-    );
+    let marks = parts::front(&mut memory.marks, case.marks);
+    let queue = parts::front(&mut memory.queue, case.queue);
+    let answer = call(plane, marks, queue);
     let from = answer.map_or(0, |_| plane.len());
-    (answer, memory.strays(from))
+    let count = strays(marks, from, mark_at) + strays(queue, from, queued_at);
+    (answer, count)
 }

@@ -1,8 +1,9 @@
 // The channels of one pixel: its intensity (Algorithm 1), and the scale by which a new intensity multiplies them
 // (Algorithm 6).
 //
-// Pixel      the channels of a pixel; its intensity, and what they become for a new one
-// Inverses   the inverses of 1 to 255, by which recolouring divides
+// Pixel            the channels of a pixel; its intensity, and what they become for a new one
+// rounded_thirds   the table of the intensities of all channel sums
+// Inverses         the inverses of 1 to 255, by which recolouring divides
 //
 // No channel costs a division: `nearest` multiplies by an inverse, and divides by a constant power of two.
 #![tactic(auto)]
@@ -20,7 +21,7 @@ use table::THIRDS;
 
 // The rounded thirds of all channel sums. Their rule is computed once, here.
 #[tactic(auto, unfolding(crate::specs::Channels::third, crate::specs::Channels::thirds))]
-fn rounded_thirds() -> &'static [u8; 766]
+pub fn rounded_thirds() -> &'static [u8; 766]
     ensures { result.now ≡ thirds }
 {
     &THIRDS
@@ -32,8 +33,8 @@ const PARTS: u32 = 67108864;
 // The inverses of 1 to 255, by which `nearest` multiplies, each at its index. Entry 0 is not used.
 #[derive(Debug, Drop)]
 pub struct Inverses {
-    table: [u32; 256],
-    ghost inverted: { Inverses table },
+    pub table: [u32; 256],
+    pub ghost inverted: { Inverses table },
 }
 
 impl Inverses {

@@ -134,3 +134,16 @@ unfolding is_sign
 sign_test b = refl
 
 pub ruleset moves = (move_is, digit_test, white_is, sign_test, le-leb, lt-leb, ne_eqb, eq-eqb)
+
+-- ## What finds whether a byte is skipped
+
+pub other_taken : (b : ℕ) {d : ℕ} → move_for b ≡ Take d → is_white b ≡ false
+other_taken b e = (taken b e).0
+
+pub other_opened : (b : ℕ) → move_for b ≡ Comment → is_white b ≡ false
+other_opened b e = (opened b e).0
+
+pub other_stopped : (b : ℕ) → move_for b ≡ Stop → is_white b ≡ false
+other_stopped b e = (stopped b e).0
+
+pub ruleset skips = (skipped, not_skipped, other_taken, other_opened, other_stopped)

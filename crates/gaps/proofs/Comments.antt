@@ -1,6 +1,6 @@
 -- Comments, by the place of the byte that ends them, and what the pieces after them leave. Assumes nothing.
 use Prim.Native.Nat.{ℕ, zero, suc, ◌+◌, ◌-◌, ◌≤◌, ◌<◌}
-use mathlib.Core.Path.{◌≡◌, refl, ◌∙◌}
+use mathlib.Core.Path.{◌≡◌, refl, sym, ◌∙◌}
 use mathlib.Core.Bool.{Bool, true, false, not, cond}
 use mathlib.Core.Logic.{◌⊎◌, inl, inr}
 use mathlib.Core.List.{List, [], ◌∷◌}
@@ -10,15 +10,16 @@ use lib.ListN.{length, take, drop, length-drop}
 use Rattle.std.specs.Prelude.{Some, None, position, slice_get}
 use Rattle.std.specs.List.{position_or_len}
 use Rattle.std.proofs.lemmas.List.Quantifiers.{position-Some}
+use Rattle.std.proofs.lemmas.Bool.{not-false}
 use Rattle.std.proofs.lemmas.List.Sums.{prefix_len_passes}
 use borrow.Author.Tests.{ltb-false, not-true}
 use native.Mathlib.Nat.{le_of_eq}
 use lib.Seq.{take_all}
 use Rattle.planes.specs.Lists.{at}
 use native.Mathlib.Numerals.{add-one}
-use Rattle.gaps.specs.Bytes.{ends_comment, move_for}
+use Rattle.gaps.specs.Bytes.{is_white, not_white, ends_comment, move_for}
 use Rattle.gaps.specs.declared.Move.TheVariants.{Take, Skip, Comment, Stop}
-use Rattle.gaps.specs.Parsers.{failed, parsed, next}
+use Rattle.gaps.specs.Parsers.{failed, parsed, next, drop_while}
 use Rattle.gaps.specs.Gaps.{rest_of_comment, pieces, comment_and_then, begun, gap}
 use Rattle.gaps.proofs.Bytes.{skipped, opened, taken, stopped}
 use Rattle.gaps.proofs.Gaps.{pieces_white, pieces_sign, pieces_stop, pieces_none}
@@ -47,19 +48,19 @@ comment_ended bytes k e =
     let (inside, end, text) = position-Some ends_comment bytes k 0 e in
     (rw (add-one k) (ends_at bytes k inside end text), inside)
 
-pub comment_endless : (bytes : List ℕ) → position ends_comment bytes ≡ None → rest_of_comment bytes ≡ failed
-comment_endless bytes e = ends_never bytes text
+-- no byte passes a test that has no first one
+never : (p : ℕ → Bool) (bytes : List ℕ) → position p bytes ≡ None → (j : ℕ) → j < length bytes → p (at bytes j) ≡ false
+never p bytes e j h =
+    let end = past _ refl e in
+    not-true _ (prefix_len_passes (λ b. not (p b)) bytes j 0 (omega (arith, end)))
   where
-    past : (t : Bool) → ltb (position_or_len ends_comment bytes) (length bytes) ≡ t
-        → cond t (Some (position_or_len ends_comment bytes)) None ≡ None
-        → length bytes ≤ position_or_len ends_comment bytes
+    past : (t : Bool) → ltb (position_or_len p bytes) (length bytes) ≡ t
+        → cond t (Some (position_or_len p bytes)) None ≡ None → length bytes ≤ position_or_len p bytes
     past true d h = cc
     past false d h = ltb-false _ _ d
 
-    text : (j : ℕ) → j < length bytes → ends_comment (at bytes j) ≡ false
-    text j h =
-        let end = past _ refl e in
-        not-true _ (prefix_len_passes (λ b. not (ends_comment b)) bytes j 0 (omega arith))
+pub comment_endless : (bytes : List ℕ) → position ends_comment bytes ≡ None → rest_of_comment bytes ≡ failed
+comment_endless bytes e = ends_never bytes (never ends_comment bytes e)
 
 -- all that stands from a place on
 pub rest_from : (bytes : List ℕ) (k : ℕ) → take (length bytes - k) (drop k bytes) ≡ drop k bytes
@@ -67,6 +68,34 @@ rest_from bytes k = take_all _ (drop k bytes) (le_of_eq (length-drop k bytes))
 
 -- what finds what follows a comment
 pub ruleset ends = (comment_ended, comment_endless, rest_from)
+
+-- ## Whitespace
+
+white_run : (bytes : List ℕ) (k : ℕ) → k < length bytes → is_white (at bytes k) ≡ false
+    → ((j : ℕ) → j < k → is_white (at bytes j) ≡ true) → drop_while is_white bytes ≡ drop k bytes
+white_run [] k h other white = absurd (omega arith)
+white_run (b ∷ bytes) zero h other white = rw other
+white_run (b ∷ bytes) (suc k) h other white =
+    rw (white 0 (omega arith)) (white_run bytes k (omega arith) other (λ j l. white (suc j) (omega arith)))
+
+white_all : (bytes : List ℕ) → ((j : ℕ) → j < length bytes → is_white (at bytes j) ≡ true)
+    → drop_while is_white bytes ≡ drop (length bytes) bytes
+white_all [] white = refl
+white_all (b ∷ bytes) white = rw (white 0 (omega arith)) (white_all bytes (λ j l. white (suc j) (omega arith)))
+
+-- by the first byte that is another
+pub white_ended : (bytes : List ℕ) (k : ℕ) → position not_white bytes ≡ Some k
+    → (drop_while is_white bytes ≡ drop k bytes) × (k < length bytes)
+white_ended bytes k e =
+    let (inside, other, white) = position-Some not_white bytes k 0 e in
+    (white_run bytes k inside (not-true _ other) (λ j l. not-false _ (white j l)), inside)
+
+pub white_whole : (bytes : List ℕ) → position not_white bytes ≡ None
+    → drop_while is_white bytes ≡ drop (length bytes) bytes
+white_whole bytes e = white_all bytes (λ j l. not-false _ (never not_white bytes e j l))
+
+-- what finds what follows whitespace
+pub ruleset whites = (white_ended, white_whole, rest_from)
 
 -- ## A comment and the pieces after it
 
@@ -91,6 +120,27 @@ rest_shorter (b ∷ bytes) rest e = go (ends_comment b) e (rest_shorter bytes re
         → (rest_of_comment bytes ≡ parsed tt rest → length rest < length bytes) → length rest < suc (length bytes)
     go true h less = let same : bytes ≡ rest = cc in rw same (omega arith)
     go false h less = omega (arith, less h)
+
+-- ## Whitespace and the pieces after it
+
+pub white_pieces : (bytes : List ℕ) → pieces (drop_while is_white bytes) ≡ pieces bytes
+white_pieces [] = refl
+white_pieces (b ∷ bytes) = go (is_white b) refl (white_pieces bytes)
+  where
+    go : (t : Bool) → is_white b ≡ t → pieces (drop_while is_white bytes) ≡ pieces bytes
+        → pieces (drop_while is_white (b ∷ bytes)) ≡ pieces (b ∷ bytes)
+    go true e h = rw e (h ∙ sym (pieces_white b bytes e))
+    go false e h = rw e refl
+
+-- it leaves no more than all
+pub white_shorter : (bytes : List ℕ) → length (drop_while is_white bytes) ≤ length bytes
+white_shorter [] = omega arith
+white_shorter (b ∷ bytes) = go (is_white b) (white_shorter bytes)
+  where
+    go : (t : Bool) → length (drop_while is_white bytes) ≤ length bytes
+        → length (cond t (drop_while is_white bytes) (b ∷ bytes)) ≤ suc (length bytes)
+    go true h = omega (arith, h)
+    go false h = omega arith
 
 -- ## By the reader's moves
 
@@ -125,7 +175,17 @@ pieces_end [] e = pieces_none
 pieces_end (b ∷ bytes) e = absurd (omega arith)
 
 -- what finds what the pieces leave
-pub ruleset steps = (pieces_skip, pieces_unended, pieces_comment, pieces_absent, pieces_digit, pieces_end, rest_shorter)
+pub ruleset steps = (
+  white_pieces,
+  white_shorter,
+  pieces_skip,
+  pieces_unended,
+  pieces_comment,
+  pieces_absent,
+  pieces_digit,
+  pieces_end,
+  rest_shorter,
+)
 
 -- ## A gap
 

@@ -1,6 +1,7 @@
 -- The bytes of a header: digits, whitespace, the number sign and the rest. Definitions only.
 --
 --   is_white       a byte is TAB, LF, VT, FF, CR or space
+--   not_white      a byte is another
 --   is_sign        a byte is the number sign, which opens a comment
 --   not_sign       a byte is another
 --   ends_comment   a byte is LF or CR, which ends one
@@ -12,6 +13,9 @@ use Rattle.gaps.specs.declared.Move.TheVariants.{Take, Skip, Comment, Stop}
 
 unfoldable pub is_white : ℕ → Bool
 is_white b = (leb 9 b && leb b 13) || eqb b 32
+
+abbrev pub not_white : ℕ → Bool
+not_white b = not (is_white b)
 
 unfoldable pub is_sign : ℕ → Bool
 is_sign b = eqb b 35

@@ -29,14 +29,16 @@ pub fn heading_length(w: usize, h: usize) -> usize
     9 + digits_of(w) + digits_of(h)
 }
 
-// Writes `bytes` into `output` from `at` on, and answers the place after them.
+// Writes `bytes` into `output` from `at` on, and answers the place after them. By a loop: std's `copy_from_slice` calls
+// `memmove`, which a caller in C would have to bring.
 pub fn put_bytes(output: &mut [u8], at: usize, bytes: &[u8]) -> usize
     requires { at + length bytes.now ≤ length output.old }
     ensures { Put output.old at bytes.now result output.new }
 {
-    let end = at + bytes.len();
-    output[at..end].copy_from_slice(bytes);
-    end
+    for (i, byte) in bytes.iter().enumerate() {
+        output[at + i] = *byte;
+    }
+    at + bytes.len()
 }
 
 // Writes the digits of x into `output` from `at` on, and answers the place after them. They are put by hand, as no
