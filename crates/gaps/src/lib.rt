@@ -90,7 +90,7 @@ fn skip_white(bytes: &[u8]) -> &[u8]
 }
 
 // What follows any whitespace and comments that begin the bytes, unless a comment has no end. Whitespace is passed in
-// one search: a turn for each of its bytes would take a third longer.
+// one search: a turn for each of its bytes would take twice as long.
 #[tactic(auto, using(crate::proofs::Comments::steps))]
 pub fn skip_gap(bytes: &[u8]) -> Option<&[u8]>
     ensures { left result ≡ pieces bytes.now }
