@@ -1,12 +1,12 @@
 -- Comments, by the place of the byte that ends them, and what the pieces after them leave. Assumes nothing.
 use Prim.Native.Nat.{ℕ, zero, suc, ◌+◌, ◌-◌, ◌≤◌, ◌<◌}
-use mathlib.Core.Path.{◌≡◌, refl, sym, ◌∙◌}
+use mathlib.Core.Path.{◌≡◌, refl, sym, ap, ◌∙◌}
 use mathlib.Core.Bool.{Bool, true, false, not, cond}
 use mathlib.Core.Logic.{◌⊎◌, inl, inr}
 use mathlib.Core.List.{List, [], ◌∷◌}
 use native.Mathlib.Omega.{arith}
 use lib.Dec.{ltb}
-use lib.ListN.{length, take, drop, length-drop}
+use lib.ListN.{length, take, drop, length-drop, length-append}
 use Rattle.std.specs.Prelude.{Some, None, position, slice_get}
 use Rattle.std.specs.List.{position_or_len}
 use Rattle.std.proofs.lemmas.List.Quantifiers.{position-Some}
@@ -19,9 +19,10 @@ use Rattle.planes.specs.Lists.{at}
 use native.Mathlib.Numerals.{add-one}
 use Rattle.gaps.specs.Bytes.{is_white, not_white, ends_comment, move_for}
 use Rattle.gaps.specs.declared.Move.TheVariants.{Take, Skip, Comment, Stop}
-use Rattle.gaps.specs.Parsers.{failed, parsed, next, drop_while}
+use Rattle.gaps.specs.Parsers.{failed, parsed, next, take_while, drop_while}
 use Rattle.gaps.specs.Gaps.{rest_of_comment, pieces, comment_and_then, begun, gap}
 use Rattle.gaps.proofs.Bytes.{skipped, opened, taken, stopped}
+use Rattle.gaps.proofs.Parsers.{while_split}
 use Rattle.gaps.proofs.Gaps.{pieces_white, pieces_sign, pieces_stop, pieces_none}
 use Rattle.gaps.proofs.Gaps.{comment_end, comment_text, comment_unended}
 
@@ -71,28 +72,29 @@ pub ruleset ends = (comment_ended, comment_endless, rest_from)
 
 -- ## Whitespace
 
-white_run : (bytes : List ℕ) (k : ℕ) → k < length bytes → is_white (at bytes k) ≡ false
+-- up to a place before which all is whitespace, and where another byte stands or none
+white_run : (bytes : List ℕ) (k : ℕ) → k ≤ length bytes → (k < length bytes → is_white (at bytes k) ≡ false)
     → ((j : ℕ) → j < k → is_white (at bytes j) ≡ true) → drop_while is_white bytes ≡ drop k bytes
-white_run [] k h other white = absurd (omega arith)
-white_run (b ∷ bytes) zero h other white = rw other
+white_run [] zero h other white = refl
+white_run [] (suc k) h other white = absurd (omega arith)
+white_run (b ∷ bytes) zero h other white = rw (other (omega arith))
 white_run (b ∷ bytes) (suc k) h other white =
-    rw (white 0 (omega arith)) (white_run bytes k (omega arith) other (λ j l. white (suc j) (omega arith)))
-
-white_all : (bytes : List ℕ) → ((j : ℕ) → j < length bytes → is_white (at bytes j) ≡ true)
-    → drop_while is_white bytes ≡ drop (length bytes) bytes
-white_all [] white = refl
-white_all (b ∷ bytes) white = rw (white 0 (omega arith)) (white_all bytes (λ j l. white (suc j) (omega arith)))
+    let after = white_run bytes k (omega arith) (λ l. other (omega arith)) (λ j l. white (suc j) (omega arith)) in
+    rw (white 0 (omega arith)) after
 
 -- by the first byte that is another
 pub white_ended : (bytes : List ℕ) (k : ℕ) → position not_white bytes ≡ Some k
     → (drop_while is_white bytes ≡ drop k bytes) × (k < length bytes)
 white_ended bytes k e =
     let (inside, other, white) = position-Some not_white bytes k 0 e in
-    (white_run bytes k inside (not-true _ other) (λ j l. not-false _ (white j l)), inside)
+    (white_run bytes k (omega arith) (λ l. not-true _ other) (λ j l. not-false _ (white j l)), inside)
 
 pub white_whole : (bytes : List ℕ) → position not_white bytes ≡ None
     → drop_while is_white bytes ≡ drop (length bytes) bytes
-white_whole bytes e = white_all bytes (λ j l. not-false _ (never not_white bytes e j l))
+white_whole bytes e =
+    let white : (j : ℕ) → j < length bytes → is_white (at bytes j) ≡ true =
+    λ j l. not-false _ (never not_white bytes e j l) in
+    white_run bytes (length bytes) (omega arith) (λ l. absurd (omega arith)) white
 
 -- what finds what follows whitespace
 pub ruleset whites = (white_ended, white_whole, rest_from)
@@ -134,13 +136,10 @@ white_pieces (b ∷ bytes) = go (is_white b) refl (white_pieces bytes)
 
 -- it leaves no more than all
 pub white_shorter : (bytes : List ℕ) → length (drop_while is_white bytes) ≤ length bytes
-white_shorter [] = omega arith
-white_shorter (b ∷ bytes) = go (is_white b) (white_shorter bytes)
-  where
-    go : (t : Bool) → length (drop_while is_white bytes) ≤ length bytes
-        → length (cond t (drop_while is_white bytes) (b ∷ bytes)) ≤ suc (length bytes)
-    go true h = omega (arith, h)
-    go false h = omega arith
+white_shorter bytes =
+    let parts = length-append (take_while is_white bytes) (drop_while is_white bytes) in
+    let whole = ap length (while_split is_white bytes) in
+    omega (arith, parts, whole)
 
 -- ## By the reader's moves
 

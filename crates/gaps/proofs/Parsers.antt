@@ -68,7 +68,7 @@ some_present [] rest h = absurd (omega arith)
 some_present (b ∷ taken) rest h = refl
 
 -- a list is the longest beginning that passes the test, and what follows it
-while_split : (f : ℕ → Bool) (xs : List ℕ) → take_while f xs ++ drop_while f xs ≡ xs
+pub while_split : (f : ℕ → Bool) (xs : List ℕ) → take_while f xs ++ drop_while f xs ≡ xs
 while_split f [] = refl
 while_split f (x ∷ xs) = go (f x) (while_split f xs)
   where
